@@ -1,0 +1,51 @@
+-- The number, the place and the count of each answer. 01, "What a call says": the table of numbers; "the new score (same numbers plus 16)"; "Place is the record's index, else 0";
+-- "A refusal returns number, place, count 0". Every statement of the crates above speaks of an `Answer`, and this is the one place that says what its cases stand for.
+-- A number that a later request brings joins as a case of `Refusal`, with its line in each table here. Definitions only.
+use Prim.Native.Nat.{ℕ, _+_}
+use Rattle.answers.specs.declared.Answer.{Answer}
+use Rattle.answers.specs.declared.Answer.the-variants.{Done, Refused}
+use Rattle.answers.specs.declared.Refusal.{Refusal}
+use Rattle.answers.specs.declared.Refusal.the-variants.{Score, NewScore, Setting, Size, StartEntry, Argument, GivenState}
+use Rattle.answers.specs.declared.ScoreFault.{ScoreFault}
+use Rattle.answers.specs.declared.ScoreFault.the-variants.{Length, Mark, Kind, Field, Order}
+use Rattle.answers.specs.declared.Numbers.{Numbers}
+
+-- a score's own numbers: no multiple of 10 or too long; wrong mark; wrong kind; a field out of range; a position that falls
+abbrev pub faultNumber : ScoreFault → ℕ
+faultNumber Length = 1
+faultNumber (Mark i) = 2
+faultNumber (Kind i) = 3
+faultNumber (Field i) = 4
+faultNumber (Order i) = 5
+
+-- the index of the record at fault, else 0
+abbrev pub faultPlace : ScoreFault → ℕ
+faultPlace Length = 0
+faultPlace (Mark i) = i
+faultPlace (Kind i) = i
+faultPlace (Field i) = i
+faultPlace (Order i) = i
+
+-- the old or only score's numbers stand as they are, the new score's 16 higher
+abbrev pub refusalNumber : Refusal → ℕ
+refusalNumber (Score fault) = faultNumber fault
+refusalNumber (NewScore fault) = faultNumber fault + 16
+refusalNumber Setting = 6
+refusalNumber Size = 7
+refusalNumber StartEntry = 8
+refusalNumber Argument = 9
+refusalNumber GivenState = 10
+
+abbrev pub refusalPlace : Refusal → ℕ
+refusalPlace (Score fault) = faultPlace fault
+refusalPlace (NewScore fault) = faultPlace fault
+refusalPlace Setting = 0
+refusalPlace Size = 0
+refusalPlace StartEntry = 0
+refusalPlace Argument = 0
+refusalPlace GivenState = 0
+
+-- done is 0, and its count the samples written; a refusal's count is 0
+abbrev pub numbersOf : Answer → Numbers
+numbersOf (Done n) = record { number = 0; place = 0; count = n }
+numbersOf (Refused r) = record { number = refusalNumber r; place = refusalPlace r; count = 0 }

@@ -1,0 +1,106 @@
+// What a call says: the lines of document 01's table as enums, and the three numbers that stand for each.
+ghost use mathlib.Core.Path.{_≡_};
+ghost use Prim.Native.Nat.{_≤_};
+ghost use Rattle.answers.specs.Numbers.{numbersOf, refusalNumber, refusalPlace, faultNumber, faultPlace};
+
+// What is wrong with a score; a fault of a record carries the record's index.
+pub enum ScoreFault {
+    Length,
+    Mark(usize),
+    Kind(usize),
+    Field(usize),
+    Order(usize),
+}
+
+// Why a call was refused.
+pub enum Refusal {
+    Score(ScoreFault),
+    NewScore(ScoreFault),
+    Setting,
+    Size,
+    StartEntry,
+    Argument,
+    GivenState,
+}
+
+// Done, with the number of samples written, or refused.
+pub enum Answer {
+    Done(usize),
+    Refused(Refusal),
+}
+
+// An answer for a host that has no enums.
+pub struct Numbers {
+    pub number: u8,
+    pub place: usize,
+    pub count: usize,
+}
+
+pub fn in_numbers(answer: Answer) -> Numbers
+    ensures { λ r. ⌜ r ≡ numbersOf answer ⌝ }
+{
+    match answer {
+        Answer::Done(count) => Numbers {
+            number: 0,
+            place: 0,
+            count,
+        },
+        Answer::Refused(refusal) => Numbers {
+            number: refusal_number(refusal),
+            place: refusal_place(refusal),
+            count: 0,
+        },
+    }
+}
+
+fn refusal_number(refusal: Refusal) -> u8
+    ensures { λ r. ⌜ r ≡ refusalNumber refusal ⌝ }
+{
+    match refusal {
+        Refusal::Score(fault) => fault_number(fault),
+        Refusal::NewScore(fault) => fault_number(fault) + 16,
+        Refusal::Setting => 6,
+        Refusal::Size => 7,
+        Refusal::StartEntry => 8,
+        Refusal::Argument => 9,
+        Refusal::GivenState => 10,
+    }
+}
+
+fn refusal_place(refusal: Refusal) -> usize
+    ensures { λ r. ⌜ r ≡ refusalPlace refusal ⌝ }
+{
+    match refusal {
+        Refusal::Score(fault) => fault_place(fault),
+        Refusal::NewScore(fault) => fault_place(fault),
+        Refusal::Setting => 0,
+        Refusal::Size => 0,
+        Refusal::StartEntry => 0,
+        Refusal::Argument => 0,
+        Refusal::GivenState => 0,
+    }
+}
+
+fn fault_number(fault: ScoreFault) -> u8
+    ensures { λ r. ⌜ (r ≡ faultNumber fault) × (r ≤ 5) ⌝ }
+{
+    match fault {
+        ScoreFault::Length => 1,
+        ScoreFault::Mark(_) => 2,
+        ScoreFault::Kind(_) => 3,
+        ScoreFault::Field(_) => 4,
+        ScoreFault::Order(_) => 5,
+    }
+}
+
+fn fault_place(fault: ScoreFault) -> usize
+    ensures { λ r. ⌜ r ≡ faultPlace fault ⌝ }
+{
+    match fault {
+        ScoreFault::Length => 0,
+        ScoreFault::Mark(record) => record,
+        ScoreFault::Kind(record) => record,
+        ScoreFault::Field(record) => record,
+        ScoreFault::Order(record) => record,
+    }
+}

@@ -1,0 +1,79 @@
+// floor of an f32 and of an f64, worked out from the bits: the two widths share their argument, which is over the
+// format (proofs/). The laws of float arithmetic that the crates above lean on are this crate's files of proofs/.
+ghost use mathlib.Core.Path.{_≡_};
+ghost use mathlib.Core.Bool.{Bool};
+ghost use Prim.Native.Nat.{_<_, _≤_, _^_};
+ghost use lib.Ieee.{binary32, binary64};
+ghost use Rattle.floats.specs.Floor.{floorOf, wholeOf};
+
+// The greatest whole number that is not above x, with x's sign: floor(-0) is -0. What is not finite comes back as it is.
+pub fn floor_f32(x: f32) -> f32
+    ensures { λ r. ⌜ r ≡ floorOf binary32 x ⌝ }
+{
+    if x != x {
+        return x;
+    }
+    let bits = f32::to_bits(x);
+    let size = bits % 0x8000_0000;
+    // 2^23 or more has no fraction
+    if size >= 0x4b00_0000 {
+        return x;
+    }
+    if size == 0 {
+        return x;
+    }
+    let negative = bits >= 0x8000_0000;
+    // below 1
+    if size < 0x3f80_0000 {
+        if negative {
+            return -1.0;
+        }
+        return 0.0;
+    }
+    let field = size / 0x80_0000;
+    let digits = 0x80_0000 + size % 0x80_0000;
+    let n = whole(digits as u64, 150 - field, negative);
+    if negative { -(n as f32) } else { n as f32 }
+}
+
+// The same at 64 bits.
+pub fn floor_f64(x: f64) -> f64
+    ensures { λ r. ⌜ r ≡ floorOf binary64 x ⌝ }
+{
+    if x != x {
+        return x;
+    }
+    let bits = f64::to_bits(x);
+    let size = bits % 0x8000_0000_0000_0000;
+    // 2^52 or more has no fraction
+    if size >= 0x4330_0000_0000_0000 {
+        return x;
+    }
+    if size == 0 {
+        return x;
+    }
+    let negative = bits >= 0x8000_0000_0000_0000;
+    // below 1
+    if size < 0x3ff0_0000_0000_0000 {
+        if negative {
+            return -1.0;
+        }
+        return 0.0;
+    }
+    let field = size / 0x10_0000_0000_0000;
+    let digits = 0x10_0000_0000_0000 + size % 0x10_0000_0000_0000;
+    let n = whole(digits, (1075 - field) as u32, negative);
+    if negative { -(n as f64) } else { n as f64 }
+}
+
+// s / 2^k as a whole number: rounded up where the number is negative, else down.
+fn whole(s: u64, k: u32, negative: bool) -> u64
+    requires { ⌜ (s < 2 ^ 53) × (k < 53) ⌝ }
+    ensures { λ r. ⌜ (r ≡ wholeOf negative s (2 ^ k)) × (r ≤ s) ⌝ }
+{
+    if negative {
+        (s + ((1u64 << k) - 1)) >> k
+    } else {
+        s >> k
+    }
+}

@@ -1,0 +1,37 @@
+-- What 01 asks to be proved of the accumulator by example, on the definitions that the contracts cite. Assumes nothing.
+use mathlib.Core.Path.{_≡_, refl}
+use lib.Ieee.{Float, binary32, add, sub, div, neg, lt, le, eq, ofBits, round}
+use lib.Ieee.Scale.{finite}
+use Rattle.floats.specs.Floor.{floorOf}
+use Rattle.floats.specs.Range.{lit0, lit1}
+use Rattle.phase.specs.Phase.{cyclesOf, shownIf, newOf, setIncrementOf, nextOf, phaseOf, setPhaseOf}
+use Rattle.phase.specs.declared.PhaseAccumulator.{PhaseAccumulator}
+use mathlib.Core.Bool.{true}
+
+-- -0.25, 0.75 and -2 ^ -30
+abbrev pub minusQuarter : Float
+minusQuarter = ofBits binary32 0xbe80_0000
+
+abbrev pub threeQuarters : Float
+threeQuarters = ofBits binary32 0x3f40_0000
+
+abbrev pub minusTiny : Float
+minusTiny = ofBits binary32 0xb080_0000
+
+abbrev pub setTo : Float → PhaseAccumulator
+setTo x = setPhaseOf newOf (cyclesOf x) .accumulator
+
+-- (h) accumulator set to -0.25 shows 0.75, to -2^-30 shows 1
+pub mark-h : (phaseOf (setTo minusQuarter) ≡ shownIf true threeQuarters) × (phaseOf (setTo minusTiny) ≡ shownIf true (lit1 binary32))
+unfolding ofBits le lt eq add sub neg floorOf round
+mark-h = (refl, refl)
+
+-- both ends of 0 to 1 are reached, and by a step too: from 0 with the increment -2^-30 the phase is 1 after it
+pub record EndsReached : Type 0 where
+  pub low : phaseOf newOf ≡ shownIf true (lit0 binary32)
+  pub high : phaseOf (setTo minusTiny) ≡ shownIf true (lit1 binary32)
+  pub high-by-step : phaseOf (nextOf (setIncrementOf newOf (cyclesOf minusTiny) .accumulator) .accumulator) ≡ shownIf true (lit1 binary32)
+
+pub ends-reached : EndsReached
+unfolding ofBits le lt eq add sub neg floorOf round
+ends-reached = record { low = refl; high = refl; high-by-step = refl }

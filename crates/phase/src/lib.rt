@@ -1,0 +1,198 @@
+// phase.rs of the original: a phase counter in cycles, advanced once a sample, in f32. State goes in by value and is
+// handed back; what the original asserts or leaves open is refused (document 01, number 9).
+ghost use mathlib.Core.Path.{_≡_};
+ghost use lib.Ieee.Scale.{finite};
+ghost use Rattle.phase.specs.Phase.{isState, wrapOf, withPhase, withIncrement, changedIf, shownIf, steppedIf};
+ghost use Rattle.phase.specs.Phase.{newOf, setFrequencyOf, setIncrementOf, incrementOf, nextOf, phaseOf, setPhaseOf, resetOf};
+use answers::Answer;
+use answers::Refusal;
+
+// The largest finite f32.
+const LARGEST: f32 = 340282346638528859811704183484516925440.0;
+
+// A number of cycles; radians are another type.
+pub struct Cycles(pub f32);
+
+// The phase in cycles, and how many cycles it moves in one sample.
+pub struct PhaseAccumulator {
+    pub phase: Cycles,
+    pub increment: Cycles,
+}
+
+// What a call that changes the state answers.
+pub struct Changed {
+    pub answer: Answer,
+    pub accumulator: PhaseAccumulator,
+}
+
+// What a call that reads a number of cycles answers.
+pub struct Shown {
+    pub answer: Answer,
+    pub cycles: Cycles,
+}
+
+// What a step answers: the phase before it, and the state after.
+pub struct Stepped {
+    pub answer: Answer,
+    pub cycles: Cycles,
+    pub accumulator: PhaseAccumulator,
+}
+
+impl PhaseAccumulator {
+    // At phase zero, with no motion.
+    pub fn new() -> PhaseAccumulator
+        ensures { λ r. ⌜ r ≡ newOf ⌝ }
+    {
+        PhaseAccumulator {
+            phase: Cycles(0.0),
+            increment: Cycles(0.0),
+        }
+    }
+
+    // The increment from a frequency and a rate in Hz. A negative frequency runs the phase backwards.
+    pub fn set_frequency(self, frequency: f32, sample_rate: f32) -> Changed
+        ensures { λ r. ⌜ r ≡ setFrequencyOf self frequency «sample_rate» ⌝ }
+    {
+        let increment = frequency / sample_rate;
+        let ok = is_state(self)
+            & is_finite(frequency)
+            & is_finite(sample_rate)
+            & (0.0 < sample_rate)
+            & is_finite(increment);
+        changed_if(ok, self, with_increment(self, increment))
+    }
+
+    // The increment itself, in cycles a sample.
+    pub fn set_increment(self, increment: Cycles) -> Changed
+        ensures { λ r. ⌜ r ≡ setIncrementOf self increment ⌝ }
+    {
+        let ok = is_state(self) & is_finite(increment.0);
+        changed_if(ok, self, with_increment(self, increment.0))
+    }
+
+    pub fn increment(self) -> Shown
+        ensures { λ r. ⌜ r ≡ incrementOf self ⌝ }
+    {
+        shown_if(is_state(self), self.increment.0)
+    }
+
+    // The phase before the step, and the state after it.
+    pub fn next(self) -> Stepped
+        ensures { λ r. ⌜ r ≡ nextOf self ⌝ }
+    {
+        let after = with_phase(self, wrap(self.phase.0 + self.increment.0));
+        stepped_if(is_state(self), self.phase.0, self, after)
+    }
+
+    pub fn phase(self) -> Shown
+        ensures { λ r. ⌜ r ≡ phaseOf self ⌝ }
+    {
+        shown_if(is_state(self), self.phase.0)
+    }
+
+    // Any finite number of cycles is wrapped.
+    pub fn set_phase(self, phase: Cycles) -> Changed
+        ensures { λ r. ⌜ r ≡ setPhaseOf self phase ⌝ }
+    {
+        let ok = is_state(self) & is_finite(phase.0);
+        changed_if(ok, self, with_phase(self, wrap(phase.0)))
+    }
+
+    // Back to phase zero; the increment stays.
+    pub fn reset(self) -> Changed
+        ensures { λ r. ⌜ r ≡ resetOf self ⌝ }
+    {
+        changed_if(is_state(self), self, with_phase(self, 0.0))
+    }
+}
+
+// A state that is accepted: the phase from 0 to 1, the increment finite.
+fn is_state(a: PhaseAccumulator) -> bool
+    ensures { λ r. ⌜ r ≡ isState a ⌝ }
+{
+    let phase = a.phase.0;
+    (0.0 <= phase) & (phase <= 1.0) & is_finite(a.increment.0)
+}
+
+fn is_finite(x: f32) -> bool
+    ensures { λ r. ⌜ r ≡ finite x ⌝ }
+{
+    (-LARGEST <= x) & (x <= LARGEST)
+}
+
+// x less its floor: from 0 to 1, both ends reached.
+fn wrap(x: f32) -> f32
+    ensures { λ r. ⌜ r ≡ wrapOf x ⌝ }
+{
+    x - floats::floor_f32(x)
+}
+
+fn with_phase(a: PhaseAccumulator, phase: f32) -> PhaseAccumulator
+    ensures { λ r. ⌜ r ≡ withPhase a phase ⌝ }
+{
+    let increment = a.increment;
+    PhaseAccumulator {
+        phase: Cycles(phase),
+        increment,
+    }
+}
+
+fn with_increment(a: PhaseAccumulator, increment: f32) -> PhaseAccumulator
+    ensures { λ r. ⌜ r ≡ withIncrement a increment ⌝ }
+{
+    let phase = a.phase;
+    PhaseAccumulator {
+        phase,
+        increment: Cycles(increment),
+    }
+}
+
+// The state after, or a refusal with the state as it came.
+fn changed_if(ok: bool, before: PhaseAccumulator, after: PhaseAccumulator) -> Changed
+    ensures { λ r. ⌜ r ≡ changedIf ok before after ⌝ }
+{
+    if ok {
+        return Changed {
+            answer: Answer::Done(0),
+            accumulator: after,
+        };
+    }
+    Changed {
+        answer: Answer::Refused(Refusal::Argument),
+        accumulator: before,
+    }
+}
+
+// The number, or a refusal with +0.
+fn shown_if(ok: bool, cycles: f32) -> Shown
+    ensures { λ r. ⌜ r ≡ shownIf ok cycles ⌝ }
+{
+    if ok {
+        return Shown {
+            answer: Answer::Done(0),
+            cycles: Cycles(cycles),
+        };
+    }
+    Shown {
+        answer: Answer::Refused(Refusal::Argument),
+        cycles: Cycles(0.0),
+    }
+}
+
+// The number and the state after, or a refusal with +0 and the state as it came.
+fn stepped_if(ok: bool, cycles: f32, before: PhaseAccumulator, after: PhaseAccumulator) -> Stepped
+    ensures { λ r. ⌜ r ≡ steppedIf ok cycles before after ⌝ }
+{
+    if ok {
+        return Stepped {
+            answer: Answer::Done(0),
+            cycles: Cycles(cycles),
+            accumulator: after,
+        };
+    }
+    Stepped {
+        answer: Answer::Refused(Refusal::Argument),
+        cycles: Cycles(0.0),
+        accumulator: before,
+    }
+}
