@@ -180,19 +180,19 @@ fn shown_if(ok: bool, cycles: f32) -> Shown
 }
 
 // The number and the state after, or a refusal with +0 and the state as it came.
-fn stepped_if(ok: bool, cycles: f32, before: PhaseAccumulator, after: PhaseAccumulator) -> Stepped
-    ensures { λ r. ⌜ r ≡ steppedIf ok cycles before after ⌝ }
+fn stepped_if(ok: bool, cycles: f32, came: PhaseAccumulator, moved: PhaseAccumulator) -> Stepped
+    ensures { λ r. ⌜ r ≡ steppedIf ok cycles came moved ⌝ }
 {
     if ok {
         return Stepped {
             answer: Answer::Done(0),
             cycles: Cycles(cycles),
-            accumulator: after,
+            accumulator: moved,
         };
     }
     Stepped {
         answer: Answer::Refused(Refusal::Argument),
         cycles: Cycles(0.0),
-        accumulator: before,
+        accumulator: came,
     }
 }
