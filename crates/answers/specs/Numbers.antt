@@ -1,5 +1,5 @@
 -- The number, the place and the count of each answer. 01, "What a call says": the table of numbers; "the new score (same numbers plus 16)"; "Place is the record's index, else 0";
--- "A refusal returns number, place, count 0". Every statement of the crates above speaks of an `Answer`, and this is the one place that says what its cases stand for.
+-- "A refusal returns number, place, count 0". Every statement that can refuse speaks of an `Answer`, and this is the one place that says what its cases stand for.
 -- A number that a later request brings joins as a case of `Refusal`, with its line in each table here. Definitions only.
 use Prim.Native.Nat.{ℕ, _+_}
 use Rattle.answers.specs.declared.Answer.{Answer}
@@ -10,7 +10,7 @@ use Rattle.answers.specs.declared.ScoreFault.{ScoreFault}
 use Rattle.answers.specs.declared.ScoreFault.the-variants.{Length, Mark, Kind, Field, Order}
 use Rattle.answers.specs.declared.Numbers.{Numbers}
 
--- a score's own numbers: no multiple of 10 or too long; wrong mark; wrong kind; a field out of range; a position that falls
+-- a score's own numbers: no multiple of 10 or too long; wrong mark; wrong kind; a field out of range or a last byte that is not 0; a position that falls
 abbrev pub faultNumber : ScoreFault → ℕ
 faultNumber Length = 1
 faultNumber (Mark i) = 2

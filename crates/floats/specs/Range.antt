@@ -1,4 +1,4 @@
--- What contracts on ranges of floats cite: 0, 1 and the largest value of a format, signs, and intervals. Definitions only.
+-- Ranges of floats, for contracts and laws: 0, 1 and the largest value of a format, signs, and intervals. Definitions only.
 use Prim.Native.Nat.{suc, _-_, _^_}
 use mathlib.Core.Bool.{Bool, true, false, not, _&&_}
 use lib.IntN.{pos}
@@ -17,7 +17,7 @@ unity = fin false 1 (pos 0)
 abbrev pub largest : Format → Float
 largest f = fin false (2 ^ prec f - 1) (pos (suc (emax f) - prec f))
 
--- 0 ≤ x, an infinity included, -0 included: the same as `le nought x` (`ge0→le` and `le→ge0` of proofs/Order.antt)
+-- 0 ≤ x, +infinity included, -0 included: the same as `le nought x` (`ge0→le` and `le→ge0` of proofs/Order.antt)
 abbrev pub ge0 : Float → Bool
 ge0 nan = false
 ge0 (inf s) = not s

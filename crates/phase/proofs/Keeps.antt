@@ -1,24 +1,27 @@
--- The phase stays from 0 to 1: from an accepted state every call hands back an accepted one, and both ends are reached. 01: "The comment claims [0, 1); the true range is 0 to 1, both ends reached".
--- `Held` is what owning the two f32 tells. Assumes nothing.
-use mathlib.Core.Path.{_≡_, refl, sym, subst}
+-- The phase stays from 0 to 1: from an accepted state every call hands back an accepted one. 01: "The comment claims [0, 1); the true range is 0 to 1, both ends reached".
+-- An accumulator is `Good` where it is accepted and its fields are values of an f32, which is what owning them tells. Assumes nothing.
+use mathlib.Core.Path.{_≡_, refl}
+use mathlib.Core.List.{List, [], _∷_}
 use mathlib.Core.Bool.{Bool, true, false, _&&_}
 use lib.Dec.{T}
-use lib.Ieee.{Float, binary32, add, sub, div, neg, lt, le, fits, ofBits, round}
-use lib.Ieee.Fits.{and-i, and-l, and-r, add-fits, div-fits}
+use lib.Ieee.{Float, binary32, add, div, lt, le, fits, ofBits}
+use lib.Ieee.Fits.{and-i, and-l, and-r, add-fits, sub-fits, div-fits}
+use lib.Ieee.Bits.{ofBits-fits}
 use lib.Ieee.Scale.{finite}
 use Rattle.floats.specs.Range.{nought, unity, lit0, lit1, within}
 use Rattle.floats.specs.Floor.{floorOf}
 use Rattle.floats.proofs.Literals.{lit0-is, lit1-is}
 use Rattle.floats.proofs.Fraction.{fraction-in}
 use Rattle.floats.proofs.Largest.{add-finite-unit}
-use Rattle.phase.specs.Phase.{cyclesOf, isState, wrapOf, withPhase, withIncrement, changedIf, shownIf, steppedIf}
-use Rattle.phase.specs.Phase.{newOf, setFrequencyOf, setIncrementOf, incrementOf, nextOf, phaseOf, setPhaseOf, resetOf}
+use Rattle.phase.specs.Phase.{isState, wrapOf, withPhase, withIncrement, changedIf, steppedIf}
+use Rattle.phase.specs.Phase.{newOf, setFrequencyOf, setIncrementOf, nextOf, setPhaseOf, resetOf}
 use Rattle.phase.specs.declared.Cycles.{Cycles}
 use Rattle.phase.specs.declared.PhaseAccumulator.{PhaseAccumulator}
 
-pub record Held (a : PhaseAccumulator) : Type 0 where
+pub record Good (a : PhaseAccumulator) : Type 0 where
   pub phase-fits : T (fits binary32 (a .phase .0))
   pub increment-fits : T (fits binary32 (a .increment .0))
+  pub accepted : T (isState a)
 
 -- the range 0 to 1, by the code's literals and by the numbers
 unit-is : (x : Float) → within (lit0 binary32) (lit1 binary32) x ≡ within nought unity x
@@ -27,55 +30,101 @@ unit-is x = rw (lit0-is binary32, lit1-is binary32) refl
 pub wrap-in : (x : Float) → T (fits binary32 x) → T (finite x) → T (within (lit0 binary32) (lit1 binary32) (wrapOf x))
 wrap-in x w h = rw (unit-is (wrapOf x)) (fraction-in binary32 x w h)
 
--- ---- a refusal hands the accepted state back, and what is done is accepted
-change-keeps : (ok : Bool) (before after : PhaseAccumulator) → T (isState before) → (T ok → T (isState after)) → T (isState (changedIf ok before after .accumulator))
+-- ---- a refusal hands the state back, and what is done is good
+change-keeps : (ok : Bool) (before after : PhaseAccumulator) → Good before → (T ok → Good after) → Good (changedIf ok before after .accumulator)
 change-keeps true before after h k = k tt
 change-keeps false before after h k = h
 
-step-keeps : (ok : Bool) (x : Float) (before after : PhaseAccumulator) → T (isState before) → (T ok → T (isState after)) → T (isState (steppedIf ok x before after .accumulator))
+step-keeps : (ok : Bool) (x : Float) (before after : PhaseAccumulator) → Good before → (T ok → Good after) → Good (steppedIf ok x before after .accumulator)
 step-keeps true x before after h k = k tt
 step-keeps false x before after h k = h
 
-pub new-accepted : T (isState newOf)
-unfolding ofBits le
-new-accepted = tt
+pub new-good : Good newOf
+new-good = record { phase-fits = ofBits-fits binary32 0; increment-fits = ofBits-fits binary32 0; accepted = unfold ofBits in unfold le in tt }
 
-module _ (a : PhaseAccumulator) (w : Held a) (h : T (isState a)) where
+module _ (a : PhaseAccumulator) (g : Good a) where
   phase-in : T (within (lit0 binary32) (lit1 binary32) (a .phase .0))
-  phase-in = and-l (within (lit0 binary32) (lit1 binary32) (a .phase .0)) (finite (a .increment .0)) h
+  phase-in = and-l (within (lit0 binary32) (lit1 binary32) (a .phase .0)) (finite (a .increment .0)) (g .accepted)
 
   increment-finite : T (finite (a .increment .0))
-  increment-finite = and-r (within (lit0 binary32) (lit1 binary32) (a .phase .0)) (finite (a .increment .0)) h
+  increment-finite = and-r (within (lit0 binary32) (lit1 binary32) (a .phase .0)) (finite (a .increment .0)) (g .accepted)
 
-  -- the phase + increment of a step is finite: the largest f32 and 1 round to the largest
+  -- phase + increment is finite: 1 and the largest f32 round to the largest
   sum-finite : T (finite (add binary32 (a .phase .0) (a .increment .0)))
-  sum-finite = add-finite-unit binary32 (a .phase .0) (a .increment .0) (w .increment-fits) increment-finite (rw (unit-is (a .phase .0)) at phase-in)
+  sum-finite = add-finite-unit binary32 (a .phase .0) (a .increment .0) (g .increment-fits) increment-finite (rw (unit-is (a .phase .0)) at phase-in)
 
-  with-phase-accepted : (x : Float) → T (within (lit0 binary32) (lit1 binary32) x) → T (isState (withPhase a x))
-  with-phase-accepted x p = and-i (within (lit0 binary32) (lit1 binary32) x) (finite (a .increment .0)) p increment-finite
+  at-phase : (x : Float) → T (fits binary32 x) → T (within (lit0 binary32) (lit1 binary32) x) → Good (withPhase a x)
+  at-phase x w p = record { phase-fits = w; increment-fits = g .increment-fits; accepted = and-i (within (lit0 binary32) (lit1 binary32) x) (finite (a .increment .0)) p increment-finite }
 
-  with-increment-accepted : (x : Float) → T (finite x) → T (isState (withIncrement a x))
-  with-increment-accepted x p = and-i (within (lit0 binary32) (lit1 binary32) (a .phase .0)) (finite x) phase-in p
+  at-increment : (x : Float) → T (fits binary32 x) → T (finite x) → Good (withIncrement a x)
+  at-increment x w p = record { phase-fits = g .phase-fits; increment-fits = w; accepted = and-i (within (lit0 binary32) (lit1 binary32) (a .phase .0)) (finite x) phase-in p }
 
-  pub set-frequency-keeps : (f r : Float) → T (isState (setFrequencyOf a f r .accumulator))
+  at-wrap : (x : Float) → T (fits binary32 x) → T (finite x) → Good (withPhase a (wrapOf x))
+  at-wrap x w p = at-phase (wrapOf x) (sub-fits binary32 x (floorOf binary32 x)) (wrap-in x w p)
+
+  pub set-frequency-keeps : (f r : Float) → Good (setFrequencyOf a f r .accumulator)
   set-frequency-keeps f r =
-      change-keeps (isState a && finite f && finite r && lt (lit0 binary32) r && finite (div binary32 f r)) a (withIncrement a (div binary32 f r)) h
-      (λ (t : T (isState a && finite f && finite r && lt (lit0 binary32) r && finite (div binary32 f r))). with-increment-accepted (div binary32 f r) (and-r (isState a && finite f && finite r && lt (lit0 binary32) r) (finite (div binary32 f r)) t))
+      let q = div binary32 f r in
+      let before = isState a && finite f && finite r && lt (lit0 binary32) r in
+      change-keeps (before && finite q) a (withIncrement a q) g (λ (t : T (before && finite q)). at-increment q (div-fits binary32 f r) (and-r before (finite q) t))
 
-  pub set-increment-keeps : (x : Cycles) → T (isState (setIncrementOf a x .accumulator))
-  set-increment-keeps x =
-      change-keeps (isState a && finite (x .0)) a (withIncrement a (x .0)) h
-      (λ (t : T (isState a && finite (x .0))). with-increment-accepted (x .0) (and-r (isState a) (finite (x .0)) t))
+  pub set-increment-keeps : (x : Cycles) → T (fits binary32 (x .0)) → Good (setIncrementOf a x .accumulator)
+  set-increment-keeps x w = change-keeps (isState a && finite (x .0)) a (withIncrement a (x .0)) g (λ (t : T (isState a && finite (x .0))). at-increment (x .0) w (and-r (isState a) (finite (x .0)) t))
 
-  pub next-keeps : T (isState (nextOf a .accumulator))
+  pub next-keeps : Good (nextOf a .accumulator)
   next-keeps =
-      step-keeps (isState a) (a .phase .0) a (withPhase a (wrapOf (add binary32 (a .phase .0) (a .increment .0)))) h
-      (λ (t : T (isState a)). with-phase-accepted (wrapOf (add binary32 (a .phase .0) (a .increment .0))) (wrap-in (add binary32 (a .phase .0) (a .increment .0)) (add-fits binary32 (a .phase .0) (a .increment .0)) sum-finite))
+      let sum = add binary32 (a .phase .0) (a .increment .0) in
+      step-keeps (isState a) (a .phase .0) a (withPhase a (wrapOf sum)) g (λ (t : T (isState a)). at-wrap sum (add-fits binary32 (a .phase .0) (a .increment .0)) sum-finite)
 
-  pub set-phase-keeps : (x : Cycles) → T (fits binary32 (x .0)) → T (isState (setPhaseOf a x .accumulator))
-  set-phase-keeps x k =
-      change-keeps (isState a && finite (x .0)) a (withPhase a (wrapOf (x .0))) h
-      (λ (t : T (isState a && finite (x .0))). with-phase-accepted (wrapOf (x .0)) (wrap-in (x .0) k (and-r (isState a) (finite (x .0)) t)))
+  pub set-phase-keeps : (x : Cycles) → T (fits binary32 (x .0)) → Good (setPhaseOf a x .accumulator)
+  set-phase-keeps x w = change-keeps (isState a && finite (x .0)) a (withPhase a (wrapOf (x .0))) g (λ (t : T (isState a && finite (x .0))). at-wrap (x .0) w (and-r (isState a) (finite (x .0)) t))
 
-  pub reset-keeps : T (isState (resetOf a .accumulator))
-  reset-keeps = change-keeps (isState a) a (withPhase a (lit0 binary32)) h (λ (t : T (isState a)). with-phase-accepted (lit0 binary32) (subst (λ (z : Float). T (within z (lit1 binary32) z)) (sym (lit0-is binary32)) (unfold ofBits in unfold le in tt)))
+  pub reset-keeps : Good (resetOf a .accumulator)
+  reset-keeps = change-keeps (isState a) a (withPhase a (lit0 binary32)) g (λ (t : T (isState a)). at-phase (lit0 binary32) (ofBits-fits binary32 0) (unfold ofBits in unfold le in tt))
+
+-- ---- any calls, one after the other
+pub data Call : Type 0 where
+  frequency : Float → Float → Call
+  increment to : Cycles → Call
+  step reset : Call
+
+-- the state after a call
+abbrev pub after : PhaseAccumulator → Call → PhaseAccumulator
+after a (frequency f r) = setFrequencyOf a f r .accumulator
+after a (increment x) = setIncrementOf a x .accumulator
+after a (to x) = setPhaseOf a x .accumulator
+after a step = nextOf a .accumulator
+after a reset = resetOf a .accumulator
+
+-- the numbers of cycles that a call is given are f32
+abbrev pub Given : Call → Type 0
+Given (frequency f r) = Unit
+Given (increment x) = T (fits binary32 (x .0))
+Given (to x) = T (fits binary32 (x .0))
+Given step = Unit
+Given reset = Unit
+
+after-keeps : (a : PhaseAccumulator) (c : Call) → Good a → Given c → Good (after a c)
+after-keeps a (frequency f r) g w = set-frequency-keeps a g f r
+after-keeps a (increment x) g w = set-increment-keeps a g x w
+after-keeps a (to x) g w = set-phase-keeps a g x w
+after-keeps a step g w = next-keeps a g
+after-keeps a reset g w = reset-keeps a g
+
+-- the state after the calls of a list, from a
+unfoldable pub run : PhaseAccumulator → List Call → PhaseAccumulator
+run a [] = a
+run a (c ∷ cs) = run (after a c) cs
+
+unfoldable pub AllGiven : List Call → Type 0
+AllGiven [] = Unit
+AllGiven (c ∷ cs) = Given c × AllGiven cs
+
+run-keeps : (a : PhaseAccumulator) (cs : List Call) → Good a → AllGiven cs → Good (run a cs)
+unfolding run AllGiven
+run-keeps a [] g w = g
+run-keeps a (c ∷ cs) g w = run-keeps (after a c) cs (after-keeps a c g (w .0)) (w .1)
+
+-- from `new`, through any calls, refused ones too, the phase stays from 0 to 1 and the state is accepted
+pub stays : (cs : List Call) → AllGiven cs → T (isState (run newOf cs))
+stays cs w = run-keeps newOf cs new-good w .accepted

@@ -1,7 +1,6 @@
 -- What 01 asks to be proved of the accumulator by example, on the definitions that the contracts cite. Assumes nothing.
 use mathlib.Core.Path.{_≡_, refl}
-use lib.Ieee.{Float, binary32, add, sub, div, neg, lt, le, eq, ofBits, round}
-use lib.Ieee.Scale.{finite}
+use lib.Ieee.{Float, binary32, add, sub, neg, lt, le, eq, ofBits, round}
 use Rattle.floats.specs.Floor.{floorOf}
 use Rattle.floats.specs.Range.{lit0, lit1}
 use Rattle.phase.specs.Phase.{cyclesOf, shownIf, newOf, setIncrementOf, nextOf, phaseOf, setPhaseOf}
@@ -26,9 +25,14 @@ pub mark-h : (phaseOf (setTo minusQuarter) ≡ shownIf true threeQuarters) × (p
 unfolding ofBits le lt eq add sub neg floorOf round
 mark-h = (refl, refl)
 
+-- "floor(-0) is -0": so -0 wraps to +0
+pub minus-zero : phaseOf (setTo (ofBits binary32 0x8000_0000)) ≡ shownIf true (lit0 binary32)
+unfolding ofBits le lt eq add sub neg floorOf round
+minus-zero = refl
+
 -- both ends of 0 to 1 are reached, and by a step too: from 0 with the increment -2^-30 the phase is 1 after it
 pub record EndsReached : Type 0 where
-  pub low : phaseOf newOf ≡ shownIf true (lit0 binary32)
+  pub low : phaseOf (setTo (lit1 binary32)) ≡ shownIf true (lit0 binary32)
   pub high : phaseOf (setTo minusTiny) ≡ shownIf true (lit1 binary32)
   pub high-by-step : phaseOf (nextOf (setIncrementOf newOf (cyclesOf minusTiny) .accumulator) .accumulator) ≡ shownIf true (lit1 binary32)
 

@@ -1,6 +1,6 @@
 -- The accumulator of phase.rs. 01, "Accumulator: wrap(x) = x - floor(x), in f32, where floor(-0) is -0"; "Accumulator arguments must be finite, its rate above 0 and the quotient finite";
 -- "Given states: accumulator phase 0 to 1, increment finite"; number 9 for anything else; "any single value as +0 .. hands back state by value as it came". Count is 0: no samples are written.
--- Stricter than 01 in one thing: a given state is judged by every call that takes it, also where the call reads or replaces one field only. Definitions only.
+-- A given state is judged by every call that takes it, also where the call reads or replaces one field only. Definitions only.
 use mathlib.Core.Bool.{Bool, true, false, _&&_, cond}
 use lib.Ieee.{Float, binary32, add, sub, div, lt}
 use lib.Ieee.Scale.{finite}

@@ -10,7 +10,7 @@ use answers::Refusal;
 // The largest finite f32.
 const LARGEST: f32 = 340282346638528859811704183484516925440.0;
 
-// A number of cycles; radians are another type.
+// A number of cycles: a phase in cycles is no phase in radians.
 pub struct Cycles(pub f32);
 
 // The phase in cycles, and how many cycles it moves in one sample.
@@ -120,7 +120,7 @@ fn is_finite(x: f32) -> bool
     (-LARGEST <= x) & (x <= LARGEST)
 }
 
-// x less its floor: from 0 to 1, both ends reached.
+// x less its floor: of a finite x from 0 to 1, both ends reached.
 fn wrap(x: f32) -> f32
     ensures { λ r. ⌜ r ≡ wrapOf x ⌝ }
 {
