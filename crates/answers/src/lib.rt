@@ -1,6 +1,7 @@
 // What a call says: the lines of document 01's table as enums, and the three numbers that stand for each.
 ghost use mathlib.Core.Path.{_≡_};
 ghost use Prim.Native.Nat.{_≤_};
+ghost use Rattle.answers.specs.Value.{valueIf};
 ghost use Rattle.answers.specs.Numbers.{numbersOf, refusalNumber, refusalPlace, faultNumber, faultPlace};
 
 // What is wrong with a score; a fault of a record carries the record's index.
@@ -36,6 +37,12 @@ pub struct Numbers {
     pub count: usize,
 }
 
+// A single number beside its answer; +0 where the call was refused.
+pub struct Value {
+    pub answer: Answer,
+    pub value: f64,
+}
+
 pub fn in_numbers(answer: Answer) -> Numbers
     ensures { λ r. ⌜ r ≡ numbersOf answer ⌝ }
 {
@@ -50,6 +57,22 @@ pub fn in_numbers(answer: Answer) -> Numbers
             place: refusal_place(refusal),
             count: 0,
         },
+    }
+}
+
+// The number, or the refusal with +0.
+pub fn value_if(ok: bool, refusal: Refusal, value: f64) -> Value
+    ensures { λ r. ⌜ r ≡ valueIf ok refusal value ⌝ }
+{
+    if ok {
+        return Value {
+            answer: Answer::Done(0),
+            value,
+        };
+    }
+    Value {
+        answer: Answer::Refused(refusal),
+        value: 0.0,
     }
 }
 

@@ -19,6 +19,10 @@ pub mod Monotone
 pub mod Ranges
 -- the largest value of a format: what is finite is what is bounded
 pub mod Largest
+-- |x| ≤ a through each operation
+pub mod Bounded
+-- a long expression is finite where it is at its parts' largest sizes
+pub mod Expression
 -- how far below its fraction a rounded value can lie
 pub mod Error
 -- the remainder is exact, so it is below the divisor

@@ -192,6 +192,28 @@ pub lt-le : (x y : Float) → T (lt x y) → T (le x y)
 unfolding le
 lt-le x y h = or-l (lt x y) (eq x y) h
 
+-- ±a < ±b: not ±b ≤ ±a
+below-not : (s : Bool) (a : ℕ) (t : Bool) (b : ℕ) → T (below s a t b) → Le2 t b s a → ⊥
+below-not false a false b h k = omega (arith, ltb→lt a b h)
+below-not false a true b h k = h
+below-not true a false b h k = omega (arith, ltb→lt 0 (a + b) h, k .0, k .1)
+below-not true a true b h k = omega (arith, ltb→lt b a h)
+
+-- x < y: not y ≤ x
+pub lt-not-le : (x y : Float) → T (lt x y) → T (le y x) → ⊥
+unfolding lt
+lt-not-le nan y h k = h
+lt-not-le (inf s) nan h k = h
+lt-not-le (inf true) (inf true) h k = h
+lt-not-le (inf true) (inf false) h k = le→Le (inf false) (inf true) k
+lt-not-le (inf false) (inf t) h k = h
+lt-not-le (inf true) (fin t n d) h k = le→Le (fin t n d) (inf true) k
+lt-not-le (inf false) (fin t n d) h k = h
+lt-not-le (fin s m e) nan h k = h
+lt-not-le (fin s m e) (inf true) h k = h
+lt-not-le (fin s m e) (inf false) h k = le→Le (inf false) (fin s m e) k
+lt-not-le (fin s m e) (fin t n d) h k = below-not s (m * up e * down d) t (n * up d * down e) h (le→Le (fin t n d) (fin s m e) k)
+
 -- not x < y, neither a NaN: y ≤ x, infinities too
 pub not-lt-le-any : (x y : Float) → T (not (isNan x)) → T (not (isNan y)) → T (not (lt x y)) → T (le y x)
 unfolding lt isNan
@@ -332,3 +354,22 @@ positive-num nan p = absurd p
 positive-num (inf s) p = absurd p
 positive-num (fin true m e) p = absurd p
 positive-num (fin false m e) p = mul-pos (ltb→lt 0 m p) (up-pos e)
+
+-- y is finite and not positive: y ≤ 0
+pub not-positive-le : (y : Float) → T (finite y) → T (not (positive y)) → T (le y nought)
+not-positive-le nan q h = absurd q
+not-positive-le (inf t) q h = absurd q
+not-positive-le (fin true n d) q h = Le→le (fin true n d) nought tt
+not-positive-le (fin false n d) q h = Le→le (fin false n d) nought (omega (arith, times-zero n (up d) (none n (nltb→le 0 n h))))
+  where
+    none : (n : ℕ) → n ≤ 0 → n ≡ 0
+    none n h = omega arith
+
+-- a test that cannot fail
+pub by-contra : (b : Bool) → (T (not b) → ⊥) → T b
+by-contra true h = tt
+by-contra false h = absurd (h tt)
+
+-- 0 ≤ x < y, y finite: y is positive
+pub above-positive : (x y : Float) → T (nonneg x) → T (finite y) → T (lt x y) → T (positive y)
+above-positive x y p q h = by-contra (positive y) (λ (n : T (not (positive y))). lt-not-le x y h (fle-trans y nought x (not-positive-le y q n) (ge0→le x (nonneg→ge0 x p))))

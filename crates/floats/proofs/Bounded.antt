@@ -1,0 +1,119 @@
+-- Sizes: |x| ≤ a, and what each operation makes of it. So a long expression is finite where the same expression at the bounds is, and that is computed. Over the format. Assumes nothing.
+use mathlib.Core.Path.{_≡_, refl}
+use Prim.Native.Nat.{ℕ, _+_, _*_, _≤_}
+use native.Mathlib.Nat.{le-refl, mul-pos}
+use native.Mathlib.Omega.{arith}
+use mathlib.Core.Bool.{true, false}
+use lib.Dec.{T, lit<}
+use lib.Ieee.{Float, nan, inf, fin, Format, neg, add, sub, mul, div, le, fits}
+use lib.Ieee.Fits.{and-i, and-l, and-r}
+use lib.Ieee.Scale.{finite}
+use lib.Ieee.Positive.{num, den, den-pos, positive}
+use Rattle.floats.specs.Range.{nought, unity, within}
+use Rattle.floats.proofs.Order.{between-finite, fle-trans, positive-num}
+use Rattle.floats.proofs.Signed.{finite-neg}
+use Rattle.floats.proofs.Near.{Near, plus, less, order, near-self, near-neg, near-add, near-div}
+use Rattle.floats.proofs.Near.{neg-parts, neg-order, add-order, mul-bound, within-neg, le→frac}
+
+-- |x| ≤ a, and a is finite
+pub record Size (a x : Float) : Type 0 where
+  pub bound : T (finite a)
+  pub between : T (within (neg a) a x)
+
+module _ (a x : Float) (s : Size a x) where
+  low : T (le (neg a) x)
+  low = and-l (le (neg a) x) (le x a) (s .between)
+
+  high : T (le x a)
+  high = and-r (le (neg a) x) (le x a) (s .between)
+
+  -- what has a size is finite
+  pub size-finite : T (finite x)
+  size-finite = between-finite (neg a) x a (finite-neg a (s .bound)) (s .bound) low high
+
+  -- |-x| ≤ a
+  pub size-neg : Size a (neg x)
+  size-neg = record { bound = s .bound; between = within-neg a x (s .between) }
+
+-- -(a + b) ≤ -a + -b: they are one number, though a zero may differ in its sign
+neg-sum-le : (f : Format) (a b : Float) → T (finite a) → T (finite b) → T (le (neg (add f a b)) (add f (neg a) (neg b)))
+neg-sum-le f a b p q =
+    let n = less a * den b + less b * den a in
+    let m = plus a * den b + plus b * den a in
+    let c = den a * den b in
+    order f (neg (add f a b)) (add f (neg a) (neg b)) n m c n m c (near-neg f (add f a b) m n c (near-add f a b p q)) (turned f a b p q) (mul-pos (den-pos a) (den-pos b)) (mul-pos (den-pos a) (den-pos b)) (le-refl (n * c + m * c))
+  where
+    turned : (f : Format) (a b : Float) → T (finite a) → T (finite b) → Near f (add f (neg a) (neg b)) (less a * den b + less b * den a) (plus a * den b + plus b * den a) (den a * den b)
+    turned f a b p q =
+        simp (neg-parts a .0, neg-parts a .1, neg-parts a .2, neg-parts b .0, neg-parts b .1, neg-parts b .2) at (near-add f (neg a) (neg b) (finite-neg a p) (finite-neg b q))
+
+module _ (f : Format) (a x b y : Float) (s : Size a x) (t : Size b y) where
+  -- |x + y| ≤ a + b, |x - y| ≤ a + b and |x * y| ≤ a * b, where the rounded bound is finite
+  pub size-add : T (finite (add f a b)) → Size (add f a b) (add f x y)
+  size-add h =
+      let A = s .bound in
+      let B = t .bound in
+      record {
+        bound = h;
+        between =
+            and-i (le (neg (add f a b)) (add f x y)) (le (add f x y) (add f a b))
+            (fle-trans (neg (add f a b)) (add f (neg a) (neg b)) (add f x y) (neg-sum-le f a b A B) (add-order f (neg a) x (neg b) y (finite-neg a A) (size-finite a x s) (finite-neg b B) (size-finite b y t) (low a x s) (low b y t)))
+            (add-order f x a y b (size-finite a x s) A (size-finite b y t) B (high a x s) (high b y t));
+      }
+
+  pub size-mul : T (finite (mul f a b)) → Size (mul f a b) (mul f x y)
+  size-mul h = record { bound = h; between = mul-bound f x a y b (size-finite a x s) (s .bound) (size-finite b y t) (t .bound) (s .between) (t .between) }
+
+pub size-sub : (f : Format) (a x b y : Float) → Size a x → Size b y → T (finite (add f a b)) → Size (add f a b) (sub f x y)
+unfolding sub
+size-sub f a x b y s t h = size-add f a x b (neg y) s (size-neg b y t) h
+
+-- |x| ≤ a ≤ b
+pub size-widen : (a b x : Float) → T (finite b) → T (le a b) → Size a x → Size b x
+size-widen a b x h k s =
+    record {
+      bound = h;
+      between = and-i (le (neg b) x) (le x b) (fle-trans (neg b) (neg a) x (neg-order a b k) (low a x s)) (fle-trans x a b (high a x s) k);
+    }
+
+-- 0 ≤ x ≤ a
+pub size-of-range : (a x : Float) → T (finite a) → T (within nought a x) → Size a x
+size-of-range a x h p =
+    let l : T (le nought x) = and-l (le nought x) (le x a) p in
+    let r : T (le x a) = and-r (le nought x) (le x a) p in
+    record { bound = h; between = and-i (le (neg a) x) (le x a) (fle-trans (neg a) nought x (minus-le a (fle-trans nought x a l r)) l) r }
+  where
+    -- -a ≤ 0 for 0 ≤ a
+    minus-le : (a : Float) → T (le nought a) → T (le (neg a) nought)
+    minus-le a k = fle-trans (neg a) (neg nought) nought (neg-order nought a k) (unfold neg in unfold le in tt)
+
+-- |d| ≤ y, y above 0: |d / y| ≤ 1
+pub size-div : (f : Format) (d y : Float) → T (positive y) → Size y d → Size unity (div f d y)
+size-div f d y q s =
+    let D = size-finite y d s in
+    record {
+      bound = tt;
+      between =
+          and-i (le (neg unity) (div f d y)) (le (div f d y) unity)
+          (order f (neg unity) (div f d y) 0 1 1 (plus d * den y) (less d * den y) (num y * den d) (near-neg f unity 1 0 1 (unit f)) (near-div f d y D q) (lit< tt) (mul-pos (positive-num y q) (den-pos d))
+          (under (plus d) (less d) (den d) (num y) (den y) (plus y) (less y) (positive-parts y q) (simp (neg-parts y .0, neg-parts y .1, neg-parts y .2) at (le→frac (neg y) d (finite-neg y (s .bound)) D (low y d s)))))
+          (order f (div f d y) unity (plus d * den y) (less d * den y) (num y * den d) 1 0 1 (near-div f d y D q) (unit f) (mul-pos (positive-num y q) (den-pos d)) (lit< tt)
+          (over (plus d) (less d) (den d) (num y) (den y) (plus y) (less y) (positive-parts y q) (le→frac d y D (s .bound) (high y d s))));
+    }
+  where
+    unit : (f : Format) → Near f unity 1 0 1
+    unit Format.binary32 = near-self Format.binary32 unity (unfold fits in tt) tt
+    unit Format.binary64 = near-self Format.binary64 unity (unfold fits in tt) tt
+
+    -- y is num y / den y, with nothing below 0
+    positive-parts : (y : Float) → T (positive y) → (plus y ≡ num y) × (less y ≡ 0)
+    positive-parts nan q = absurd q
+    positive-parts (inf s) q = absurd q
+    positive-parts (fin true m e) q = absurd q
+    positive-parts (fin false m e) q = (refl, refl)
+
+    under : (p n c u v a b : ℕ) → (a ≡ u) × (b ≡ 0) → b * c + n * v ≤ p * v + a * c → 0 * (u * c) + n * v * 1 ≤ p * v * 1 + 1 * (u * c)
+    under p n c u v a b e h = omega (arith, rw (e .0, e .1) at h)
+
+    over : (p n c u v a b : ℕ) → (a ≡ u) × (b ≡ 0) → p * v + b * c ≤ a * c + n * v → p * v * 1 + 0 * (u * c) ≤ 1 * (u * c) + n * v * 1
+    over p n c u v a b e h = omega (arith, rw (e .0, e .1) at h)

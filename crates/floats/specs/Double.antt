@@ -1,0 +1,38 @@
+-- The operations of an f64, each rounded once, as infix signs, and the numbers that the crates above write as literals. Definitions only.
+use lib.Ieee.{Float, binary64, ofBits, add, sub, mul, div}
+use Rattle.floats.specs.Range.{lit0, lit1}
+
+infixl 60 _⊕_ _⊖_
+infixl 70 _⊗_ _⊘_
+abbrev pub _⊕_ : Float → Float → Float
+x ⊕ y = add binary64 x y
+
+abbrev pub _⊖_ : Float → Float → Float
+x ⊖ y = sub binary64 x y
+
+abbrev pub _⊗_ : Float → Float → Float
+x ⊗ y = mul binary64 x y
+
+abbrev pub _⊘_ : Float → Float → Float
+x ⊘ y = div binary64 x y
+
+abbrev pub naught : Float
+naught = lit0 binary64
+
+abbrev pub half : Float
+half = ofBits binary64 0x3fe0_0000_0000_0000
+
+abbrev pub one : Float
+one = lit1 binary64
+
+abbrev pub two : Float
+two = ofBits binary64 0x4000_0000_0000_0000
+
+abbrev pub three : Float
+three = ofBits binary64 0x4008_0000_0000_0000
+
+abbrev pub four : Float
+four = ofBits binary64 0x4010_0000_0000_0000
+
+abbrev pub eight : Float
+eight = ofBits binary64 0x4020_0000_0000_0000
