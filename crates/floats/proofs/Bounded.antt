@@ -9,8 +9,8 @@ use lib.Ieee.{Float, nan, inf, fin, Format, neg, add, sub, mul, div, le, fits}
 use lib.Ieee.Fits.{and-i, and-l, and-r}
 use lib.Ieee.Scale.{finite}
 use lib.Ieee.Positive.{num, den, den-pos, positive}
-use Rattle.floats.specs.Range.{nought, unity, within}
-use Rattle.floats.proofs.Order.{between-finite, fle-trans, positive-num}
+use Rattle.floats.specs.Range.{nought, unity, nonneg, within}
+use Rattle.floats.proofs.Order.{between-finite, fle-trans, fle-refl, positive-num, nonneg→finite, nonneg→ge0, ge0→le}
 use Rattle.floats.proofs.Signed.{finite-neg}
 use Rattle.floats.proofs.Near.{Near, plus, less, order, near-self, near-neg, near-add, near-div}
 use Rattle.floats.proofs.Near.{neg-parts, neg-order, add-order, mul-bound, within-neg, le→frac}
@@ -117,3 +117,7 @@ size-div f d y q s =
 
     over : (p n c u v a b : ℕ) → (a ≡ u) × (b ≡ 0) → p * v + b * c ≤ a * c + n * v → p * v * 1 + 0 * (u * c) ≤ 1 * (u * c) + n * v * 1
     over p n c u v a b e h = omega (arith, rw (e .0, e .1) at h)
+
+-- 0 ≤ x has its own size
+pub size-own : (x : Float) → T (nonneg x) → Size x x
+size-own x p = size-of-range x x (nonneg→finite x p) (and-i (le nought x) (le x x) (ge0→le x (nonneg→ge0 x p)) (fle-refl x (nonneg→finite x p)))

@@ -1,0 +1,9 @@
+-- What holds of the corrections and the waveforms beyond their contracts.
+-- near a step the distance from it is at most one sample
+pub mod Corner
+-- every answer in the domain is finite
+pub mod Finite
+-- 01's marks (a) to (g)
+pub mod Marks
+-- two outcomes of a public function are equal
+pub mod Unique

@@ -1,0 +1,2 @@
+pub mod Polyblep
+pub mod Calls
