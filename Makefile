@@ -1,17 +1,20 @@
 # The commands of this repository, under short names. `make help` lists them.
 
-# What the host tests need, by Debian's package names.
-PACKAGES = python3 make
+# What the host tests need, by Debian's package names; libm's folder is the one that oracle/libm names.
+PACKAGES = $(shell command -v python3 >/dev/null || echo python3) \
+           $(shell command -v cargo >/dev/null || echo cargo) \
+           $(shell test -f "$$(sed -n 's/^path = "\(.*\)"$$/\1/p' oracle/libm/Cargo.toml)" || echo librust-libm-dev)
 
 .DEFAULT_GOAL = help
-.PHONY: help check test ci fmt deps clean
+.PHONY: help check test ci fmt deps vectors clean
 
 help:
 	@echo 'make check   prove every crate and run each program (rt check)'
 	@echo 'make test    run the host tests (tests/run); some read what rt ci left in target/'
 	@echo 'make ci      run the gate: rt ci, then the host tests'
 	@echo 'make fmt     lay out every .rt and .antt file (rt fmt)'
-	@echo 'make deps    install what the host tests need, with apt-get: $(PACKAGES)'
+	@echo 'make deps    install what the host tests need and is missing here, with apt-get'
+	@echo 'make vectors write the committed rows of the replays anew, from the original (oracle/)'
 	@echo 'make clean   remove target/'
 
 check:
@@ -27,10 +30,14 @@ fmt:
 	@rt fmt
 
 deps:
-	@command -v apt-get >/dev/null || { echo 'make deps: no apt-get here; install by hand: $(PACKAGES)'; exit 1; }
-	@echo 'make deps: installing with apt-get: $(PACKAGES)'
-	@if [ "$$(id -u)" -eq 0 ]; then sudo=; else sudo=sudo; fi; \
-	$$sudo apt-get update && $$sudo apt-get install -y --no-install-recommends $(PACKAGES)
+	@if [ -z "$(strip $(PACKAGES))" ]; then echo 'make deps: nothing is missing'; exit 0; fi; \
+	command -v apt-get >/dev/null || { echo 'make deps: no apt-get here; install by hand: $(strip $(PACKAGES))'; exit 1; }; \
+	echo 'make deps: installing with apt-get: $(strip $(PACKAGES))'; \
+	if [ "$$(id -u)" -eq 0 ]; then sudo=; else sudo=sudo; fi; \
+	$$sudo apt-get update && $$sudo apt-get install -y --no-install-recommends $(strip $(PACKAGES))
+
+vectors:
+	@oracle/vectors
 
 clean:
 	@rm -rf target

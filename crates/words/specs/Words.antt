@@ -1,0 +1,16 @@
+-- A number that stands in bytes, low byte first. The bits of a float are those of the logic's account of IEEE 754 (`ofBits`, `toBits`), where every NaN pattern is the one NaN. Definitions only.
+use mathlib.Core.Bool.{cond}
+use mathlib.Core.List.{List}
+use Prim.Native.Nat.{ℕ, zero, suc, _+_, _*_}
+use lib.Dec.{leb}
+use lib.ListN.{length, getD}
+
+-- the n bytes from `at` on, the first counting ones, the next 256, ..
+unfoldable pub lowFirst : ℕ → List ℕ → ℕ → ℕ
+lowFirst zero bytes at = 0
+lowFirst (suc n) bytes at = getD bytes at 0 + 256 * lowFirst n bytes (at + 1)
+
+-- that number, or 0 where the bytes are not all there
+unfoldable pub wordAt : ℕ → List ℕ → ℕ → ℕ
+unfolding lowFirst
+wordAt n bytes at = cond (leb (at + n) (length bytes)) (lowFirst n bytes at) 0

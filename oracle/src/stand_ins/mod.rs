@@ -1,0 +1,11 @@
+//! What the original's files lean on and is not held: ours, as small as they allow.
+
+// The files decide what is called; some of it nobody calls here.
+#![allow(dead_code)]
+
+pub mod block;
+pub mod context;
+pub mod parameter;
+pub mod random;
+pub mod sample;
+pub mod stack_vec;
