@@ -174,22 +174,28 @@ def polyblep_answer(op, phase_bits, dt_bits, duty_bits):
     return (0, bits_of(calls[op](phase, dt), True))
 
 
-def compare(name, path, layout, given, answer):
+def compare(name, path, layout, given, answer, ops):
+    """Works every row out again; each op must be there, done and refused (`new` refuses nothing)."""
     data = open(path, "rb").read()
     total = equal = 0
+    seen = set()
     for row in struct.iter_unpack(layout, data):
         total += 1
+        seen.add((row[0], row[given]))
         if answer(*row[:given]) == row[given:]:
             equal += 1
         elif total - equal < 5:
             print(name, [f"{w:x}" for w in row], [f"{w:x}" for w in answer(*row[:given])])
-    print(f"{name}: {equal} of {total} rows equal")
-    return equal == total
+    print(f"{name}: {total} rows, {equal} equal")
+    missing = [(op, number) for op in range(ops) for number in (0, 9) if (op, number) not in seen and op != 7]
+    if missing:
+        print(f"{name}: no row of op and number {missing}")
+    return equal == total and not missing
 
 
 if __name__ == "__main__":
     if len(sys.argv) != 3:
         sys.exit("oracle/again.py PHASE_FILE POLYBLEP_FILE")
-    fine = compare("phase", sys.argv[1], "<9I", 5, phase_answer)
-    fine = compare("polyblep", sys.argv[2], "<6Q", 4, polyblep_answer) and fine
+    fine = compare("phase", sys.argv[1], "<9I", 5, phase_answer, 8)
+    fine = compare("polyblep", sys.argv[2], "<6Q", 4, polyblep_answer, 6) and fine
     sys.exit(0 if fine else 1)

@@ -1,4 +1,4 @@
--- Every answer in the domain is finite. Each value has a size, which is its own expression at the largest sizes of its parts: 4 for a step's correction, 4 * (1 + third + 1) for a corner's. Assumes nothing.
+-- Every answer in the domain is finite. Each value has a size: its own expression at the largest sizes of its parts, which for a correction is no more than 16. Assumes nothing.
 use mathlib.Core.Path.{_≡_, refl, sym, subst}
 use mathlib.Core.Bool.{Bool, true, false, not, cond, _&&_}
 use lib.Dec.{T}

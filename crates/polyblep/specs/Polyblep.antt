@@ -12,7 +12,7 @@ use Rattle.polyblep.specs.declared.Side.the-variants.{After, Before, Awa
 abbrev pub third : Float
 third = ofBits binary64 0x3fd5_5555_5555_5555
 
--- ---- which side of the step, and how far in samples: from 0 to 1 after it, from -1 to 0 before it
+-- ---- which side of the step, and how far in samples: in the domain from 0 to 1 after it, from -1 to 0 before it
 abbrev pub sideOf : Float → Float → Side
 sideOf t dt = cond (lt t dt) (After (t ⊘ dt)) (cond (lt (one ⊖ dt) t) (Before ((t ⊖ one) ⊘ dt)) Away)
 

@@ -130,7 +130,7 @@ pub fn triangle(phase: f64, dt: f64) -> f64
     ramp(phase) + 8.0 * low - 8.0 * high
 }
 
-// Where the phase t lies from a step at 0 and 1: x samples after it, x (not above 0) before it, or farther than one.
+// Where the phase t lies from a step at 0 and 1: x samples after it, x (not above 0) before it, or a sample or farther.
 fn side_of(t: f64, dt: f64) -> Side
     ensures { λ r. ⌜ r ≡ sideOf t dt ⌝ }
 {

@@ -1,5 +1,6 @@
 // Replays the original's answers to the calls of phase.rs: rows of nine u32 on standard input (oracle/README.md says
-// what they are), each compared bit for bit. It prints how many rows there were and how many were equal.
+// what they are), each compared bit for bit. It prints how many rows there were and how many were
+// equal; a row that is cut short or names no call counts as unequal.
 use libc::STDIN_FILENO;
 use libc::STDOUT_FILENO;
 use phase::Changed;
@@ -36,8 +37,12 @@ fn replay() -> Tally {
     let mut turns = u64::MAX;
     while turns > 0 {
         let mut row = [0u8; 36];
-        if io::read_full(STDIN_FILENO, &mut row) < 36 {
+        let got = io::read_full(STDIN_FILENO, &mut row);
+        if got == 0 {
             return tally;
+        }
+        if got < 36 {
+            return counted(tally, false);
         }
         tally = counted(tally, is_equal(&row));
         turns -= 1;
@@ -70,8 +75,10 @@ fn is_equal(row: &[u8]) -> bool {
     };
     let a = words::f32_of(words::u32_at(row, 12));
     let b = words::f32_of(words::u32_at(row, 16));
-    let got = called(words::u32_at(row, 0), given, a, b);
-    (got.number == words::u32_at(row, 20))
+    let op = words::u32_at(row, 0);
+    let got = called(op, given, a, b);
+    (op < 8)
+        & (got.number == words::u32_at(row, 20))
         & (got.value == words::u32_at(row, 24))
         & (got.phase == words::u32_at(row, 28))
         & (got.increment == words::u32_at(row, 32))

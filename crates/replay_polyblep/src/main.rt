@@ -1,5 +1,6 @@
 // Replays the original's answers to the calls of polyblep.rs: rows of six u64 on standard input (oracle/README.md says
-// what they are), each compared bit for bit. It prints how many rows there were and how many were equal.
+// what they are), each compared bit for bit. It prints how many rows there were and how many were
+// equal; a row that is cut short or names no call counts as unequal.
 use answers::Value;
 use libc::STDIN_FILENO;
 use libc::STDOUT_FILENO;
@@ -24,8 +25,12 @@ fn replay() -> Tally {
     let mut turns = u64::MAX;
     while turns > 0 {
         let mut row = [0u8; 48];
-        if io::read_full(STDIN_FILENO, &mut row) < 48 {
+        let got = io::read_full(STDIN_FILENO, &mut row);
+        if got == 0 {
             return tally;
+        }
+        if got < 48 {
+            return counted(tally, false);
         }
         tally = counted(tally, is_equal(&row));
         turns -= 1;
@@ -55,10 +60,13 @@ fn is_equal(row: &[u8]) -> bool {
     let t = words::f64_of(words::u64_at(row, 8));
     let dt = words::f64_of(words::u64_at(row, 16));
     let duty = words::f64_of(words::u64_at(row, 24));
-    let got = called(words::u64_at(row, 0), t, dt, duty);
+    let op = words::u64_at(row, 0);
+    let got = called(op, t, dt, duty);
     let answer = got.answer;
     let number = answers::in_numbers(answer).number as u64;
-    (number == words::u64_at(row, 32)) & (words::f64_bits(got.value) == words::u64_at(row, 40))
+    (op < 6)
+        & (number == words::u64_at(row, 32))
+        & (words::f64_bits(got.value) == words::u64_at(row, 40))
 }
 
 fn called(op: u64, t: f64, dt: f64, duty: f64) -> Value {

@@ -8,13 +8,14 @@ use lib.Ieee.{Float, nan, inf, fin, Format, hid, ones, top, div, ne, isNan, ofBi
 use lib.Ieee.Bits.{nanBits-is, nanBits-above}
 use lib.Ieee.Compare.{differs-from-itself}
 
--- a pattern above an infinity's
+-- the one NaN
 is-nan : (x : Float) → isNan x ≡ true → x ≡ nan
 unfolding isNan
 is-nan nan h = refl
 is-nan (inf s) h = absurd (true≢false (sym h))
 is-nan (fin s m e) h = absurd (true≢false (sym h))
 
+-- a pattern above an infinity's is a NaN's, and 0 / 0 is one
 pub of-nan : (f : Format) (b : ℕ) → ones f * hid f < b % top f → div f (ofBits f 0) (ofBits f 0) ≡ ofBits f b
 of-nan f b h = none f ∙ sym (is-nan (ofBits f b) (sym (nanBits-is f b) ∙ nanBits-above f b ∙ lt-ltb (ones f * hid f) (b % top f) h))
   where

@@ -21,14 +21,20 @@ read-full-requires c κs = search needs
 returns : tie.Need-returns Inv-loop μ-loop
 returns c = search needs
 
+counted-requires : tie.Need-counted-requires Inv-loop μ-loop
+counted-requires c κs = search needs
+
+returns-2 : tie.Need-returns-2 Inv-loop μ-loop
+returns-2 c = search needs
+
 slice-aggregate-is-equal : tie.Need-slice-aggregate-is-equal Inv-loop μ-loop
 slice-aggregate-is-equal c = search needs
 
 is-equal-requires : tie.Need-is-equal-requires Inv-loop μ-loop
 is-equal-requires c κs = search needs
 
-counted-requires : tie.Need-counted-requires Inv-loop μ-loop
-counted-requires c κs = search needs
+counted-requires-2 : tie.Need-counted-requires-2 Inv-loop μ-loop
+counted-requires-2 c κs = search needs
 
 sub-turns : tie.Need-sub-turns Inv-loop μ-loop
 sub-turns c = search needs
@@ -39,8 +45,8 @@ loop-less c = search needs
 loop-again : tie.Need-loop-again Inv-loop μ-loop
 loop-again c = search needs
 
-returns-2 : tie.Need-returns-2 Inv-loop μ-loop
-returns-2 c = search needs
+returns-3 : tie.Need-returns-3 Inv-loop μ-loop
+returns-3 c = search needs
 
 pub replay-spec : {M : Type 1} → statement M
 replay-spec =
@@ -52,10 +58,12 @@ replay-spec =
     slice-aggregate-read-full
     read-full-requires
     returns
+    counted-requires
+    returns-2
     slice-aggregate-is-equal
     is-equal-requires
-    counted-requires
+    counted-requires-2
     sub-turns
     loop-less
     loop-again
-    returns-2)
+    returns-3)
