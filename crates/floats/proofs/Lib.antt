@@ -43,5 +43,9 @@ pub mod Tests
 pub mod Greatest
 -- x - floor(x) lies from 0 to 1
 pub mod Fraction
+-- a number is written in one way, and x * 1 is x
+pub mod OneWay
+-- a table's rule at each entry, from one computed test
+pub mod Carried
 -- two outcomes of a public function are equal
 pub mod Unique

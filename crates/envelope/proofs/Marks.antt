@@ -1,0 +1,66 @@
+-- Easy errors, by example, on the definitions that the contracts cite; 01's marks (i) and (j) take 4,098 steps and stand in `envelope_marks`. Assumes nothing.
+use mathlib.Core.Path.{_≡_, refl}
+use mathlib.Core.Bool.{true, false}
+use lib.IntN.{negsuc}
+use lib.Ieee.{Float, nan, inf, fin, binary64, ofBits, isNan, add, sub, mul, div, lt, le}
+use Rattle.floats.specs.Double.{naught, half, one}
+use Rattle.envelope.specs.Limits.{milli, ten, isAdsr, clampedOf}
+use Rattle.envelope.specs.Stages.{silent, decayLevel, stepOf, triggeredOf, releasedOf}
+use Rattle.envelope.specs.declared.Adsr.{Adsr}
+use Rattle.envelope.specs.declared.Envelope.{Envelope}
+use Rattle.envelope.specs.declared.EnvelopeStage.{EnvelopeStage}
+use Rattle.envelope.specs.declared.EnvelopeStage.the-variants.{Idle, Attack, Decay, Sustain, Release}
+
+abbrev pub minusNaught : Float
+minusNaught = ofBits binary64 0x8000_0000_0000_0000
+
+abbrev pub settings : Float → Float → Float → Float → Adsr
+settings a d s r = record { attack = a; decay = d; sustain = s; release = r }
+
+abbrev pub at : EnvelopeStage → Float → Float → Float → Envelope
+at s x t r = record { stage = s; level = x; «stage_time» = t; «release_level» = r }
+
+-- infinities clamp, and a sustain level of -0 stays -0
+pub clamps : clampedOf (settings (inf false) (inf true) minusNaught naught) ≡ settings ten milli minusNaught milli
+unfolding clampedOf ofBits lt
+clamps = refl
+
+-- a NaN is refused, infinities are not
+pub judges : (isAdsr (settings one one nan one) ≡ false) × (isAdsr (settings (inf false) (inf true) one one) ≡ true)
+unfolding isAdsr ofBits isNan
+judges = (refl, refl)
+
+-- ---- one step, at 16,384 Hz and with times of 1 s
+abbrev pub tick : Float
+tick = fin false 1 (negsuc 13)
+
+abbrev pub seconds : Float → Adsr
+seconds s = settings one one s one
+
+-- the sample that reaches the peak has already moved the decay's time by one step
+pub peak-moves : stepOf (seconds half) tick (at Attack half one naught) ≡ at Decay one tick naught
+unfolding stepOf ofBits add div le
+peak-moves = refl
+
+-- the attack starts at 0, whatever the level was
+pub attack-from-naught : stepOf (seconds half) tick (triggeredOf (at Sustain half naught naught)) ≡ at Attack naught tick naught
+unfolding stepOf ofBits add div le
+attack-from-naught = refl
+
+-- a release ends at 1e-6 itself
+pub floor-ends : stepOf (seconds half) tick (at Release silent naught silent) ≡ at Idle naught naught silent
+unfolding stepOf ofBits sub mul div le
+floor-ends = refl
+
+-- at rest a note's end changes nothing; else the release starts from the level at hand
+pub releases : (releasedOf (at Idle half one one) ≡ at Idle half one one) × (releasedOf (at Decay half one naught) ≡ at Release half naught half)
+unfolding releasedOf
+releases = (refl, refl)
+
+-- a decay need not end at progress 1: at a sustain level of 0.3 it is above it there, at 0.30000000000000004
+abbrev pub threeTenths : Float
+threeTenths = ofBits binary64 0x3fd3_3333_3333_3333
+
+pub decay-goes-on : (decayLevel one threeTenths (at Decay one one naught) ≡ ofBits binary64 0x3fd3_3333_3333_3334) × (stepOf (seconds threeTenths) tick (at Decay one one naught) .stage ≡ Decay)
+unfolding stepOf ofBits add sub mul div le
+decay-goes-on = (refl, refl)

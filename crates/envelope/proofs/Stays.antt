@@ -1,0 +1,91 @@
+-- Through any number of samples, and through any calls from `new`, the envelope stays accepted: both levels from 0 to 1, the time from 0 to 11, and every level that is written from 0 to 1.
+-- The sustain setting is a value of an f64, which is what owning it tells. Assumes nothing.
+use mathlib.Core.Path.{_≡_, refl, sym, subst}
+use mathlib.Core.Bool.{Bool, true, false, _&&_}
+use mathlib.Core.List.{List, [], _∷_}
+use Prim.Native.Nat.{ℕ, zero, suc, _<_}
+use lib.Dec.{T}
+use lib.ListN.{length, getD}
+use lib.Ieee.{Float, nan, binary64, fits}
+use lib.Ieee.Fits.{and-l, and-r}
+use Rattle.floats.specs.Range.{within}
+use Rattle.floats.specs.Double.{naught, one}
+use Rattle.envelope.specs.Limits.{isAdsr, isRate, isEnvelope, clampedOf, sampleTimeOf}
+use Rattle.envelope.specs.Stages.{freshOf, triggeredOf, releasedOf}
+use Rattle.envelope.specs.Running.{envelopeFrom, levelsFrom}
+use Rattle.envelope.specs.Calls.{judgedOf, handedOf, changedOf, newOf, noteOnOf, noteOffOf, resetOf, processOf}
+use Rattle.envelope.specs.declared.Adsr.{Adsr}
+use Rattle.envelope.specs.declared.Envelope.{Envelope}
+use Rattle.envelope.specs.declared.EnvelopeBlock.{EnvelopeBlock}
+use Rattle.envelope.proofs.Inside.{is-inside}
+use Rattle.envelope.proofs.Keeps.{step-keeps, fresh-accepted, triggered-keeps, released-keeps}
+use Rattle.envelope.proofs.RunsOn.{level-at}
+
+-- ---- samples
+module _ (k : Adsr) (rate : ℕ) (e : Envelope) (a : T (isAdsr k)) (w : T (fits binary64 (k .sustain))) (r : T (isRate rate)) (h : T (isEnvelope e)) where
+  pub run-keeps : (n : ℕ) → T (isEnvelope (envelopeFrom (clampedOf k) (sampleTimeOf rate) e n))
+  unfolding envelopeFrom
+  run-keeps zero = h
+  run-keeps (suc n) = step-keeps k rate (envelopeFrom (clampedOf k) (sampleTimeOf rate) e n) a w r (run-keeps n)
+
+  -- every level lies from 0 to 1
+  pub levels-in : (i n : ℕ) → i < n → T (within naught one (getD (levelsFrom (clampedOf k) (sampleTimeOf rate) e n) i nan))
+  levels-in i n l = rw (level-at (clampedOf k) (sampleTimeOf rate) e i n l) (is-inside _ (run-keeps (suc i)) .level-in)
+
+-- ---- calls
+pub record Good (b : EnvelopeBlock) : Type 0 where
+  pub sustain-fits : T (fits binary64 (b .adsr .sustain))
+  pub accepted : T (isEnvelope (b .envelope))
+
+-- a refusal hands the block back, and what is done is good
+change-keeps : (b : EnvelopeBlock) (e : Envelope) → Good b → T (isEnvelope e) → Good (changedOf b e .block)
+change-keeps b e g h = go (isEnvelope (b .envelope))
+  where
+    go : (sound : Bool) → Good (handedOf (judgedOf true sound 0) b e .block)
+    go true = record { sustain-fits = g .sustain-fits; accepted = h }
+    go false = g
+
+process-keeps : (b : EnvelopeBlock) (rate : ℕ) (xs : List Float) → Good b → Good (processOf b rate xs .result .block)
+unfolding processOf
+process-keeps b rate xs g = go (isAdsr (b .adsr) && isRate rate) (isEnvelope (b .envelope)) refl
+  where
+    go : (usable sound : Bool) → (isAdsr (b .adsr) && isRate rate) ≡ usable → Good (handedOf (judgedOf usable sound (length xs)) b (envelopeFrom (clampedOf (b .adsr)) (sampleTimeOf rate) (b .envelope) (length xs)) .block)
+    go true true u =
+        let t : T (isAdsr (b .adsr) && isRate rate) = subst T (sym u) tt in
+        record {
+          sustain-fits = g .sustain-fits;
+          accepted = run-keeps (b .adsr) rate (b .envelope) (and-l (isAdsr (b .adsr)) (isRate rate) t) (g .sustain-fits) (and-r (isAdsr (b .adsr)) (isRate rate) t) (g .accepted) (length xs);
+        }
+    go true false u = g
+    go false sound u = g
+
+pub data Call : Type 0 where
+  on off reset : Call
+  process : ℕ → List Float → Call
+
+-- the block after a call
+abbrev pub after : EnvelopeBlock → Call → EnvelopeBlock
+after b on = noteOnOf b .block
+after b off = noteOffOf b .block
+after b reset = resetOf b .block
+after b (process rate xs) = processOf b rate xs .result .block
+
+after-keeps : (b : EnvelopeBlock) (c : Call) → Good b → Good (after b c)
+after-keeps b on g = change-keeps b (triggeredOf (b .envelope)) g (triggered-keeps (b .envelope) (g .accepted))
+after-keeps b off g = change-keeps b (releasedOf (b .envelope)) g (released-keeps (b .envelope) (g .accepted))
+after-keeps b reset g = change-keeps b freshOf g fresh-accepted
+after-keeps b (process rate xs) g = process-keeps b rate xs g
+
+-- the block after the calls of a list, from b
+unfoldable pub run : EnvelopeBlock → List Call → EnvelopeBlock
+run b [] = b
+run b (c ∷ cs) = run (after b c) cs
+
+calls-keep : (b : EnvelopeBlock) (cs : List Call) → Good b → Good (run b cs)
+unfolding run
+calls-keep b [] g = g
+calls-keep b (c ∷ cs) g = calls-keep (after b c) cs (after-keeps b c g)
+
+-- from `new`, through any calls, refused ones too, the envelope stays within the limits: so no call refuses it
+pub stays : (attack decay sustain release : Float) → T (fits binary64 sustain) → (cs : List Call) → T (isEnvelope (run (newOf attack decay sustain release) cs .envelope))
+stays attack decay sustain release w cs = calls-keep (newOf attack decay sustain release) cs (record { sustain-fits = w; accepted = fresh-accepted }) .accepted

@@ -1,0 +1,4 @@
+pub mod Limits
+pub mod Stages
+pub mod Running
+pub mod Calls

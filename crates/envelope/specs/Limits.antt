@@ -1,0 +1,47 @@
+-- What the envelope accepts, and what it makes of its settings. 01: "Block calls take a rate of 8,000 to 192,000 (whole Hz)"; "ADSR settings may be anything but NaN";
+-- "voice and envelope fields within the shelf's limits", which are "stage_time 0 to 11, levels .. 0 to 1"; "times clamp to 0.001 to 10 s, sustain to 0 to 1".
+-- Ranges are comparisons of floats: a NaN is outside, and -0 counts as 0. Definitions only.
+use mathlib.Core.Bool.{Bool, not, _&&_, cond}
+use Prim.Native.Nat.{ℕ}
+use lib.Dec.{leb}
+use lib.IntN.{pos}
+use lib.Ieee.{Float, binary64, ofBits, ofInt, isNan, lt}
+use Rattle.floats.specs.Range.{within}
+use Rattle.floats.specs.Double.{_⊘_, naught, one}
+use Rattle.envelope.specs.declared.Adsr.{Adsr}
+use Rattle.envelope.specs.declared.Envelope.{Envelope}
+
+-- 0.001, 10 and 11
+abbrev pub milli : Float
+milli = ofBits binary64 0x3f50_624d_d2f1_a9fc
+
+abbrev pub ten : Float
+ten = ofBits binary64 0x4024_0000_0000_0000
+
+abbrev pub eleven : Float
+eleven = ofBits binary64 0x4026_0000_0000_0000
+
+-- ---- what is accepted
+-- no setting is a NaN
+unfoldable pub isAdsr : Adsr → Bool
+isAdsr k = not (isNan (k .attack)) && not (isNan (k .decay)) && not (isNan (k .sustain)) && not (isNan (k .release))
+
+unfoldable pub isRate : ℕ → Bool
+isRate rate = leb 8000 rate && leb rate 192000
+
+-- both levels 0 to 1, the time 0 to 11
+unfoldable pub isEnvelope : Envelope → Bool
+isEnvelope e = within naught one (e .level) && within naught one (e .«release_level») && within naught eleven (e .«stage_time»)
+
+-- ---- what is made of the settings
+-- `f64::clamp`: what is not below lo and not above hi stays as it is, -0 at 0 too
+abbrev pub clampOf : Float → Float → Float → Float
+clampOf lo hi x = cond (lt x lo) lo (cond (lt hi x) hi x)
+
+-- times to 0.001 to 10 s, sustain to 0 to 1
+unfoldable pub clampedOf : Adsr → Adsr
+clampedOf k = record { attack = clampOf milli ten (k .attack); decay = clampOf milli ten (k .decay); sustain = clampOf naught one (k .sustain); release = clampOf milli ten (k .release) }
+
+-- the time of one sample, in seconds
+unfoldable pub sampleTimeOf : ℕ → Float
+sampleTimeOf rate = one ⊘ ofInt binary64 (pos rate)

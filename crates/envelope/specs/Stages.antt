@@ -1,0 +1,88 @@
+-- One sample of the envelope, and what a note does to it. 01: "Stage rules, the floor 1e-6, and the growth of stage_time in all stages but Idle and Sustain are those of envelope.rs";
+-- "each operation rounded once, in this order". A stage's rule sets the level, which is the sample's, and may change the stage and set the time to 0; then the time
+-- grows by that of a sample, unless the stage that the rule leaves is Idle or Sustain: so it grows on the very sample of the peak. Settings are clamped already. Definitions only.
+use mathlib.Core.Bool.{Bool, true, false, cond}
+use lib.Ieee.{Float, binary64, ofBits, le}
+use Rattle.floats.specs.Double.{_⊕_, _⊖_, _⊗_, _⊘_, naught, one}
+use Rattle.envelope.specs.declared.Adsr.{Adsr}
+use Rattle.envelope.specs.declared.Envelope.{Envelope}
+use Rattle.envelope.specs.declared.EnvelopeStage.{EnvelopeStage}
+use Rattle.envelope.specs.declared.EnvelopeStage.the-variants.{Idle, Attack, Decay, Sustain, Release}
+
+-- 1e-6
+abbrev pub silent : Float
+silent = ofBits binary64 0x3eb0_c6f7_a0b5_ed8d
+
+-- stage, level and time are set; the release level stays
+abbrev pub movedOf : Envelope → EnvelopeStage → Float → Float → Envelope
+movedOf e stage level time = record { stage = stage; level = level; «stage_time» = time; «release_level» = e .«release_level» }
+
+-- ---- the level of each stage that moves
+-- from 0 to 1, whatever the level was before
+abbrev pub attackLevel : Float → Envelope → Float
+attackLevel attack e = e .«stage_time» ⊘ attack
+
+-- from 1 to the sustain level
+abbrev pub decayLevel : Float → Float → Envelope → Float
+decayLevel decay sustain e = one ⊖ (one ⊖ sustain) ⊗ (e .«stage_time» ⊘ decay)
+
+-- from the level at the release to 0
+abbrev pub releaseLevel : Float → Envelope → Float
+releaseLevel release e = e .«release_level» ⊗ (one ⊖ e .«stage_time» ⊘ release)
+
+-- ---- the rules
+abbrev pub attackRule : Float → Envelope → Envelope
+attackRule attack e =
+    let x = attackLevel attack e in
+    cond (le one x) (movedOf e Decay one naught) (movedOf e Attack x (e .«stage_time»))
+
+abbrev pub decayRule : Float → Float → Envelope → Envelope
+decayRule decay sustain e =
+    let x = decayLevel decay sustain e in
+    cond (le x sustain) (movedOf e Sustain sustain naught) (movedOf e Decay x (e .«stage_time»))
+
+abbrev pub releaseRule : Float → Envelope → Envelope
+releaseRule release e =
+    let x = releaseLevel release e in
+    cond (le x silent) (movedOf e Idle naught naught) (movedOf e Release x (e .«stage_time»))
+
+abbrev pub ruleOf : EnvelopeStage → Adsr → Envelope → Envelope
+ruleOf Idle k e = movedOf e Idle naught (e .«stage_time»)
+ruleOf Attack k e = attackRule (k .attack) e
+ruleOf Decay k e = decayRule (k .decay) (k .sustain) e
+ruleOf Sustain k e = movedOf e Sustain (k .sustain) (e .«stage_time»)
+ruleOf Release k e = releaseRule (k .release) e
+
+-- ---- the growth of the time
+abbrev pub grows : EnvelopeStage → Bool
+grows Idle = false
+grows Attack = true
+grows Decay = true
+grows Sustain = false
+grows Release = true
+
+abbrev pub grownOf : Float → Envelope → Envelope
+grownOf t e = cond (grows (e .stage)) (movedOf e (e .stage) (e .level) (e .«stage_time» ⊕ t)) e
+
+-- one sample: its level is the level of the envelope after it
+unfoldable pub stepOf : Adsr → Float → Envelope → Envelope
+stepOf k t e = grownOf t (ruleOf (e .stage) k e)
+
+-- ---- notes
+abbrev pub freshOf : Envelope
+freshOf = record { stage = Idle; level = naught; «stage_time» = naught; «release_level» = naught }
+
+-- a note begins: both levels stay
+abbrev pub triggeredOf : Envelope → Envelope
+triggeredOf e = movedOf e Attack (e .level) naught
+
+abbrev pub restsIn : EnvelopeStage → Bool
+restsIn Idle = true
+restsIn Attack = false
+restsIn Decay = false
+restsIn Sustain = false
+restsIn Release = false
+
+-- a note ends, if the envelope is not at rest: the release starts from the level at hand
+unfoldable pub releasedOf : Envelope → Envelope
+releasedOf e = cond (restsIn (e .stage)) e (record { stage = Release; level = e .level; «stage_time» = naught; «release_level» = e .level })

@@ -1,0 +1,331 @@
+// envelope.rs of the original: an ADSR level, one step a sample, in f64. State goes in by value and is handed back; the
+// part that moves, `Envelope`, stands apart from the settings, `Adsr`, so that a render can hold it alone.
+ghost use mathlib.Core.Path.{_≡_};
+ghost use mathlib.Core.Bool.{not};
+ghost use lib.ListN.{length};
+ghost use lib.Ieee.{isNan};
+ghost use Rattle.floats.specs.Range.{within};
+ghost use Rattle.envelope.specs.Limits.{isAdsr, isRate, isEnvelope, clampOf, clampedOf, sampleTimeOf};
+ghost use Rattle.envelope.specs.Stages.{movedOf, attackRule, decayRule, releaseRule, grownOf, stepOf, freshOf, triggeredOf, restsIn, releasedOf};
+ghost use Rattle.envelope.specs.Running.{Filled};
+ghost use Rattle.envelope.specs.Calls.{judgedOf, changedOf, newOf, noteOnOf, noteOffOf, resetOf, leaves, processOf};
+use answers::Answer;
+use answers::Refusal;
+
+// A release ends at this level.
+const FLOOR: f64 = 0.000001;
+
+pub enum EnvelopeStage {
+    Idle,
+    Attack,
+    Decay,
+    Sustain,
+    Release,
+}
+
+// The part that moves: the level of the last sample, the seconds spent in the stage, and the level at the release.
+pub struct Envelope {
+    pub stage: EnvelopeStage,
+    pub level: f64,
+    pub stage_time: f64,
+    pub release_level: f64,
+}
+
+// The settings: three times in seconds, and the level of Sustain.
+pub struct Adsr {
+    pub attack: f64,
+    pub decay: f64,
+    pub sustain: f64,
+    pub release: f64,
+}
+
+pub struct EnvelopeBlock {
+    pub adsr: Adsr,
+    pub envelope: Envelope,
+}
+
+// What a call answers, and the block after it.
+pub struct Processed {
+    pub answer: Answer,
+    pub block: EnvelopeBlock,
+}
+
+impl EnvelopeBlock {
+    // At rest, with the settings as they are given: they are judged and clamped where they are used.
+    pub fn new(attack: f64, decay: f64, sustain: f64, release: f64) -> EnvelopeBlock
+        ensures { λ r. ⌜ r ≡ newOf attack decay sustain release ⌝ }
+    {
+        EnvelopeBlock {
+            adsr: Adsr {
+                attack,
+                decay,
+                sustain,
+                release,
+            },
+            envelope: fresh(),
+        }
+    }
+
+    pub fn note_on(self) -> Processed
+        ensures { λ r. ⌜ r ≡ noteOnOf self ⌝ }
+    {
+        changed(self, triggered(self.envelope))
+    }
+
+    pub fn note_off(self) -> Processed
+        ensures { λ r. ⌜ r ≡ noteOffOf self ⌝ }
+    {
+        changed(self, released(self.envelope))
+    }
+
+    // At rest again; the settings stay.
+    pub fn reset(self) -> Processed
+        ensures { λ r. ⌜ r ≡ resetOf self ⌝ }
+    {
+        changed(self, fresh())
+    }
+
+    // Writes the level of a sample into every element of out.
+    pub fn process(self, rate: u32, out: &mut [f64]) -> Processed
+        ensures { λ r. ⌜ leaves r (now (out .exit)) ≡ processOf self rate (now (out .entry)) ⌝ }
+    {
+        let usable = is_adsr(self.adsr) & is_rate(rate);
+        let sound = is_envelope(self.envelope);
+        let answer = judged(usable, sound, out.len());
+        let adsr = self.adsr;
+        let mut envelope = self.envelope;
+        if usable & sound {
+            envelope = fill(clamped(adsr), sample_time(rate), envelope, out);
+        }
+        Processed {
+            answer,
+            block: EnvelopeBlock { adsr, envelope },
+        }
+    }
+}
+
+// At rest.
+pub fn fresh() -> Envelope
+    ensures { λ r. ⌜ r ≡ freshOf ⌝ }
+{
+    Envelope {
+        stage: EnvelopeStage::Idle,
+        level: 0.0,
+        stage_time: 0.0,
+        release_level: 0.0,
+    }
+}
+
+// A note begins: the attack starts at 0, whatever the level is.
+pub fn triggered(e: Envelope) -> Envelope
+    ensures { λ r. ⌜ r ≡ triggeredOf e ⌝ }
+{
+    moved(e, EnvelopeStage::Attack, e.level, 0.0)
+}
+
+// A note ends: at rest nothing happens, else the release starts from the level at hand.
+pub fn released(e: Envelope) -> Envelope
+    ensures { λ r. ⌜ r ≡ releasedOf e ⌝ }
+{
+    let stage = e.stage;
+    if rests(stage) {
+        return e;
+    }
+    Envelope {
+        stage: EnvelopeStage::Release,
+        level: e.level,
+        stage_time: 0.0,
+        release_level: e.level,
+    }
+}
+
+// Settings that are accepted: none is a NaN.
+pub fn is_adsr(adsr: Adsr) -> bool
+    ensures { λ r. ⌜ r ≡ isAdsr adsr ⌝ }
+{
+    is_number(adsr.attack)
+        & is_number(adsr.decay)
+        & is_number(adsr.sustain)
+        & is_number(adsr.release)
+}
+
+// A rate that is accepted, in Hz.
+pub fn is_rate(rate: u32) -> bool
+    ensures { λ r. ⌜ r ≡ isRate rate ⌝ }
+{
+    (8000 <= rate) & (rate <= 192000)
+}
+
+// An envelope that is accepted: the shelf's limits.
+pub fn is_envelope(e: Envelope) -> bool
+    ensures { λ r. ⌜ r ≡ isEnvelope e ⌝ }
+{
+    is_within(0.0, 1.0, e.level)
+        & is_within(0.0, 1.0, e.release_level)
+        & is_within(0.0, 11.0, e.stage_time)
+}
+
+// Times between a millisecond and ten seconds, sustain between 0 and 1.
+pub fn clamped(adsr: Adsr) -> Adsr
+    ensures { λ r. ⌜ r ≡ clampedOf adsr ⌝ }
+{
+    Adsr {
+        attack: clamp(0.001, 10.0, adsr.attack),
+        decay: clamp(0.001, 10.0, adsr.decay),
+        sustain: clamp(0.0, 1.0, adsr.sustain),
+        release: clamp(0.001, 10.0, adsr.release),
+    }
+}
+
+// The seconds of one sample.
+pub fn sample_time(rate: u32) -> f64
+    ensures { λ r. ⌜ r ≡ sampleTimeOf rate ⌝ }
+{
+    1.0 / (rate as f64)
+}
+
+// One sample, under clamped settings: its level is that of the envelope after it.
+pub fn step(adsr: Adsr, sample_time: f64, e: Envelope) -> Envelope
+    ensures { λ r. ⌜ r ≡ stepOf adsr «sample_time» e ⌝ }
+{
+    let stage = e.stage;
+    match stage {
+        EnvelopeStage::Idle => moved(e, EnvelopeStage::Idle, 0.0, e.stage_time),
+        EnvelopeStage::Attack => attack_step(adsr.attack, sample_time, e),
+        EnvelopeStage::Decay => decay_step(adsr.decay, adsr.sustain, sample_time, e),
+        EnvelopeStage::Sustain => moved(e, EnvelopeStage::Sustain, adsr.sustain, e.stage_time),
+        EnvelopeStage::Release => release_step(adsr.release, sample_time, e),
+    }
+}
+
+// From 0 to 1; the sample that reaches 1 is the first of the decay's time.
+fn attack_step(attack: f64, sample_time: f64, e: Envelope) -> Envelope
+    ensures { λ r. ⌜ r ≡ grownOf «sample_time» (attackRule attack e) ⌝ }
+{
+    let level = e.stage_time / attack;
+    if level >= 1.0 {
+        return moved(e, EnvelopeStage::Decay, 1.0, 0.0 + sample_time);
+    }
+    moved(e, EnvelopeStage::Attack, level, e.stage_time + sample_time)
+}
+
+// From 1 to the sustain level.
+fn decay_step(decay: f64, sustain: f64, sample_time: f64, e: Envelope) -> Envelope
+    ensures { λ r. ⌜ r ≡ grownOf «sample_time» (decayRule decay sustain e) ⌝ }
+{
+    let progress = e.stage_time / decay;
+    let level = 1.0 - (1.0 - sustain) * progress;
+    if level <= sustain {
+        return moved(e, EnvelopeStage::Sustain, sustain, 0.0);
+    }
+    moved(e, EnvelopeStage::Decay, level, e.stage_time + sample_time)
+}
+
+// From the release level to 0.
+fn release_step(release: f64, sample_time: f64, e: Envelope) -> Envelope
+    ensures { λ r. ⌜ r ≡ grownOf «sample_time» (releaseRule release e) ⌝ }
+{
+    let progress = e.stage_time / release;
+    let level = e.release_level * (1.0 - progress);
+    if level <= FLOOR {
+        return moved(e, EnvelopeStage::Idle, 0.0, 0.0);
+    }
+    moved(e, EnvelopeStage::Release, level, e.stage_time + sample_time)
+}
+
+// The release level stays.
+fn moved(e: Envelope, stage: EnvelopeStage, level: f64, stage_time: f64) -> Envelope
+    ensures { λ r. ⌜ r ≡ movedOf e stage level «stage_time» ⌝ }
+{
+    Envelope {
+        stage,
+        level,
+        stage_time,
+        release_level: e.release_level,
+    }
+}
+
+fn rests(stage: EnvelopeStage) -> bool
+    ensures { λ r. ⌜ r ≡ restsIn stage ⌝ }
+{
+    match stage {
+        EnvelopeStage::Idle => true,
+        EnvelopeStage::Attack => false,
+        EnvelopeStage::Decay => false,
+        EnvelopeStage::Sustain => false,
+        EnvelopeStage::Release => false,
+    }
+}
+
+// One step an element; the envelope after them.
+fn fill(adsr: Adsr, sample_time: f64, e: Envelope, out: &mut [f64]) -> Envelope
+    ensures { λ r. ⌜ Filled adsr «sample_time» e (length (now (out .entry))) (now (out .exit)) r ⌝ }
+{
+    let mut after = e;
+    let mut i = 0;
+    while i < out.len() {
+        after = step(adsr, sample_time, after);
+        out[i] = after.level;
+        i += 1;
+    }
+    after
+}
+
+// `f64::clamp`, for every number and a NaN: what lies between the bounds stays as it is.
+fn clamp(low: f64, high: f64, x: f64) -> f64
+    ensures { λ r. ⌜ r ≡ clampOf low high x ⌝ }
+{
+    if x < low {
+        return low;
+    }
+    if x > high {
+        return high;
+    }
+    x
+}
+
+fn is_within(low: f64, high: f64, x: f64) -> bool
+    ensures { λ r. ⌜ r ≡ within low high x ⌝ }
+{
+    (low <= x) & (x <= high)
+}
+
+// A NaN alone is not equal to itself.
+fn is_number(x: f64) -> bool
+    ensures { λ r. ⌜ r ≡ not (isNan x) ⌝ }
+{
+    x == x
+}
+
+// The first refusal that holds, or done.
+fn judged(usable: bool, sound: bool, count: usize) -> Answer
+    ensures { λ r. ⌜ r ≡ judgedOf usable sound count ⌝ }
+{
+    if usable {
+        if sound {
+            return Answer::Done(count);
+        }
+        return Answer::Refused(Refusal::Argument);
+    }
+    Answer::Refused(Refusal::Setting)
+}
+
+// The block with the envelope after a call, or a refusal with the block as it came.
+fn changed(before: EnvelopeBlock, after: Envelope) -> Processed
+    ensures { λ r. ⌜ r ≡ changedOf before after ⌝ }
+{
+    let adsr = before.adsr;
+    if is_envelope(before.envelope) {
+        return Processed {
+            answer: Answer::Done(0),
+            block: EnvelopeBlock {
+                adsr,
+                envelope: after,
+            },
+        };
+    }
+    Processed {
+        answer: Answer::Refused(Refusal::Argument),
+        block: before,
+    }
+}

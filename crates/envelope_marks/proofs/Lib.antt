@@ -1,0 +1,2 @@
+-- 01's marks (i) and (j)
+pub mod Marks

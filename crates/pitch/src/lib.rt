@@ -1,0 +1,67 @@
+// The pitch of a note, in Hz: the original's `midi_note_to_frequency`, as a table of its answers (specs/Patterns.antt).
+ghost use mathlib.Core.Path.{_≡_};
+ghost use Rattle.pitch.specs.Pitch.{frequencyOf, isNote, frequencyIf, midiNoteToFrequencyOf, midiNoteToFrequencyF64Of};
+use answers::Answer;
+use answers::Refusal;
+use answers::Value;
+
+mod table;
+
+// A frequency beside its answer; +0 where the call was refused.
+pub struct Frequency {
+    pub answer: Answer,
+    pub value: f32,
+}
+
+// The frequency of a note from 0 to 127.
+pub fn midi_note_to_frequency(note: u8) -> Frequency
+    ensures { λ r. ⌜ r ≡ midiNoteToFrequencyOf note ⌝ }
+{
+    frequency_if(is_note(note), frequency_of(note))
+}
+
+// The same, widened.
+pub fn midi_note_to_frequency_f64(note: u8) -> Value
+    ensures { λ r. ⌜ r ≡ midiNoteToFrequencyF64Of note ⌝ }
+{
+    answers::value_if(is_note(note), Refusal::Argument, frequency_of_f64(note))
+}
+
+// The frequency of a note that is known to be one; +0 above 127.
+pub fn frequency_of(note: u8) -> f32
+    ensures { λ r. ⌜ r ≡ frequencyOf note ⌝ }
+{
+    if note < 128 {
+        return table::PITCHES[note as usize];
+    }
+    0.0
+}
+
+// The same, widened.
+pub fn frequency_of_f64(note: u8) -> f64
+    ensures { λ r. ⌜ r ≡ frequencyOf note ⌝ }
+{
+    frequency_of(note) as f64
+}
+
+fn is_note(note: u8) -> bool
+    ensures { λ r. ⌜ r ≡ isNote note ⌝ }
+{
+    note < 128
+}
+
+// The frequency, or a refusal with +0.
+fn frequency_if(ok: bool, value: f32) -> Frequency
+    ensures { λ r. ⌜ r ≡ frequencyIf ok value ⌝ }
+{
+    if ok {
+        return Frequency {
+            answer: Answer::Done(0),
+            value,
+        };
+    }
+    Frequency {
+        answer: Answer::Refused(Refusal::Argument),
+        value: 0.0,
+    }
+}

@@ -1,0 +1,7 @@
+-- What the proofs of this crate and of those above cite.
+-- one sample more, and a block run on
+pub mod Steps
+-- the ranges of what is made of radians
+pub mod Normal
+-- two outcomes of a public function are equal
+pub mod Unique

@@ -1,0 +1,33 @@
+-- Two outcomes that meet a public function's statement are equal. Assumes nothing.
+use mathlib.Core.Path.{_≡_, sym, _∙_}
+use mathlib.Core.Bool.{Bool}
+use mathlib.Core.List.{List}
+use Prim.Native.Nat.{ℕ}
+use lib.Ieee.{Float}
+use Rattle.answers.specs.declared.Value.{Value}
+use Rattle.waveform.specs.declared.Radians.{Radians}
+use Rattle.waveform.specs.declared.Waveform.{Waveform}
+use Rattle.waveform.specs.Waveform.{isWaveform, valueOf, sampleOf, normalOf, reduceOf, incrementOf, radians}
+use Rattle.waveform.specs.Filled.{Filled}
+
+pub sample-unique : (w : Waveform) (phase dt : Float) (r t : Value) → r ≡ sampleOf w phase dt → t ≡ sampleOf w phase dt → r ≡ t
+sample-unique w phase dt r t p q = p ∙ sym q
+
+pub is-waveform-unique : (w : Waveform) (r t : Bool) → r ≡ isWaveform w → t ≡ isWaveform w → r ≡ t
+is-waveform-unique w r t p q = p ∙ sym q
+
+pub value-at-unique : (w : Waveform) (phase dt : Float) (r t : Float) → r ≡ valueOf w phase dt → t ≡ valueOf w phase dt → r ≡ t
+value-at-unique w phase dt r t p q = p ∙ sym q
+
+pub normalised-unique : (phase : Radians) (r t : Float) → r ≡ normalOf (phase .0) → t ≡ normalOf (phase .0) → r ≡ t
+normalised-unique phase r t p q = p ∙ sym q
+
+pub reduced-unique : (phase : Radians) (r t : Radians) → r ≡ radians (reduceOf (phase .0)) → t ≡ radians (reduceOf (phase .0)) → r ≡ t
+reduced-unique phase r t p q = p ∙ sym q
+
+pub increment-unique : (frequency : Float) (rate : ℕ) (r t : Radians) → r ≡ radians (incrementOf frequency rate) → t ≡ radians (incrementOf frequency rate) → r ≡ t
+increment-unique frequency rate r t p q = p ∙ sym q
+
+-- every sample, and the phase
+pub fill-unique : (w : Waveform) (start step scale : Float) (before a b : List Float) (r t : Radians) → Filled w start step scale before a r → Filled w start step scale before b t → (a ≡ b) × (r ≡ t)
+fill-unique w start step scale before a b r t p q = (p .samples ∙ sym (q .samples), p .phase ∙ sym (q .phase))

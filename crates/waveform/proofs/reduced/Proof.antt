@@ -1,0 +1,16 @@
+-- `waveform::reduced` meets its contract. Assumes nothing.
+use mathlib.Core.Path.{refl}
+use Rattle.waveform.specs.Waveform.{reduceOf}
+use Rattle.waveform.proofs.reduced.Statement.{statement}
+use Rattle.waveform.proofs.reduced.Tie as tie
+
+returns : tie.Need-returns
+unfolding reduceOf
+returns c = rw (c .if1 .taken) refl
+
+returns-2 : tie.Need-returns-2
+unfolding reduceOf
+returns-2 c = rw (c .if1 .left) refl
+
+pub reduced-spec : {M : Type 1} → statement M
+reduced-spec = tie.close (tie.spec returns returns-2)

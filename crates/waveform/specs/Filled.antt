@@ -1,0 +1,30 @@
+-- A block, sample by sample. 01: "For each sample the value is taken from (phase % TAU) * INV_TAU with dt = increment * INV_TAU, times depth in the LFO, then phase grows by the increment." Definitions only.
+use mathlib.Core.Path.{_≡_}
+use mathlib.Core.List.{List, [], _∷_, _++_}
+use Prim.Native.Nat.{ℕ, zero, suc}
+use lib.ListN.{length}
+use lib.Ieee.{Float}
+use Rattle.floats.specs.Double.{_⊕_, _⊗_}
+use Rattle.waveform.specs.declared.Radians.{Radians}
+use Rattle.waveform.specs.declared.Waveform.{Waveform}
+use Rattle.waveform.specs.Waveform.{valueOf, normalOf, invTau, radians}
+
+-- the phase before sample k, from p before sample 0
+unfoldable pub phaseFrom : Float → Float → ℕ → Float
+phaseFrom step p zero = p
+phaseFrom step p (suc k) = phaseFrom step p k ⊕ step
+
+-- the value at a phase of p radians
+abbrev pub valueAt : Waveform → Float → Float → Float
+valueAt w step p = valueOf w (normalOf p) (step ⊗ invTau)
+
+-- the first k samples
+unfoldable pub samplesFrom : Waveform → Float → Float → Float → ℕ → List Float
+unfolding phaseFrom
+samplesFrom w step scale p zero = []
+samplesFrom w step scale p (suc k) = samplesFrom w step scale p k ++ (valueAt w step (phaseFrom step p k) ⊗ scale ∷ [])
+
+-- every sample written, and the phase after the last
+pub record Filled (w : Waveform) (p step scale : Float) (before after : List Float) (r : Radians) : Type 0 where
+  pub samples : after ≡ samplesFrom w step scale p (length before)
+  pub phase : r ≡ radians (phaseFrom step p (length before))

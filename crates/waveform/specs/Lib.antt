@@ -1,0 +1,2 @@
+pub mod Waveform
+pub mod Filled

@@ -1,0 +1,112 @@
+// waveform.rs of the original: one sample of a waveform, and the inner loop of a block. Phases are radians here; what a
+// single sample takes is a phase and a step of it normalised to a cycle, made of radians in one function.
+ghost use mathlib.Core.Path.{_≡_};
+ghost use lib.ListN.{length};
+ghost use Rattle.waveform.specs.Waveform.{isWaveform, valueOf, sampleOf, normalOf, reduceOf, incrementOf, radians};
+ghost use Rattle.waveform.specs.Filled.{Filled};
+use answers::Refusal;
+use answers::Value;
+
+// The bits of the original's constants.
+const TAU: f64 = 6.283185307179586;
+
+const INV_TAU: f64 = 0.15915494309189535;
+
+// A number of radians; a number of cycles is another type.
+pub struct Radians(pub f64);
+
+// The shape; a pulse carries its own duty, the part of the cycle that it is high.
+pub enum Waveform {
+    Sine,
+    Square,
+    Sawtooth,
+    Triangle,
+    Pulse(f64),
+}
+
+// One sample at a normalised phase and step.
+pub fn sample(waveform: Waveform, phase: f64, dt: f64) -> Value
+    ensures { λ r. ⌜ r ≡ sampleOf waveform phase dt ⌝ }
+{
+    if is_waveform(waveform) {
+        return answers::value_if(
+            polyblep::is_phase(phase, dt),
+            Refusal::Argument,
+            value_at(waveform, phase, dt),
+        );
+    }
+    answers::value_if(false, Refusal::Setting, 0.0)
+}
+
+// A duty outside 0 to 1 is no setting.
+pub fn is_waveform(waveform: Waveform) -> bool
+    ensures { λ r. ⌜ r ≡ isWaveform waveform ⌝ }
+{
+    match waveform {
+        Waveform::Sine => true,
+        Waveform::Square => true,
+        Waveform::Sawtooth => true,
+        Waveform::Triangle => true,
+        Waveform::Pulse(duty) => polyblep::is_duty(duty),
+    }
+}
+
+// The same for any numbers, judged or not.
+pub fn value_at(waveform: Waveform, phase: f64, dt: f64) -> f64
+    ensures { λ r. ⌜ r ≡ valueOf waveform phase dt ⌝ }
+{
+    match waveform {
+        Waveform::Sine => sine::reading(phase),
+        Waveform::Square => polyblep::square(phase, dt),
+        Waveform::Sawtooth => polyblep::saw(phase, dt),
+        Waveform::Triangle => polyblep::triangle(phase, dt),
+        Waveform::Pulse(duty) => polyblep::pulse(phase, dt, duty),
+    }
+}
+
+// A phase in radians as a part of a cycle.
+pub fn normalised(phase: Radians) -> f64
+    ensures { λ r. ⌜ r ≡ normalOf (phase .0) ⌝ }
+{
+    phase.0 % TAU * INV_TAU
+}
+
+// A phase less its whole cycles, from 0 on.
+pub fn reduced(phase: Radians) -> Radians
+    ensures { λ r. ⌜ r ≡ radians (reduceOf (phase .0)) ⌝ }
+{
+    let r = phase.0 % TAU;
+    if r < 0.0 {
+        return Radians(r + TAU);
+    }
+    Radians(r)
+}
+
+// How far the phase moves in one sample, of a frequency in Hz at a rate in Hz.
+pub fn increment(frequency: f64, rate: u32) -> Radians
+    ensures { λ r. ⌜ r ≡ radians (incrementOf frequency rate) ⌝ }
+{
+    Radians(frequency / rate as f64 * TAU)
+}
+
+// The inner loop of a block: the value times the scale at each sample, and the phase after the last, which is not
+// reduced: a part of a render is lent to it, and the end of a part reduces nothing.
+pub fn fill(
+    out: &mut [f64],
+    waveform: Waveform,
+    start: Radians,
+    step: Radians,
+    scale: f64,
+) -> Radians
+    ensures { λ r. ⌜ Filled waveform (start .0) (step .0) scale (now (out .entry)) (now (out .exit)) r ⌝ }
+{
+    let dt = step.0 * INV_TAU;
+    let mut phase = start.0;
+    let mut i = 0;
+    while i < out.len() {
+        out[i] = value_at(waveform, normalised(Radians(phase)), dt) * scale;
+        phase = phase + step.0;
+        i += 1;
+    }
+    Radians(phase)
+}
