@@ -1,4 +1,4 @@
--- What the tests of specs/Limits.antt say, part by part: an accepted envelope is `Inside` its limits, accepted settings are `Bounded`, and the time of a sample at an accepted rate is a `Tick`.
+-- What the tests of specs/Limits.antt say, part by part: an accepted envelope is `Inside` its limits, accepted settings, clamped, are `Bounded`, and the time of a sample at an accepted rate is a `Tick`.
 -- Assumes nothing.
 use mathlib.Core.Bool.{Bool, true, false, not, _&&_, cond}
 use Prim.Native.Nat.{ℕ, _≤_}

@@ -1,4 +1,4 @@
--- Through any number of samples, and through any calls from `new`, the envelope stays accepted: both levels from 0 to 1, the time from 0 to 11, and every level that is written from 0 to 1.
+-- Through any number of samples, and through any calls from `new`, the envelope stays accepted: both levels from 0 to 1 and the time from 0 to 11; and the levels of a run of samples lie from 0 to 1.
 -- The sustain setting is a value of an f64, which is what owning it tells. Assumes nothing.
 use mathlib.Core.Path.{_≡_, refl, sym, subst}
 use mathlib.Core.Bool.{Bool, true, false, _&&_}

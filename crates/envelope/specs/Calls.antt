@@ -60,7 +60,7 @@ abbrev pub writtenOf : Answer → List Float → List Float → List Float
 writtenOf (Done n) before after = after
 writtenOf (Refused why) before after = before
 
--- every lent number is a level
+-- where it is done, every lent number is a level
 unfoldable pub processOf : EnvelopeBlock → ℕ → List Float → Outcome
 processOf b rate xs =
     let n = length xs in

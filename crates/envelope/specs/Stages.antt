@@ -1,6 +1,6 @@
 -- One sample of the envelope, and what a note does to it. 01: "Stage rules, the floor 1e-6, and the growth of stage_time in all stages but Idle and Sustain are those of envelope.rs";
 -- "each operation rounded once, in this order". A stage's rule sets the level, which is the sample's, and may change the stage and set the time to 0; then the time
--- grows by that of a sample, unless the stage that the rule leaves is Idle or Sustain: so it grows on the very sample of the peak. Settings are clamped already. Definitions only.
+-- grows by that of a sample, unless the stage after the rule is Idle or Sustain: so it grows on the very sample of the peak. Settings are clamped already. Definitions only.
 use mathlib.Core.Bool.{Bool, true, false, cond}
 use lib.Ieee.{Float, binary64, ofBits, le}
 use Rattle.floats.specs.Double.{_⊕_, _⊖_, _⊗_, _⊘_, naught, one}

@@ -23,7 +23,8 @@ pub enum EnvelopeStage {
     Release,
 }
 
-// The part that moves: the level of the last sample, the seconds spent in the stage, and the level at the release.
+// The part that moves: the level of the last sample, the stage's time at the next one in seconds (it stands in Idle and
+// Sustain), and the level at the release.
 pub struct Envelope {
     pub stage: EnvelopeStage,
     pub level: f64,
@@ -85,7 +86,7 @@ impl EnvelopeBlock {
         changed(self, fresh())
     }
 
-    // Writes the level of a sample into every element of out.
+    // Where it is not refused, the level of a sample goes into every element of out.
     pub fn process(self, rate: u32, out: &mut [f64]) -> Processed
         ensures { λ r. ⌜ leaves r (now (out .exit)) ≡ processOf self rate (now (out .entry)) ⌝ }
     {

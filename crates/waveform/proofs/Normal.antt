@@ -1,5 +1,5 @@
--- What is made of radians lies where a sample asks it: the normalised phase from 0 to 1, for every phase that is not negative; dt from 0 to 4, for a frequency to 20,000 Hz and a rate from 8,000 Hz on;
--- a reduced phase from 0 up to, not including, TAU. Each bound is the same operation at the worst literals, computed. Assumes nothing.
+-- What is made of radians lies where a sample asks it: the normalised phase from 0 to 1, for every finite phase that is not negative; dt from 0 to 4, for a frequency to 20,000 Hz and a rate from 8,000 Hz on;
+-- a reduced phase, of such a one, from 0 up to, not including, TAU. An upper bound is the same operation at the worst literals, computed. Assumes nothing.
 use mathlib.Core.Path.{_≡_, refl, sym, subst}
 use mathlib.Core.Bool.{Bool, true, false, not}
 use Prim.Native.Nat.{ℕ, suc, _*_, _≤_, _<_}

@@ -8,7 +8,7 @@ use Rattle.answers.specs.declared.Value.{Value}
 use Rattle.waveform.specs.declared.Radians.{Radians}
 use Rattle.waveform.specs.declared.Waveform.{Waveform}
 use Rattle.waveform.specs.Waveform.{isWaveform, valueOf, sampleOf, normalOf, reduceOf, incrementOf, radians}
-use Rattle.waveform.specs.Filled.{Filled}
+use Rattle.waveform.specs.Filled.{Filled, valueAt}
 
 pub sample-unique : (w : Waveform) (phase dt : Float) (r t : Value) → r ≡ sampleOf w phase dt → t ≡ sampleOf w phase dt → r ≡ t
 sample-unique w phase dt r t p q = p ∙ sym q
@@ -18,6 +18,9 @@ is-waveform-unique w r t p q = p ∙ sym q
 
 pub value-at-unique : (w : Waveform) (phase dt : Float) (r t : Float) → r ≡ valueOf w phase dt → t ≡ valueOf w phase dt → r ≡ t
 value-at-unique w phase dt r t p q = p ∙ sym q
+
+pub wave-at-unique : (w : Waveform) (phase step : Radians) (r t : Float) → r ≡ valueAt w (step .0) (phase .0) → t ≡ valueAt w (step .0) (phase .0) → r ≡ t
+wave-at-unique w phase step r t p q = p ∙ sym q
 
 pub normalised-unique : (phase : Radians) (r t : Float) → r ≡ normalOf (phase .0) → t ≡ normalOf (phase .0) → r ≡ t
 normalised-unique phase r t p q = p ∙ sym q

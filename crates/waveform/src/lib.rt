@@ -1,9 +1,9 @@
 // waveform.rs of the original: one sample of a waveform, and the inner loop of a block. Phases are radians here; what a
-// single sample takes is a phase and a step of it normalised to a cycle, made of radians in one function.
+// single sample takes is a phase and a step of it as parts of a cycle, and `normalised` makes the first of radians.
 ghost use mathlib.Core.Path.{_≡_};
 ghost use lib.ListN.{length};
 ghost use Rattle.waveform.specs.Waveform.{isWaveform, valueOf, sampleOf, normalOf, reduceOf, incrementOf, radians};
-ghost use Rattle.waveform.specs.Filled.{Filled};
+ghost use Rattle.waveform.specs.Filled.{Filled, valueAt};
 use answers::Refusal;
 use answers::Value;
 
@@ -51,7 +51,7 @@ pub fn is_waveform(waveform: Waveform) -> bool
     }
 }
 
-// The same for any numbers, judged or not.
+// What `sample` gives, of any numbers, judged or not.
 pub fn value_at(waveform: Waveform, phase: f64, dt: f64) -> f64
     ensures { λ r. ⌜ r ≡ valueOf waveform phase dt ⌝ }
 {
@@ -64,6 +64,13 @@ pub fn value_at(waveform: Waveform, phase: f64, dt: f64) -> f64
     }
 }
 
+// One sample of a phase and a step in radians.
+pub fn wave_at(waveform: Waveform, phase: Radians, step: Radians) -> f64
+    ensures { λ r. ⌜ r ≡ valueAt waveform (step .0) (phase .0) ⌝ }
+{
+    value_at(waveform, normalised(phase), step.0 * INV_TAU)
+}
+
 // A phase in radians as a part of a cycle.
 pub fn normalised(phase: Radians) -> f64
     ensures { λ r. ⌜ r ≡ normalOf (phase .0) ⌝ }
@@ -71,7 +78,7 @@ pub fn normalised(phase: Radians) -> f64
     phase.0 % TAU * INV_TAU
 }
 
-// A phase less its whole cycles, from 0 on.
+// A phase less its whole cycles; TAU itself for a negative phase too small to move it.
 pub fn reduced(phase: Radians) -> Radians
     ensures { λ r. ⌜ r ≡ radians (reduceOf (phase .0)) ⌝ }
 {
