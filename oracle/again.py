@@ -1,14 +1,17 @@
 #!/usr/bin/env python3
-"""The rows once more, from document 01's steps, in exact fractions: oracle/again.py PHASE_FILE POLYBLEP_FILE.
+"""The rows once more, from document 01's steps, in exact fractions: oracle/again.py PART FILE [PART FILE ..].
 
 Every operation is done without rounding and then rounded once by `rounded` below, so neither the processor's floats
-nor the original's text has a part in it. Says how many rows agree, exits 1 if one does not.
+nor the original's text has a part in it. Says how many rows agree, exits 1 if one does not. The parts are phase,
+polyblep, envelope and waveform, and sine, which is measured: there the rows must besides be sines by Python's library.
 """
 
 import math
+import re
 import struct
 import sys
 from fractions import Fraction
+from pathlib import Path
 
 
 def rounded(exact, bits, lowest, negative_zero=False):
@@ -174,28 +177,173 @@ def polyblep_answer(op, phase_bits, dt_bits, duty_bits):
     return (0, bits_of(calls[op](phase, dt), True))
 
 
-def compare(name, path, layout, given, answer, ops):
-    """Works every row out again; each op must be there, done and refused (`new` refuses nothing)."""
-    data = open(path, "rb").read()
-    total = equal = 0
-    seen = set()
-    for row in struct.iter_unpack(layout, data):
+# The envelope.
+
+IDLE, ATTACK, DECAY, SUSTAIN, RELEASE = range(5)
+UNWRITTEN = bits_of(42.0, True)
+
+
+def clamped(low, high, x):
+    return low if x < low else high if x > high else x
+
+
+def envelope_step(settings, sample_time, state):
+    """One sample: the stage, level, stage_time and release_level after it."""
+    attack, decay, sustain, release = settings
+    stage, level, time, release_level = state
+    if stage == IDLE:
+        level = 0.0
+    elif stage == SUSTAIN:
+        level = sustain
+    elif stage == ATTACK:
+        level = div(time, attack)
+        if level >= 1:
+            stage, level, time = DECAY, 1.0, 0.0
+    elif stage == DECAY:
+        level = sub(1.0, mul(sub(1.0, sustain), div(time, decay)))
+        if level <= sustain:
+            stage, level, time = SUSTAIN, sustain, 0.0
+    else:
+        level = mul(release_level, sub(1.0, div(time, release)))
+        if level <= 1e-6:
+            stage, level, time = IDLE, 0.0, 0.0
+    if stage not in (IDLE, SUSTAIN):
+        time = add(time, sample_time)
+    return stage, level, time, release_level
+
+
+def envelope_answer(op, *given):
+    settings = [float_of(w, True) for w in given[:4]]
+    rate, length, stage = given[4:7]
+    level, time, release_level = (float_of(w, True) for w in given[7:])
+    state, slots = (stage, level, time, release_level), []
+    if op == 3 and not (all(x == x for x in settings) and 8000 <= rate <= 192000):
+        return (6, 0) + given[6:] + 8 * (UNWRITTEN,)
+    if op != 4 and not (0 <= level <= 1 and 0 <= release_level <= 1 and 0 <= time <= 11):
+        return (9, 0) + given[6:] + 8 * (UNWRITTEN,)
+    if op == 0:
+        state = (ATTACK, level, 0.0, release_level)
+    elif op == 1 and stage != IDLE:
+        state = (RELEASE, level, 0.0, level)
+    elif op in (2, 4):
+        state = (IDLE, 0.0, 0.0, 0.0)
+    elif op == 3:
+        times = [clamped(0.001, 10.0, x) for x in settings]
+        usable = times[:2] + [clamped(0.0, 1.0, settings[2])] + times[3:]
+        for _ in range(length):
+            state = envelope_step(usable, div(1.0, float(rate)), state)
+            slots.append(bits_of(state[1], True))
+    after = (state[0],) + tuple(bits_of(x, True) for x in state[1:])
+    return (0, length) + after + tuple(slots) + (8 - length) * (UNWRITTEN,)
+
+
+# The waveforms in radians.
+
+TAU = float_of(0x401921FB54442D18, True)
+INV_TAU = float_of(0x3FC45F306DC9C883, True)
+
+
+def remainder(x):
+    """x % TAU, which is exact and has the sign of x."""
+    size = Fraction(abs(x))
+    whole = size / Fraction(TAU)
+    left = float(size - whole.numerator // whole.denominator * Fraction(TAU))
+    return -left if minus(x) else left
+
+
+def waveform_value(shape, phase, dt, duty):
+    calls = [None, square, saw, triangle, lambda p, d: pulse(p, d, duty)]
+    return calls[shape](phase, dt)
+
+
+def waveform_answer(op, shape, *given):
+    duty, phase, step, scale = (float_of(w, True) for w in given[:4])
+    number, after, samples = 0, 0.0, []
+    if op == 2:
+        if shape == 4 and not 0 <= duty <= 1:
+            number = 6
+        elif not (0 <= phase <= 1 and 0 <= step <= 4):
+            number = 9
+        samples.append(waveform_value(shape, phase, step, duty) if number == 0 else 0.0)
+    else:
+        after = phase
+        for _ in range(given[4]):
+            value = waveform_value(shape, mul(remainder(after), INV_TAU), mul(step, INV_TAU), duty)
+            samples.append(mul(value, scale))
+            after = add(after, step)
+    if op == 1:
+        after = remainder(after)
+        after = add(after, TAU) if after < 0 else after
+    slots = [bits_of(x, True) for x in samples] + (8 - len(samples)) * [UNWRITTEN]
+    return (number, bits_of(after, True)) + tuple(slots)
+
+
+# The sine, which is ours.
+
+
+def quarter_wave():
+    text = (Path(__file__).parent.parent / "crates/sine/src/table.rt").read_text()
+    return [float(entry) for entry in re.findall(r"^    (\d+),$", text, re.M)]
+
+
+def sine(wave, u):
+    point = mul(u, 4096.0)
+    i = math.floor(point)
+    part = sub(point, float(i))
+    if i == 4096:
+        i, part = 0, 0.0
+    quadrant, j = divmod(i, 1024)
+    a, b = (wave[j], wave[j + 1]) if quadrant % 2 == 0 else (wave[1024 - j], wave[1023 - j])
+    if quadrant > 1:
+        a, b = 0.0 - a, 0.0 - b
+    return div(add(a, mul(sub(b, a), part)), 2.0**30)
+
+
+def measure(path):
+    """How far our sine is from the rows', and theirs from another library's."""
+    wave, total, within, largest, fine = quarter_wave(), 0, 0, Fraction(0), True
+    for u, theirs in struct.iter_unpack("<2d", open(path, "rb").read()):
         total += 1
-        seen.add((row[0], row[given]))
+        off = abs(Fraction(sine(wave, u)) - Fraction(theirs))
+        within += off <= Fraction(1, 10**6)
+        largest = max(largest, off)
+        if abs(theirs - math.sin(mul(u, TAU))) > 1e-15:
+            fine = False
+            print("sine: the row of", u.hex(), "is not a sine's")
+    print(f"sine: {total} rows, {within} within 0.000001, largest difference {math.ceil(largest * 10**9)} billionths")
+    return fine and within == total > 0
+
+
+# part: words, how many of them are given, what answers, and every op with the numbers that it must be seen with
+PARTS = {
+    "phase": ("<9I", 5, phase_answer, {op: {0, 9} if op < 7 else {0} for op in range(8)}),
+    "polyblep": ("<6Q", 4, polyblep_answer, {op: {0, 9} for op in range(6)}),
+    "envelope": ("<25Q", 11, envelope_answer, {0: {0, 9}, 1: {0, 9}, 2: {0, 9}, 3: {0, 6, 9}, 4: {0}}),
+    "waveform": ("<17Q", 7, waveform_answer, {0: {0}, 1: {0}, 2: {0, 6, 9}}),
+}
+
+
+def compare(name, path):
+    """Works every row out again; each op must be there with each of its numbers."""
+    layout, given, answer, numbers = PARTS[name]
+    total = equal = 0
+    seen = {op: set() for op in numbers}
+    for row in struct.iter_unpack(layout, open(path, "rb").read()):
+        total += 1
+        seen[row[0]].add(row[given])
         if answer(*row[:given]) == row[given:]:
             equal += 1
         elif total - equal < 5:
             print(name, [f"{w:x}" for w in row], [f"{w:x}" for w in answer(*row[:given])])
     print(f"{name}: {total} rows, {equal} equal")
-    missing = [(op, number) for op in range(ops) for number in (0, 9) if (op, number) not in seen and op != 7]
-    if missing:
-        print(f"{name}: no row of op and number {missing}")
-    return equal == total and not missing
+    if seen != numbers:
+        print(f"{name}: the ops have numbers {seen}, not {numbers}")
+    return equal == total and seen == numbers
 
 
 if __name__ == "__main__":
-    if len(sys.argv) != 3:
-        sys.exit("oracle/again.py PHASE_FILE POLYBLEP_FILE")
-    fine = compare("phase", sys.argv[1], "<9I", 5, phase_answer, 8)
-    fine = compare("polyblep", sys.argv[2], "<6Q", 4, polyblep_answer, 6) and fine
-    sys.exit(0 if fine else 1)
+    pairs = list(zip(sys.argv[1::2], sys.argv[2::2]))
+    if len(sys.argv) < 3 or len(sys.argv) % 2 == 0 or any(name not in [*PARTS, "sine"] for name, _ in pairs):
+        sys.exit("oracle/again.py PART FILE [PART FILE ..]")
+    fine = [measure(path) if name == "sine" else compare(name, path) for name, path in pairs]
+    sys.exit(0 if all(fine) else 1)

@@ -123,7 +123,7 @@ fn ported_waveform(chance: &mut Chance) -> Waveform {
 }
 
 /// One block call; the samples' bits.
-fn run(block: &mut impl Block<f64>, sample_rate: f64, length: usize) -> Vec<u64> {
+pub fn run(block: &mut impl Block<f64>, sample_rate: f64, length: usize) -> Vec<u64> {
     let mut samples = vec![0.0; length];
     let context = DspContext { sample_rate, buffer_size: length };
     block.process(&[], &mut [&mut samples[..]], &ModulationValues::none(), &context);

@@ -13,15 +13,26 @@ include!(concat!(env!("OUT_DIR"), "/modules.rs"));
 mod chance;
 mod check;
 mod check_copies;
+mod envelope_rows;
 mod patterns;
 mod phase_rows;
+mod pitch_rows;
 mod polyblep_rows;
 mod rows;
+mod sine_rows;
+mod waveform_rows;
 
 use std::process::exit;
 
 /// One entry a part of the voice; a later part is a module and a line here.
-const PARTS: [rows::Part; 2] = [phase_rows::PART, polyblep_rows::PART];
+const PARTS: [rows::Part; 6] = [
+    phase_rows::PART,
+    polyblep_rows::PART,
+    pitch_rows::PART,
+    sine_rows::PART,
+    envelope_rows::PART,
+    waveform_rows::PART,
+];
 
 const USAGE: &str = "\
 oracle rows PART SEED COUNT   the edges, then COUNT seeded rows, to standard output

@@ -5,17 +5,17 @@
 
 use crate::chance::Chance;
 use crate::patterns::{near_f32 as near, two_to_f32 as two_to};
-use crate::rows::Part;
+use crate::rows::{self, Part};
 use crate::{opened, phase};
 
 pub const PART: Part = Part {
     name: "phase",
     word: 4,
     words: 9,
-    number_at: 5,
+    number_at: Some(5),
     ops: &["set_frequency", "set_increment", "increment", "next", "phase", "set_phase", "reset", "new"],
     edges,
-    random,
+    random: |chance| rows::each(chance, random),
     answer,
 };
 

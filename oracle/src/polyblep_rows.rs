@@ -5,16 +5,16 @@
 use crate::chance::Chance;
 use crate::patterns::{near, two_to};
 use crate::polyblep;
-use crate::rows::Part;
+use crate::rows::{self, Part};
 
 pub const PART: Part = Part {
     name: "polyblep",
     word: 8,
     words: 6,
-    number_at: 4,
+    number_at: Some(4),
     ops: &["poly_blep", "poly_blamp", "polyblep_saw", "polyblep_square", "polyblep_pulse", "polyblamp_triangle"],
     edges,
-    random,
+    random: |chance| rows::each(chance, random),
     answer,
 };
 

@@ -8,17 +8,26 @@ use crate::chance::Chance;
 /// A part's rows: their shape, and how they are made.
 pub struct Part {
     pub name: &'static str,
-    /// Bytes in a word (4 or 8), words in a row, and which word holds the answer's number; the first is the op.
+    /// Bytes in a word (4 or 8), words in a row, and which word holds the answer's number, if any. The first word is
+    /// the op, unless there is only one.
     pub word: usize,
     pub words: usize,
-    pub number_at: usize,
+    pub number_at: Option<usize>,
     pub ops: &'static [&'static str],
     /// The given words of every edge.
     pub edges: fn() -> Vec<Vec<u64>>,
-    /// The given words of one random row.
-    pub random: fn(&mut Chance) -> Vec<u64>,
+    /// The given words of the random rows, one after the other.
+    pub random: fn(Chance) -> Rows,
     /// What the original answers, or the refusal: the words after the given ones.
     pub answer: fn(&[u64]) -> Vec<u64>,
+}
+
+/// Given words of rows, one after the other.
+pub type Rows = Box<dyn Iterator<Item = Vec<u64>>>;
+
+/// Rows that have nothing to do with each other.
+pub fn each(mut chance: Chance, row: fn(&mut Chance) -> Vec<u64>) -> Rows {
+    Box::new(std::iter::repeat_with(move || row(&mut chance)))
 }
 
 /// The edges, each once, then `count` random rows.
@@ -30,9 +39,8 @@ pub fn write(part: &Part, seed: u64, count: u64) {
             put(part, &given, &mut out);
         }
     }
-    let mut chance = Chance::new(seed);
-    for _ in 0..count {
-        put(part, &(part.random)(&mut chance), &mut out);
+    for given in (part.random)(Chance::new(seed)).take(count as usize) {
+        put(part, &given, &mut out);
     }
     out.flush().expect("standard output took not all");
 }
@@ -54,8 +62,9 @@ pub fn tally(part: &Part) {
     assert!(bytes.len() % size == 0, "no whole number of rows of {size} bytes");
     let mut counts = vec![[0u64; 2]; part.ops.len()];
     for row in bytes.chunks_exact(size) {
-        let refused = word(part, row, part.number_at) != 0;
-        counts[word(part, row, 0) as usize][refused as usize] += 1;
+        let refused = part.number_at.is_some_and(|at| word(part, row, at) != 0);
+        let op = if part.ops.len() == 1 { 0 } else { word(part, row, 0) };
+        counts[op as usize][refused as usize] += 1;
     }
     println!("{} rows of {} bytes, {} bytes", bytes.len() / size, size, bytes.len());
     for (op, [done, refused]) in part.ops.iter().zip(counts) {

@@ -20,7 +20,7 @@ pub fn sine(u: f64) -> Value
 }
 
 // The sine of u cycles, for a u that is known to be from 0 to 1; +0 for any other. Each call makes the table anew, so a
-// loop makes it once and lends it to `reading_in`.
+// loop can make it once and lend it to `reading_in`.
 pub fn reading(u: f64) -> f64
     ensures { λ r. ⌜ r ≡ readingOf u ⌝ }
 {

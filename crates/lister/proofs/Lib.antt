@@ -1,0 +1,3 @@
+-- What the lister's proofs lean on.
+-- a reading that ended
+pub mod Ends

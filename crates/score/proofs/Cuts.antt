@@ -1,0 +1,103 @@
+-- The records below a position: on a score whose positions never fall they are the first ones, and `countBelow` says how many. Assumes nothing.
+use mathlib.Core.Path.{_≡_, refl}
+use mathlib.Core.Bool.{Bool, true, false}
+use mathlib.Core.List.{List}
+use mathlib.Core.Logic.{_⊎_, inl, inr, ⊎-elim}
+use Prim.Native.Nat.{ℕ, zero, suc, _*_, _≤_, _<_}
+use native.Mathlib.Nat.{add-zero, eq-or-lt-of-le, le-of-suc-le-suc}
+use native.Mathlib.Omega.{arith}
+use lib.Dec.{ltb}
+use lib.ListN.{length}
+use borrow.Author.Tests.{lt-ltb, le-ltb, ltb-true, ltb-false, leb-true}
+use Rattle.score.specs.declared.Verdict.the-variants.{Accepted}
+use Rattle.score.specs.Record.{countOf, positionAt}
+use Rattle.score.specs.Score.{inOrder, verdictOf}
+use Rattle.score.specs.Below.{below, countBelow, Sorted, Cut}
+use Rattle.score.proofs.Verdicts.{accepted-all}
+
+pub lt-or-ge : (a b : ℕ) → (a < b) ⊎ (b ≤ a)
+lt-or-ge a b = go (ltb a b) refl
+  where
+    go : (t : Bool) → ltb a b ≡ t → (a < b) ⊎ (b ≤ a)
+    go true e = inl (ltb-true a b e)
+    go false e = inr (ltb-false a b e)
+
+-- ---- an accepted score
+-- its records are all its bytes, ten each
+pub accepted-count : (s : List ℕ) (n : ℕ) → verdictOf s ≡ Accepted n → n ≡ countOf s
+accepted-count s n h = let size : length s ≡ n * 10 = accepted-all s n h .size in omega arith
+
+pub accepted-few : (s : List ℕ) (n : ℕ) → verdictOf s ≡ Accepted n → countOf s ≤ 4096
+accepted-few s n h = let few : n ≤ 4096 = accepted-all s n h .few in omega (arith, accepted-count s n h)
+
+pub accepted-length : (s : List ℕ) (n : ℕ) → verdictOf s ≡ Accepted n → length s ≡ countOf s * 10
+accepted-length s n h = let size : length s ≡ n * 10 = accepted-all s n h .size in omega arith
+
+-- its positions never fall
+pub accepted-sorted : (s : List ℕ) (n : ℕ) → verdictOf s ≡ Accepted n → Sorted s
+unfolding inOrder
+accepted-sorted s n h =
+    let e : n ≡ countOf s = accepted-count s n h in
+    record { adjacent = λ i l. leb-true (positionAt s i) (positionAt s (suc i)) (accepted-all s n h .fine (suc i) (omega arith) .ordered) }
+
+-- ---- where the records below p end
+pub sorted-le : (s : List ℕ) → Sorted s → (i j : ℕ) → i ≤ j → j < countOf s → positionAt s i ≤ positionAt s j
+sorted-le s o i zero h k = let e : i ≡ 0 = omega arith in rw e (omega arith)
+sorted-le s o i (suc j) h k =
+    ⊎-elim (λ e. rw e (omega arith))
+    (λ l. let a : positionAt s i ≤ positionAt s j = sorted-le s o i j (omega arith) (omega arith) in
+    let b : positionAt s j ≤ positionAt s (suc j) = o .adjacent j k in omega arith)
+    (eq-or-lt-of-le h)
+
+-- c is where the first k records are cut
+CutTo : List ℕ → ℕ → ℕ → ℕ → Type 0
+CutTo s p k c = (c ≤ k) × ((i : ℕ) → i < c → positionAt s i < p) × ((i : ℕ) → c ≤ i → i < k → p ≤ positionAt s i)
+
+below-cut : (s : List ℕ) → Sorted s → (p k : ℕ) → k ≤ countOf s → CutTo s p k (below s p k)
+unfolding below CutTo
+below-cut s o p zero h = (omega arith, (λ i l. omega arith), (λ i a l. omega arith))
+below-cut s o p (suc k) h =
+    let c = below s p k in
+    let ih : CutTo s p k c = below-cut s o p k (omega arith) in
+    ⊎-elim
+    (λ g. rw (lt-ltb (positionAt s k) p g) (
+      omega (arith, ih .0),
+      (λ i q. let a : positionAt s i ≤ positionAt s k = sorted-le s o i k (omega (arith, ih .0)) (omega arith) in omega arith),
+      (λ i q r. let a : p ≤ positionAt s c = ih .2 c (omega arith) (omega arith) in
+          let b : positionAt s c ≤ positionAt s k = sorted-le s o c k (omega (arith, ih .0)) (omega arith) in omega arith),
+    ))
+    (λ g. rw (le-ltb (positionAt s k) p g, add-zero (below s p k)) (
+      omega (arith, ih .0),
+      ih .1,
+      (λ i q r. ⊎-elim (λ e. rw e g) (λ l. ih .2 i q l) (eq-or-lt-of-le (le-of-suc-le-suc r))),
+    ))
+    (lt-or-ge (positionAt s k) p)
+
+-- `countBelow` is a cut
+pub count-cut : (s : List ℕ) → Sorted s → (p : ℕ) → Cut s p (countBelow s p)
+unfolding CutTo
+count-cut s o p =
+    let u : CutTo s p (countOf s) (below s p (countOf s)) = below-cut s o p (countOf s) (omega arith) in
+    record { inside = u .0; lows = u .1; highs = u .2 }
+
+cut-le : (s : List ℕ) (p c d : ℕ) → Cut s p c → Cut s p d → c ≤ d
+cut-le s p c d x y =
+    ⊎-elim
+    (λ l. let a : positionAt s d < p = x .lows d l in
+    let b : p ≤ positionAt s d = y .highs d (omega arith) (omega (arith, x .inside)) in omega arith)
+    (λ g. g) (lt-or-ge d c)
+
+-- and there is no other
+pub cut-same : (s : List ℕ) (p c d : ℕ) → Cut s p c → Cut s p d → c ≡ d
+cut-same s p c d x y = let a = cut-le s p c d x y in let b = cut-le s p d c y x in omega (arith, a, b)
+
+pub cut-count : (s : List ℕ) → Sorted s → (p c : ℕ) → Cut s p c → c ≡ countBelow s p
+cut-count s o p c x = cut-same s p c (countBelow s p) x (count-cut s o p)
+
+-- the higher position has the later cut
+pub cut-rises : (s : List ℕ) (p q c d : ℕ) → p ≤ q → Cut s p c → Cut s q d → c ≤ d
+cut-rises s p q c d h x y =
+    ⊎-elim
+    (λ l. let a : positionAt s d < p = x .lows d l in
+    let b : q ≤ positionAt s d = y .highs d (omega arith) (omega (arith, x .inside)) in omega arith)
+    (λ g. g) (lt-or-ge d c)

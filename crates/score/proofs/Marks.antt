@@ -1,0 +1,75 @@
+-- 01's own score, and its order of refusals by example, on the definitions that the contracts cite. Assumes nothing.
+use mathlib.Core.Path.{_≡_, refl}
+use mathlib.Core.List.{List, [], _∷_, _++_}
+use Prim.Native.Nat.{ℕ}
+use Rattle.answers.specs.declared.ScoreFault.the-variants.{Length, Mark, Kind, Field, Order}
+use Rattle.score.specs.declared.Kind.the-variants.{On, Off}
+use Rattle.score.specs.declared.Difference.the-variants.{Equal, At}
+use Rattle.score.specs.declared.Record.{Record}
+use Rattle.score.specs.declared.Verdict.the-variants.{Accepted, Faulty}
+use Rattle.score.specs.Record.{positionAt, recordAt, encodeAll}
+use Rattle.score.specs.Score.{markRight, kindRight, fieldsRight, inOrder, verdictAt, verdictFrom, verdictOf}
+use Rattle.score.specs.Apart.{sameTo, firstFrom, differenceOf}
+
+-- 56 4E 00 00 00 00 01 45 7F 00 56 4E 64 00 00 00 02 45 00 00
+abbrev pub example : List ℕ
+example =
+    0x56 ∷ 0x4E ∷ 0x00 ∷ 0x00 ∷ 0x00 ∷ 0x00 ∷ 0x01 ∷ 0x45 ∷ 0x7F ∷ 0x00
+    ∷ 0x56 ∷ 0x4E ∷ 0x64 ∷ 0x00 ∷ 0x00 ∷ 0x00 ∷ 0x02 ∷ 0x45 ∷ 0x00 ∷ 0x00 ∷ []
+
+abbrev noteOn : ℕ → Record
+noteOn at = record { position = at; kind = On; note = 69; velocity = 127 }
+
+abbrev noteOff : ℕ → Record
+noteOff at = record { position = at; kind = Off; note = 69; velocity = 0 }
+
+-- it has the two records that 01's lister prints
+pub example-accepted : (verdictOf example ≡ Accepted 2) × (recordAt example 0 ≡ noteOn 0) × (recordAt example 1 ≡ noteOff 100) × (encodeAll (noteOn 0 ∷ noteOff 100 ∷ []) ≡ example)
+unfolding positionAt markRight kindRight fieldsRight inOrder verdictAt verdictFrom verdictOf
+example-accepted = (refl, refl, refl, refl)
+
+-- ten bytes with a kind, a note, a velocity and a last byte
+abbrev ten : ℕ → ℕ → ℕ → ℕ → List ℕ
+ten kind note velocity last = 0x56 ∷ 0x4E ∷ 0 ∷ 0 ∷ 0 ∷ 0 ∷ kind ∷ note ∷ velocity ∷ last ∷ []
+
+pub record Refusals : Type 0 where
+  pub nothing : verdictOf [] ≡ Accepted 0
+  pub nine-bytes : verdictOf (0 ∷ 0 ∷ 0 ∷ 0 ∷ 0 ∷ 0 ∷ 0 ∷ 0 ∷ 0 ∷ []) ≡ Faulty Length
+  pub mark : verdictOf (0x56 ∷ 0x4F ∷ 0 ∷ 0 ∷ 0 ∷ 0 ∷ 7 ∷ 200 ∷ 0 ∷ 1 ∷ []) ≡ Faulty (Mark 0)
+  pub kind-first : verdictOf (ten 7 0 0 0 ++ (0 ∷ 0 ∷ 0 ∷ 0 ∷ 0 ∷ 0 ∷ 1 ∷ 0 ∷ 0 ∷ 0 ∷ [])) ≡ Faulty (Kind 0)
+  pub kind-none : verdictOf (ten 0 0 0 0) ≡ Faulty (Kind 0)
+  pub note-127 : verdictOf (ten 1 127 0 0) ≡ Accepted 1
+  pub note-128 : verdictOf (ten 1 128 0 0) ≡ Faulty (Field 0)
+  pub reset-velocity : verdictOf (ten 3 0 1 0) ≡ Faulty (Field 0)
+  pub last-byte : verdictOf (ten 2 0 0 1) ≡ Faulty (Field 0)
+  pub equal-positions : verdictOf (encodeAll (noteOn 5 ∷ noteOff 5 ∷ [])) ≡ Accepted 2
+  pub falling : verdictOf (encodeAll (noteOn 5 ∷ noteOff 4 ∷ [])) ≡ Faulty (Order 1)
+
+pub refusals : Refusals
+unfolding positionAt markRight kindRight fieldsRight inOrder verdictAt verdictFrom verdictOf
+refusals =
+    record {
+      nothing = refl;
+      nine-bytes = refl;
+      mark = refl;
+      kind-first = refl;
+      kind-none = refl;
+      note-127 = refl;
+      note-128 = refl;
+      reset-velocity = refl;
+      last-byte = refl;
+      equal-positions = refl;
+      falling = refl;
+    }
+
+-- the lower position of the two; the one that remains; an off velocity alone
+pub record Differences : Type 0 where
+  pub lower-first : differenceOf (encodeAll (noteOn 0 ∷ noteOff 9 ∷ [])) (encodeAll (noteOn 0 ∷ noteOff 7 ∷ [])) ≡ At 7
+  pub lower-second : differenceOf (encodeAll (noteOn 0 ∷ noteOff 7 ∷ [])) (encodeAll (noteOn 0 ∷ noteOff 9 ∷ [])) ≡ At 7
+  pub remains : differenceOf (encodeAll (noteOn 0 ∷ [])) (encodeAll (noteOn 0 ∷ noteOff 8 ∷ [])) ≡ At 8
+  pub off-velocity : differenceOf (ten 2 69 0 0) (ten 2 69 1 0) ≡ At 0
+  pub equal : differenceOf example example ≡ Equal
+
+pub differences : Differences
+unfolding positionAt sameTo firstFrom
+differences = record { lower-first = refl; lower-second = refl; remains = refl; off-velocity = refl; equal = refl }

@@ -1,0 +1,91 @@
+-- A turn of each loop over what is left to look at: going on, stopping, ending. Assumes nothing.
+use mathlib.Core.Path.{_≡_, sym, ap, _∙_}
+use mathlib.Core.Bool.{true, false}
+use mathlib.Core.List.{List}
+use Prim.Native.Nat.{ℕ, suc, _+_, _-_, _<_, _≤_, min}
+use native.Mathlib.Numerals.{add-one}
+use native.Mathlib.Omega.{arith}
+use lib.Dec.{leb}
+use borrow.Author.Tests.{eq-eqb, ne-eqb, lt-ltb, le-ltb}
+use Rattle.answers.specs.declared.ScoreFault.{ScoreFault}
+use Rattle.score.specs.declared.Verdict.the-variants.{Accepted, Faulty}
+use Rattle.score.specs.Record.{countOf, byteAt, positionAt}
+use Rattle.score.specs.Score.{inOrder, verdictAt, verdictFrom}
+use Rattle.score.specs.Apart.{sameAt, sameTo, firstFrom, firstIndex, differenceOf}
+use Rattle.score.specs.declared.Difference.the-variants.{Equal, At}
+
+-- ---- the check, at record i of n
+pub judge-on : (s : List ℕ) (n i m : ℕ) → i < n → verdictAt s i ≡ Accepted m → verdictFrom s (n - i) i ≡ verdictFrom s (n - (i + 1)) (i + 1)
+unfolding verdictFrom
+judge-on s n i m h e =
+    let left : n - i ≡ suc (n - (i + 1)) = omega arith in
+    rw (left, e, add-one i)
+
+pub judge-stop : (s : List ℕ) (n i : ℕ) (f : ScoreFault) → i < n → verdictAt s i ≡ Faulty f → verdictFrom s (n - i) i ≡ Faulty f
+unfolding verdictFrom
+judge-stop s n i f h e =
+    let left : n - i ≡ suc (n - (i + 1)) = omega arith in
+    rw (left, e)
+
+pub judge-end : (s : List ℕ) (n i : ℕ) → i ≡ n → verdictFrom s (n - i) i ≡ Accepted n
+unfolding verdictFrom
+judge-end s n i h =
+    let left : n - i ≡ 0 = omega arith in
+    rw (left, h)
+
+-- ---- the search for the first index, at record i of n
+pub search-on : (s t : List ℕ) (n i : ℕ) → i < n → sameAt s t i ≡ true → firstFrom s t (n - i) i ≡ firstFrom s t (n - (i + 1)) (i + 1)
+unfolding firstFrom
+search-on s t n i h e =
+    let left : n - i ≡ suc (n - (i + 1)) = omega arith in
+    rw (left, e, add-one i)
+
+pub search-stop : (s t : List ℕ) (n i : ℕ) → i < n → sameAt s t i ≡ false → firstFrom s t (n - i) i ≡ i
+unfolding firstFrom
+search-stop s t n i h e =
+    let left : n - i ≡ suc (n - (i + 1)) = omega arith in
+    rw (left, e)
+
+pub search-end : (s t : List ℕ) (n i : ℕ) → i ≡ n → firstFrom s t (n - i) i ≡ n
+unfolding firstFrom
+search-end s t n i h =
+    let left : n - i ≡ 0 = omega arith in
+    rw (left, h)
+
+-- ---- the comparison of a record, of whose first j bytes byte j - 1 is next
+pub same-on : (s t : List ℕ) (i j : ℕ) → 0 < j → byteAt s i (j - 1) ≡ byteAt t i (j - 1) → sameTo s t i j ≡ sameTo s t i (j - 1)
+unfolding sameTo
+same-on s t i j h e =
+    let left : j ≡ suc (j - 1) = omega arith in
+    ap (sameTo s t i) left ∙ rw (eq-eqb _ _ e)
+
+pub same-stop : (s t : List ℕ) (i j : ℕ) → 0 < j → (byteAt s i (j - 1) ≡ byteAt t i (j - 1) → ⊥) → sameTo s t i j ≡ false
+unfolding sameTo
+same-stop s t i j h d =
+    let left : j ≡ suc (j - 1) = omega arith in
+    ap (sameTo s t i) left ∙ rw (ne-eqb _ _ d)
+
+pub same-end : (s t : List ℕ) (i j : ℕ) → j ≡ 0 → sameTo s t i j ≡ true
+unfolding sameTo
+same-end s t i j h = rw h
+
+-- the order of a record that has one before it
+pub order-after : (s : List ℕ) (i : ℕ) → 0 < i → inOrder s i ≡ leb (positionAt s (i - 1)) (positionAt s i)
+unfolding inOrder
+order-after s i h =
+    let left : i ≡ suc (i - 1) = omega arith in
+    ap (inOrder s) left ∙ ap (λ (k : ℕ). leb (positionAt s (i - 1)) (positionAt s k)) (sym left)
+
+-- ---- what stands at the first index
+module _ (s t : List ℕ) (i : ℕ) (first : i ≡ firstIndex s t) where
+  pub in-both : i < countOf s → i < countOf t → differenceOf s t ≡ At (min (positionAt s i) (positionAt t i))
+  in-both a b = rw (← first, lt-ltb i (countOf s) a, lt-ltb i (countOf t) b)
+
+  pub in-old : i < countOf s → countOf t ≤ i → differenceOf s t ≡ At (positionAt s i)
+  in-old a b = rw (← first, lt-ltb i (countOf s) a, le-ltb i (countOf t) b)
+
+  pub in-new : countOf s ≤ i → i < countOf t → differenceOf s t ≡ At (positionAt t i)
+  in-new a b = rw (← first, le-ltb i (countOf s) a, lt-ltb i (countOf t) b)
+
+  pub in-none : countOf s ≤ i → countOf t ≤ i → differenceOf s t ≡ Equal
+  in-none a b = rw (← first, le-ltb i (countOf s) a, le-ltb i (countOf t) b)

@@ -1,0 +1,39 @@
+-- Two outcomes that meet a public function's statement are equal. Assumes nothing.
+use mathlib.Core.Path.{_≡_, sym, _∙_}
+use mathlib.Core.List.{List}
+use Prim.Native.Nat.{ℕ}
+use Rattle.answers.specs.declared.Answer.{Answer}
+use Rattle.score.specs.declared.Record.{Record}
+use Rattle.score.specs.declared.Verdict.{Verdict}
+use Rattle.score.specs.declared.Difference.{Difference}
+use Rattle.score.specs.Record.{countOf, positionAt, recordAt, encodeOf}
+use Rattle.score.specs.Score.{verdictOf, answerOf}
+use Rattle.score.specs.Below.{countBelow}
+use Rattle.score.specs.Apart.{firstIndex, differenceOf}
+
+pub check-unique : (s : List ℕ) (a b : Answer) → a ≡ answerOf (verdictOf s) → b ≡ answerOf (verdictOf s) → a ≡ b
+check-unique s a b p q = p ∙ sym q
+
+pub judge-unique : (s : List ℕ) (a b : Verdict) → a ≡ verdictOf s → b ≡ verdictOf s → a ≡ b
+judge-unique s a b p q = p ∙ sym q
+
+pub count-unique : (s : List ℕ) (a b : ℕ) → a ≡ countOf s → b ≡ countOf s → a ≡ b
+count-unique s a b p q = p ∙ sym q
+
+pub position-unique : (s : List ℕ) (i a b : ℕ) → a ≡ positionAt s i → b ≡ positionAt s i → a ≡ b
+position-unique s i a b p q = p ∙ sym q
+
+pub record-at-unique : (s : List ℕ) (i : ℕ) (a b : Record) → a ≡ recordAt s i → b ≡ recordAt s i → a ≡ b
+record-at-unique s i a b p q = p ∙ sym q
+
+pub encode-unique : (r : Record) (a b : List ℕ) → a ≡ encodeOf r → b ≡ encodeOf r → a ≡ b
+encode-unique r a b p q = p ∙ sym q
+
+pub count-below-unique : (s : List ℕ) (n a b : ℕ) → a ≡ countBelow s n → b ≡ countBelow s n → a ≡ b
+count-below-unique s n a b p q = p ∙ sym q
+
+pub first-index-unique : (s t : List ℕ) (a b : ℕ) → a ≡ firstIndex s t → b ≡ firstIndex s t → a ≡ b
+first-index-unique s t a b p q = p ∙ sym q
+
+pub first-difference-unique : (s t : List ℕ) (a b : Difference) → a ≡ differenceOf s t → b ≡ differenceOf s t → a ≡ b
+first-difference-unique s t a b p q = p ∙ sym q

@@ -1,0 +1,24 @@
+-- How many records lie below a position: a shelf's and a continuing state's "records acted" is held to it (01, "What a call says", 8 and 10). Definitions only.
+use mathlib.Core.Bool.{cond}
+use mathlib.Core.List.{List}
+use Prim.Native.Nat.{ℕ, zero, suc, _+_, _≤_, _<_}
+use lib.Dec.{ltb}
+use Rattle.score.specs.Record.{countOf, positionAt}
+
+-- how many of the first n records have a position below p
+unfoldable pub below : List ℕ → ℕ → ℕ → ℕ
+below s p zero = 0
+below s p (suc n) = below s p n + cond (ltb (positionAt s n) p) 1 0
+
+abbrev pub countBelow : List ℕ → ℕ → ℕ
+countBelow s p = below s p (countOf s)
+
+-- positions never fall
+pub record Sorted (s : List ℕ) : Type 0 where
+  pub adjacent : (i : ℕ) → suc i < countOf s → positionAt s i ≤ positionAt s (suc i)
+
+-- the first k records are below p, the rest at or above it
+pub record Cut (s : List ℕ) (p k : ℕ) : Type 0 where
+  pub inside : k ≤ countOf s
+  pub lows : (i : ℕ) → i < k → positionAt s i < p
+  pub highs : (i : ℕ) → k ≤ i → i < countOf s → p ≤ positionAt s i

@@ -1,0 +1,4 @@
+pub mod Record
+pub mod Score
+pub mod Below
+pub mod Apart

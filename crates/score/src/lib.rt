@@ -1,0 +1,300 @@
+// The score: records of ten bytes, as document 01 writes them. A score is a slice of bytes; every function here takes any
+// slice, and reads past its end as 0.
+ghost use mathlib.Core.Path.{_≡_};
+ghost use Prim.Native.Nat.{_<_, min};
+ghost use Rattle.score.specs.Record.{byteAt, positionAt, kindOf, kindByte, recordAt, encodeOf, countOf};
+ghost use Rattle.score.specs.Score.{mostOf, markRight, kindRight, fieldsRight, inOrder, verdictAt, verdictOf, answerOf};
+ghost use Rattle.score.specs.Below.{countBelow};
+ghost use Rattle.score.specs.Apart.{sameAt, firstIndex, differenceOf};
+use answers::Answer;
+use answers::Refusal;
+use answers::ScoreFault;
+
+// A record's bytes, and the most records of a score.
+const SIZE: usize = 10;
+
+const MOST: usize = 4096;
+
+// What a record does.
+pub enum Kind {
+    On,
+    Off,
+    Reset,
+}
+
+pub struct Record {
+    pub position: u32,
+    pub kind: Kind,
+    pub note: u8,
+    pub velocity: u8,
+}
+
+// A score's number of records, or its first fault.
+pub enum Verdict {
+    Accepted(usize),
+    Faulty(ScoreFault),
+}
+
+// Whether two scores have the same records, or the position from which on they may differ.
+pub enum Difference {
+    Equal,
+    At(u32),
+}
+
+// The call of 01: done, or refused with the first fault.
+pub fn check(score: &[u8]) -> Answer
+    ensures { λ r. ⌜ r ≡ answerOf (verdictOf (now (score .entry))) ⌝ }
+{
+    match judge(score) {
+        Verdict::Accepted(_) => Answer::Done(0),
+        Verdict::Faulty(fault) => Answer::Refused(Refusal::Score(fault)),
+    }
+}
+
+// What is wrong with a score first, for those who say it of an old or of a new one.
+pub fn judge(score: &[u8]) -> Verdict
+    ensures { λ r. ⌜ r ≡ verdictOf (now (score .entry)) ⌝ }
+{
+    let n = score.len() / SIZE;
+    if score.len() % SIZE != 0 {
+        return Verdict::Faulty(ScoreFault::Length);
+    }
+    if MOST < n {
+        return Verdict::Faulty(ScoreFault::Length);
+    }
+    let mut i = 0;
+    while i < n {
+        let verdict = judge_record(score, i);
+        if let Verdict::Faulty(fault) = verdict {
+            return Verdict::Faulty(fault);
+        }
+        i += 1;
+    }
+    Verdict::Accepted(n)
+}
+
+// How many whole records there are.
+pub fn count(score: &[u8]) -> usize
+    ensures { λ r. ⌜ r ≡ countOf (now (score .entry)) ⌝ }
+{
+    score.len() / SIZE
+}
+
+// The position of record i: four bytes, low byte first.
+pub fn position(score: &[u8], i: usize) -> u32
+    ensures { λ r. ⌜ r ≡ positionAt (now (score .entry)) i ⌝ }
+{
+    let a = wide_at(score, i, 2);
+    let b = wide_at(score, i, 3);
+    let c = wide_at(score, i, 4);
+    let d = wide_at(score, i, 5);
+    a + b * 256 + c * 65536 + d * 16777216
+}
+
+// Record i, read as it stands: nothing is judged.
+pub fn record_at(score: &[u8], i: usize) -> Record
+    ensures { λ r. ⌜ r ≡ recordAt (now (score .entry)) i ⌝ }
+{
+    Record {
+        position: position(score, i),
+        kind: kind_of(byte_at(score, i, 6)),
+        note: byte_at(score, i, 7),
+        velocity: byte_at(score, i, 8),
+    }
+}
+
+// The ten bytes of a record.
+pub fn encode(given: Record) -> [u8; 10]
+    ensures { λ r. ⌜ r ≡ encodeOf given ⌝ }
+{
+    let p = given.position;
+    let kind = given.kind;
+    let k = kind_byte(kind);
+    let a = (p % 256) as u8;
+    let b = (p / 256 % 256) as u8;
+    let c = (p / 65536 % 256) as u8;
+    let d = (p / 16777216 % 256) as u8;
+    [0x56, 0x4E, a, b, c, d, k, given.note, given.velocity, 0]
+}
+
+// How many records have a position below p.
+pub fn count_below(score: &[u8], p: u64) -> usize
+    ensures { λ r. ⌜ r ≡ countBelow (now (score .entry)) p ⌝ }
+{
+    let n = count(score);
+    let mut i = 0;
+    let mut k = 0;
+    while i < n {
+        let q = position(score, i) as u64;
+        if q < p {
+            k += 1;
+        }
+        i += 1;
+    }
+    k
+}
+
+// The first index at which the records differ, or at which one of the two has ended.
+pub fn first_index(old: &[u8], new: &[u8]) -> usize
+    ensures { λ r. ⌜ r ≡ firstIndex (now (old .entry)) (now (new .entry)) ⌝ }
+{
+    let n = fewer(count(old), count(new));
+    let mut i = 0;
+    while i < n {
+        if !same_record(old, new, i) {
+            return i;
+        }
+        i += 1;
+    }
+    n
+}
+
+// 01's P: the lower of the two positions at that index, or that of the one that remains.
+pub fn first_difference(old: &[u8], new: &[u8]) -> Difference
+    ensures { λ r. ⌜ r ≡ differenceOf (now (old .entry)) (now (new .entry)) ⌝ }
+{
+    let i = first_index(old, new);
+    let p = position(old, i);
+    let q = position(new, i);
+    if i < count(old) {
+        if i < count(new) {
+            return Difference::At(lower(p, q));
+        }
+        return Difference::At(p);
+    }
+    if i < count(new) {
+        return Difference::At(q);
+    }
+    Difference::Equal
+}
+
+// Byte j of record i; 0 past the end.
+fn byte_at(score: &[u8], i: usize, j: usize) -> u8
+    ensures { λ r. ⌜ r ≡ byteAt (now (score .entry)) i j ⌝ }
+{
+    if count(score) < i {
+        return 0;
+    }
+    let at = i * SIZE;
+    if score.len() - at <= j {
+        return 0;
+    }
+    score[at + j]
+}
+
+fn wide_at(score: &[u8], i: usize, j: usize) -> u32
+    ensures { λ r. ⌜ (r ≡ byteAt (now (score .entry)) i j) × (r < 256) ⌝ }
+{
+    byte_at(score, i, j) as u32
+}
+
+fn kind_of(byte: u8) -> Kind
+    ensures { λ r. ⌜ r ≡ kindOf byte ⌝ }
+{
+    if byte == 1 {
+        return Kind::On;
+    }
+    if byte == 2 {
+        return Kind::Off;
+    }
+    Kind::Reset
+}
+
+fn kind_byte(kind: Kind) -> u8
+    ensures { λ r. ⌜ r ≡ kindByte kind ⌝ }
+{
+    match kind {
+        Kind::On => 1,
+        Kind::Off => 2,
+        Kind::Reset => 3,
+    }
+}
+
+// The first fault of record i, or that this one record is accepted.
+fn judge_record(score: &[u8], i: usize) -> Verdict
+    ensures { λ r. ⌜ r ≡ verdictAt (now (score .entry)) i ⌝ }
+{
+    let mark = mark_right(score, i);
+    let kind = kind_right(score, i);
+    let fields = fields_right(score, i);
+    let order = in_order(score, i);
+    if !mark {
+        return Verdict::Faulty(ScoreFault::Mark(i));
+    }
+    if !kind {
+        return Verdict::Faulty(ScoreFault::Kind(i));
+    }
+    if !fields {
+        return Verdict::Faulty(ScoreFault::Field(i));
+    }
+    if !order {
+        return Verdict::Faulty(ScoreFault::Order(i));
+    }
+    Verdict::Accepted(1)
+}
+
+fn mark_right(score: &[u8], i: usize) -> bool
+    ensures { λ r. ⌜ r ≡ markRight (now (score .entry)) i ⌝ }
+{
+    (byte_at(score, i, 0) == 0x56) & (byte_at(score, i, 1) == 0x4E)
+}
+
+fn kind_right(score: &[u8], i: usize) -> bool
+    ensures { λ r. ⌜ r ≡ kindRight (now (score .entry)) i ⌝ }
+{
+    let kind = byte_at(score, i, 6);
+    (1 <= kind) & (kind <= 3)
+}
+
+fn fields_right(score: &[u8], i: usize) -> bool
+    ensures { λ r. ⌜ r ≡ fieldsRight (now (score .entry)) i ⌝ }
+{
+    let most = most_of(byte_at(score, i, 6));
+    (byte_at(score, i, 7) <= most) & (byte_at(score, i, 8) <= most) & (byte_at(score, i, 9) == 0)
+}
+
+// Notes and velocities end at 127, and those of a reset at 0.
+fn most_of(kind: u8) -> u8
+    ensures { λ r. ⌜ r ≡ mostOf kind ⌝ }
+{
+    if kind == 3 {
+        return 0;
+    }
+    127
+}
+
+// The position is not below that of the record before.
+fn in_order(score: &[u8], i: usize) -> bool
+    ensures { λ r. ⌜ r ≡ inOrder (now (score .entry)) i ⌝ }
+{
+    if i == 0 {
+        return true;
+    }
+    position(score, i - 1) <= position(score, i)
+}
+
+// Whether record i has the same ten bytes in both.
+fn same_record(s: &[u8], t: &[u8], i: usize) -> bool
+    ensures { λ r. ⌜ r ≡ sameAt (now (s .entry)) (now (t .entry)) i ⌝ }
+{
+    let mut j = SIZE;
+    while 0 < j {
+        j -= 1;
+        if byte_at(s, i, j) != byte_at(t, i, j) {
+            return false;
+        }
+    }
+    true
+}
+
+fn fewer(a: usize, b: usize) -> usize
+    ensures { λ r. ⌜ r ≡ min a b ⌝ }
+{
+    if a <= b { a } else { b }
+}
+
+fn lower(a: u32, b: u32) -> u32
+    ensures { λ r. ⌜ r ≡ min a b ⌝ }
+{
+    if a < b { a } else { b }
+}

@@ -1,0 +1,19 @@
+-- `state::advance` meets its contract. Assumes nothing.
+use borrow.Author.Needs.{needs}
+use mathlib.Core.Path.{refl}
+use Rattle.state.specs.State.{advanceOf}
+use Rattle.state.proofs.advance.Statement.{statement}
+use Rattle.state.proofs.advance.Tie as tie
+
+increment-requires : tie.Need-increment-requires
+increment-requires c κs = search needs
+
+stepped-requires : tie.Need-stepped-requires
+stepped-requires c κs = search needs
+
+returns : tie.Need-returns
+unfolding advanceOf
+returns c = rw (c .stepped .ensures, c .before .before .before .before .increment .ensures) refl
+
+pub advance-spec : {M : Type 1} → statement M
+advance-spec = tie.close (tie.spec increment-requires stepped-requires returns)

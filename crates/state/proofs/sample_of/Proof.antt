@@ -1,0 +1,22 @@
+-- `state::sample_of` meets its contract. Assumes nothing.
+use borrow.Author.Needs.{needs}
+use mathlib.Core.Path.{refl}
+use Rattle.state.specs.State.{sampleOf}
+use Rattle.state.proofs.sample_of.Statement.{statement}
+use Rattle.state.proofs.sample_of.Tie as tie
+
+increment-requires : tie.Need-increment-requires
+increment-requires c κs = search needs
+
+wave-at-requires : tie.Need-wave-at-requires
+wave-at-requires c κs = search needs
+
+stepped-requires : tie.Need-stepped-requires
+stepped-requires c κs = search needs
+
+returns : tie.Need-returns
+unfolding sampleOf
+returns c = rw (c .before .before .stepped .ensures, c .before .before .before .wave-at .ensures, c .before .before .before .before .before .increment .ensures) refl
+
+pub sample-of-spec : {M : Type 1} → statement M
+sample-of-spec = tie.close (tie.spec increment-requires wave-at-requires stepped-requires returns)

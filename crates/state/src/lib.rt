@@ -1,0 +1,214 @@
+// The voice's state, and the four steps that make a sample: reduce the phase, let a record act, take the sample, advance.
+// Everything that a render, a continuing call and a re-render do is these steps, counted from sample zero.
+ghost use mathlib.Core.Path.{_≡_};
+ghost use Rattle.voice.specs.Keys.{liftedOf};
+ghost use Rattle.state.specs.Settings.{settingsOk};
+ghost use Rattle.state.specs.State.{counted, freshOf, reducedOf, eventOf, actOf, struckOf, liftedBy, steppedOf, sampleOf, advanceOf};
+use envelope::Adsr;
+use envelope::Envelope;
+use score::Kind;
+use score::Record;
+use voice::keys;
+use voice::keys::Keys;
+use voice::keys::NoteOff;
+use waveform::Radians;
+use waveform::Waveform;
+
+// What stays the same through a render: the rate in Hz, the choice of waveform, and the envelope's settings.
+pub struct Settings {
+    pub rate: u32,
+    pub waveform: Waveform,
+    pub adsr: Adsr,
+}
+
+// What changes: the oscillator's phase, the envelope, the voice's frequency in Hz and velocity from 0 to 1, its held keys,
+// and how many records of the score have acted.
+pub struct State {
+    pub phase: Radians,
+    pub envelope: Envelope,
+    pub frequency: f64,
+    pub velocity: f64,
+    pub keys: Keys,
+    pub acted: u64,
+}
+
+// What a record does to the voice.
+pub enum Event {
+    Strike(u8, u8),
+    Release(u8),
+    Reset,
+}
+
+// Settings that a render takes.
+pub fn is_settings(settings: Settings) -> bool
+    ensures { λ r. ⌜ r ≡ settingsOk settings ⌝ }
+{
+    let waveform = settings.waveform;
+    let adsr = settings.adsr;
+    envelope::is_rate(settings.rate) & waveform::is_waveform(waveform) & envelope::is_adsr(adsr)
+}
+
+// Before sample zero.
+pub fn fresh() -> State
+    ensures { λ r. ⌜ r ≡ freshOf 0 ⌝ }
+{
+    at_rest(0)
+}
+
+// The phase less its whole cycles.
+pub fn reduce(state: State) -> State
+    ensures { λ r. ⌜ r ≡ reducedOf state ⌝ }
+{
+    let envelope = state.envelope;
+    let keys = state.keys;
+    let phase = waveform::reduced(state.phase);
+    State {
+        phase,
+        envelope,
+        frequency: state.frequency,
+        velocity: state.velocity,
+        keys,
+        acted: state.acted,
+    }
+}
+
+pub fn event_of(given: Record) -> Event
+    ensures { λ r. ⌜ r ≡ eventOf given ⌝ }
+{
+    let kind = given.kind;
+    match kind {
+        Kind::On => Event::Strike(given.note, given.velocity),
+        Kind::Off => Event::Release(given.note),
+        Kind::Reset => Event::Reset,
+    }
+}
+
+// A record acts, and is counted.
+pub fn act(state: State, event: Event) -> State
+    ensures { λ r. ⌜ r ≡ actOf state event ⌝ }
+{
+    match event {
+        Event::Strike(note, velocity) => strike(state, note, velocity),
+        Event::Release(note) => release(state, note),
+        Event::Reset => at_rest(one_more(state.acted)),
+    }
+}
+
+// The sample: the oscillator's value, times the envelope's level, times the velocity.
+pub fn sample_of(settings: Settings, state: State) -> f64
+    ensures { λ r. ⌜ r ≡ sampleOf settings state ⌝ }
+{
+    let step = waveform::increment(state.frequency, settings.rate);
+    let waveform = settings.waveform;
+    let phase = state.phase;
+    let value = waveform::wave_at(waveform, phase, step);
+    value * stepped(settings, state).level * state.velocity
+}
+
+// Oscillator and envelope go on by one sample.
+pub fn advance(settings: Settings, state: State) -> State
+    ensures { λ r. ⌜ r ≡ advanceOf settings state ⌝ }
+{
+    let step = waveform::increment(state.frequency, settings.rate);
+    let keys = state.keys;
+    State {
+        phase: Radians(state.phase.0 + step.0),
+        envelope: stepped(settings, state),
+        frequency: state.frequency,
+        velocity: state.velocity,
+        keys,
+        acted: state.acted,
+    }
+}
+
+fn at_rest(acted: u64) -> State
+    ensures { λ r. ⌜ r ≡ freshOf acted ⌝ }
+{
+    State {
+        phase: Radians(0.0),
+        envelope: envelope::fresh(),
+        frequency: 440.0,
+        velocity: 0.0,
+        keys: keys::fresh_keys(),
+        acted,
+    }
+}
+
+fn strike(state: State, note: u8, velocity: u8) -> State
+    ensures { λ r. ⌜ r ≡ struckOf state note velocity ⌝ }
+{
+    let phase = state.phase;
+    State {
+        phase,
+        envelope: envelope::triggered(state.envelope),
+        frequency: pitch::frequency_of_f64(note),
+        velocity: voice::velocity_of_f64(velocity),
+        keys: keys::pressed(state.keys, note, velocity),
+        acted: one_more(state.acted),
+    }
+}
+
+fn release(state: State, note: u8) -> State
+    ensures { λ r. ⌜ r ≡ liftedBy state (liftedOf (state .keys) note .keys) (liftedOf (state .keys) note .off) ⌝ }
+{
+    let lift = keys::lifted(state.keys, note);
+    let keys = lift.keys;
+    let off = lift.off;
+    left(state, keys, off)
+}
+
+// The state after a key went up and these keys are left.
+fn left(state: State, keys: Keys, off: NoteOff) -> State
+    ensures { λ r. ⌜ r ≡ liftedBy state keys off ⌝ }
+{
+    let phase = state.phase;
+    let envelope = state.envelope;
+    let acted = one_more(state.acted);
+    match off {
+        NoteOff::Released => State {
+            phase,
+            envelope: envelope::released(envelope),
+            frequency: state.frequency,
+            velocity: state.velocity,
+            keys,
+            acted,
+        },
+        NoteOff::FellBack(note, velocity) => State {
+            phase,
+            envelope,
+            frequency: pitch::frequency_of_f64(note),
+            velocity: voice::velocity_of_f64(velocity),
+            keys,
+            acted,
+        },
+        NoteOff::NoChange => State {
+            phase,
+            envelope,
+            frequency: state.frequency,
+            velocity: state.velocity,
+            keys,
+            acted,
+        },
+    }
+}
+
+// The envelope one sample on.
+fn stepped(settings: Settings, state: State) -> Envelope
+    ensures { λ r. ⌜ r ≡ steppedOf settings state ⌝ }
+{
+    let adsr = settings.adsr;
+    envelope::step(
+        envelope::clamped(adsr),
+        envelope::sample_time(settings.rate),
+        state.envelope,
+    )
+}
+
+fn one_more(acted: u64) -> u64
+    ensures { λ r. ⌜ r ≡ counted acted ⌝ }
+{
+    if acted < 0xffff_ffff_ffff_ffff {
+        return acted + 1;
+    }
+    acted
+}

@@ -1,0 +1,130 @@
+-- The voice stays within the shelf's limits, whatever is called: so an honest state is never refused. And what a release and a reset leave. Assumes nothing.
+use mathlib.Core.Path.{_≡_, refl}
+use mathlib.Core.Bool.{Bool, true, false, false≢true, _&&_}
+use mathlib.Core.List.{List, [], _∷_}
+use Prim.Native.Nat.{ℕ, _≤_}
+use native.Mathlib.Omega.{arith}
+use lib.Dec.{T, leb→le}
+use lib.Ieee.{ofBits, lt, le}
+use lib.Ieee.Fits.{and-i, and-l, and-r}
+use Rattle.answers.specs.declared.Answer.the-variants.{Done}
+use Rattle.pitch.specs.Pitch.{frequencyOf}
+use Rattle.pitch.proofs.Rules.{frequency-in}
+use Rattle.voice.specs.Keys.{pressedOf, liftedOf, atMost, isKeys}
+use Rattle.voice.specs.Voice.{isLoud, isPitched, isVoice, isMidi, isReleased, struck, heardOf, changedIf, offIf, newOf, noteOnOf, noteOffOf, resetOf}
+use Rattle.voice.specs.declared.keys.Keys.{Keys}
+use Rattle.voice.specs.declared.keys.NoteOff.{NoteOff}
+use Rattle.voice.specs.declared.keys.NoteOff.the-variants.{Released, FellBack, NoChange}
+use Rattle.voice.specs.declared.VoiceState.{VoiceState}
+use Rattle.voice.proofs.Actions.{BackRanged, pressed-keeps, lifted-keeps}
+use Rattle.voice.proofs.Loudness.{velocity-in}
+
+-- ---- the test by its parts, there and back
+voice-i : (s : VoiceState) → T (isKeys (s .keys)) → T (isLoud (s .velocity)) → T (isPitched (s .frequency)) → T (isVoice s)
+unfolding isVoice
+voice-i s k v f = and-i (isKeys (s .keys) && isLoud (s .velocity)) (isPitched (s .frequency)) (and-i (isKeys (s .keys)) (isLoud (s .velocity)) k v) f
+
+module _ (s : VoiceState) (t : T (isVoice s)) where
+  pub voice-keys : T (isKeys (s .keys))
+  unfolding isVoice
+  voice-keys = and-l (isKeys (s .keys)) (isLoud (s .velocity)) (and-l (isKeys (s .keys) && isLoud (s .velocity)) (isPitched (s .frequency)) t)
+
+  pub voice-loud : T (isLoud (s .velocity))
+  unfolding isVoice
+  voice-loud = and-r (isKeys (s .keys)) (isLoud (s .velocity)) (and-l (isKeys (s .keys) && isLoud (s .velocity)) (isPitched (s .frequency)) t)
+
+  pub voice-pitched : T (isPitched (s .frequency))
+  unfolding isVoice
+  voice-pitched = and-r (isKeys (s .keys) && isLoud (s .velocity)) (isPitched (s .frequency)) t
+
+-- ---- what sounds is within the limits
+pitched : (n : ℕ) → n ≤ 127 → T (isPitched (frequencyOf n))
+unfolding ofBits
+pitched n h = frequency-in n (omega arith)
+
+struck-in : (k : Keys) (n v : ℕ) → T (isKeys k) → n ≤ 127 → v ≤ 127 → T (isVoice (struck k n v))
+struck-in k n v t hn hv = voice-i (struck k n v) t (velocity-in v hv) (pitched n hn)
+
+heard-in : (s : VoiceState) (k : Keys) (o : NoteOff) → T (isVoice s) → T (isKeys k) → BackRanged o → T (isVoice (heardOf s k o))
+heard-in s k Released t h b = voice-i (heardOf s k Released) h (voice-loud s t) (voice-pitched s t)
+heard-in s k (FellBack n v) t h b = struck-in k n v h (b .0) (b .1)
+heard-in s k NoChange t h b = voice-i (heardOf s k NoChange) h (voice-loud s t) (voice-pitched s t)
+
+pub new-in : T (isVoice newOf)
+unfolding isVoice isKeys atMost ofBits le lt
+new-in = tt
+
+-- ---- a refusal hands the state back, and what is done is within the limits
+change-keeps : (ok : Bool) (before after : VoiceState) → T (isVoice before) → (T ok → T (isVoice after)) → T (isVoice (changedIf ok before after .voice))
+change-keeps true before after h k = k tt
+change-keeps false before after h k = h
+
+off-keeps : (ok released : Bool) (before after : VoiceState) → T (isVoice before) → (T ok → T (isVoice after)) → T (isVoice (offIf ok released before after .voice))
+off-keeps true released before after h k = k tt
+off-keeps false released before after h k = h
+
+module _ (s : VoiceState) (t : T (isVoice s)) where
+  pub note-on-keeps : (n v : ℕ) → T (isVoice (noteOnOf s n v .voice))
+  note-on-keeps n v =
+      let ok = isVoice s && isMidi n && isMidi v in
+      change-keeps ok s (struck (pressedOf (s .keys) n v) n v) t
+      (λ (g : T ok).
+      let hn : n ≤ 127 = leb→le n 127 (and-r (isVoice s) (isMidi n) (and-l (isVoice s && isMidi n) (isMidi v) g)) in
+      let hv : v ≤ 127 = leb→le v 127 (and-r (isVoice s && isMidi n) (isMidi v) g) in
+      struck-in (pressedOf (s .keys) n v) n v (pressed-keeps (s .keys) n v (voice-keys s t) hn hv) hn hv)
+
+  pub note-off-keeps : (n : ℕ) → T (isVoice (noteOffOf s n .voice))
+  note-off-keeps n =
+      let lift = liftedOf (s .keys) n in
+      let kept = lifted-keeps (s .keys) n (voice-keys s t) in
+      off-keeps (isVoice s && isMidi n) (isReleased (lift .off)) s (heardOf s (lift .keys) (lift .off)) t (λ (g : T (isVoice s && isMidi n)). heard-in s (lift .keys) (lift .off) t (kept .within) (kept .back))
+
+  pub reset-keeps : T (isVoice (resetOf s .voice))
+  reset-keeps = change-keeps (isVoice s) s newOf t (λ (g : T (isVoice s)). new-in)
+
+-- ---- any calls, one after the other
+pub data Call : Type 0 where
+  on : ℕ → ℕ → Call
+  off : ℕ → Call
+  reset : Call
+
+-- the state after a call
+abbrev pub after : VoiceState → Call → VoiceState
+after s (on n v) = noteOnOf s n v .voice
+after s (off n) = noteOffOf s n .voice
+after s reset = resetOf s .voice
+
+after-keeps : (s : VoiceState) (c : Call) → T (isVoice s) → T (isVoice (after s c))
+after-keeps s (on n v) t = note-on-keeps s t n v
+after-keeps s (off n) t = note-off-keeps s t n
+after-keeps s reset t = reset-keeps s t
+
+-- the state after the calls of a list, from s
+unfoldable pub run : VoiceState → List Call → VoiceState
+run s [] = s
+run s (c ∷ cs) = run (after s c) cs
+
+run-keeps : (s : VoiceState) (cs : List Call) → T (isVoice s) → T (isVoice (run s cs))
+unfolding run
+run-keeps s [] t = t
+run-keeps s (c ∷ cs) t = run-keeps (after s c) cs (after-keeps s c t)
+
+-- from `new`, through any calls, refused ones too, the state is accepted
+pub stays : (cs : List Call) → T (isVoice (run newOf cs))
+stays cs = run-keeps newOf cs new-in
+
+-- ---- what a release and a reset leave
+released-same : (ok : Bool) (s : VoiceState) (k : Keys) (o : NoteOff) → offIf ok (isReleased o) s (heardOf s k o) .released ≡ true
+    → (offIf ok (isReleased o) s (heardOf s k o) .voice .velocity ≡ s .velocity) × (offIf ok (isReleased o) s (heardOf s k o) .voice .frequency ≡ s .frequency)
+released-same true s k Released e = (refl, refl)
+released-same true s k (FellBack n v) e = absurd (false≢true e)
+released-same true s k NoChange e = (refl, refl)
+released-same false s k o e = (refl, refl)
+
+-- a release keeps velocity and frequency
+pub release-keeps : (s : VoiceState) (n : ℕ) → noteOffOf s n .released ≡ true → (noteOffOf s n .voice .velocity ≡ s .velocity) × (noteOffOf s n .voice .frequency ≡ s .frequency)
+release-keeps s n e = released-same (isVoice s && isMidi n) s (liftedOf (s .keys) n .keys) (liftedOf (s .keys) n .off) e
+
+-- a reset makes the voice new
+pub reset-is-new : (s : VoiceState) → isVoice s ≡ true → resetOf s ≡ record { answer = Done 0; voice = newOf }
+reset-is-new s e = rw e refl

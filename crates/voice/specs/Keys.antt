@@ -1,0 +1,118 @@
+-- The held keys. 01, "Voice: `note_on` pushes if fewer than 16 are held and becomes active in any case. `note_off` drops every held entry of that note, then, only if it was active, falls back
+-- to the last held, or lowers the gate and returns true"; "`StackVec<(u8, u8), 16>` becomes two arrays and a count"; "The shelf": "active note 0 to 127 or 255, gate 1 exactly when it is not
+-- 255, held count at most 16, pairs in range", "16 pairs (note, velocity), oldest first .. unused pairs 0".
+-- The actions are defined on the list of the held pairs, for any keys: the first `count` pairs are held (all 16 where the count is above that), and what an action gives has its unused
+-- pairs 0, whatever stood there. Stricter than 01's bool: lifting a key says which of three things it did. Definitions only.
+use mathlib.Core.Bool.{Bool, true, false, not, cond, _&&_}
+use mathlib.Core.List.{List, [], _∷_, _++_, map}
+use Prim.Native.Nat.{ℕ, suc, _+_, _-_}
+use lib.Dec.{ltb, leb, eqb}
+use lib.ListN.{length, take, drop, replicate}
+use Rattle.voice.specs.declared.keys.ActiveNote.{ActiveNote}
+use Rattle.voice.specs.declared.keys.ActiveNote.the-variants.{Silent, Note}
+use Rattle.voice.specs.declared.keys.NoteOff.the-variants.{Released, FellBack, NoChange}
+use Rattle.voice.specs.declared.keys.Keys.{Keys}
+use Rattle.voice.specs.declared.keys.AfterLift.{AfterLift}
+
+-- a held key
+pub record Pair : Type 0 where
+  pub note : ℕ
+  pub velocity : ℕ
+
+abbrev pub noteOf : Pair → ℕ
+noteOf p = p .note
+
+abbrev pub velocityIn : Pair → ℕ
+velocityIn p = p .velocity
+
+-- two lists side by side, as far as both go
+unfoldable pub pairs : List ℕ → List ℕ → List Pair
+pairs [] vs = []
+pairs (n ∷ ns) [] = []
+pairs (n ∷ ns) (v ∷ vs) = record { note = n; velocity = v } ∷ pairs ns vs
+
+-- the held keys, oldest first
+abbrev pub heldOf : Keys → List Pair
+heldOf k = pairs (take (k .count) (k .notes)) (take (k .count) (k .velocities))
+
+-- xs in an array of 16, the rest 0
+abbrev pub padded : List ℕ → List ℕ
+padded xs = xs ++ replicate (16 - length xs) 0
+
+-- the keys that hold the pairs ps
+abbrev pub keysOf : ActiveNote → Bool → List Pair → Keys
+keysOf active gate ps = record { active = active; gate = gate; notes = padded (map noteOf ps); velocities = padded (map velocityIn ps); count = length ps }
+
+-- no key is down, and no note sounds
+abbrev pub freshKeys : Keys
+freshKeys = keysOf Silent false []
+
+-- ---- a key goes down
+-- one pair more at the end, where fewer than 16 are held
+abbrev pub pushed : List Pair → Pair → List Pair
+pushed ps p = cond (ltb (length ps) 16) (ps ++ p ∷ []) ps
+
+unfoldable pub pressedOf : Keys → ℕ → ℕ → Keys
+pressedOf k n v = keysOf (Note n) true (pushed (heldOf k) (record { note = n; velocity = v }))
+
+-- ---- a key goes up
+-- the pairs of other notes than n, in their order
+unfoldable pub others : ℕ → List Pair → List Pair
+others n [] = []
+others n (p ∷ ps) = cond (eqb (p .note) n) (others n ps) (p ∷ others n ps)
+
+-- every held entry of n is dropped
+unfoldable pub withoutOf : Keys → ℕ → Keys
+withoutOf k n = keysOf (k .active) (k .gate) (others n (heldOf k))
+
+abbrev pub isSounding : ActiveNote → ℕ → Bool
+isSounding Silent n = false
+isSounding (Note m) n = eqb m n
+
+-- the last of p and then ps
+unfoldable pub lastOf : Pair → List Pair → Pair
+lastOf p [] = p
+lastOf p (q ∷ ps) = lastOf q ps
+
+-- the same keys are held: no note sounds, or that of the pair p
+abbrev pub released : Keys → AfterLift
+released k = record { keys = record { active = Silent; gate = false; notes = k .notes; velocities = k .velocities; count = k .count }; off = Released }
+
+abbrev pub fellBackTo : Keys → Pair → AfterLift
+fellBackTo k p =
+    record {
+      keys = record { active = Note (p .note); gate = k .gate; notes = k .notes; velocities = k .velocities; count = k .count };
+      off = FellBack (p .note) (p .velocity);
+    }
+
+-- to the last of the held pairs ps, or to none
+abbrev pub fallBackTo : Keys → List Pair → AfterLift
+fallBackTo k [] = released k
+fallBackTo k (p ∷ ps) = fellBackTo k (lastOf p ps)
+
+abbrev pub fallBackOf : Keys → AfterLift
+fallBackOf k = fallBackTo k (heldOf k)
+
+-- only if n sounded does the sound change
+unfoldable pub liftedOf : Keys → ℕ → AfterLift
+liftedOf k n = cond (isSounding (k .active) n) (fallBackOf (withoutOf k n)) (record { keys = withoutOf k n; off = NoChange })
+
+-- ---- the limits
+abbrev pub isSound : ActiveNote → Bool → Bool
+isSound Silent gate = not gate
+isSound (Note n) gate = leb n 127 && gate
+
+unfoldable pub atMost : ℕ → List ℕ → Bool
+atMost m [] = true
+atMost m (x ∷ xs) = leb x m && atMost m xs
+
+-- the first c in range, the others 0
+abbrev pub isFilled : ℕ → List ℕ → Bool
+isFilled c xs = atMost 127 (take c xs) && atMost 0 (drop c xs)
+
+unfoldable pub isKeys : Keys → Bool
+isKeys k = isSound (k .active) (k .gate) && leb (k .count) 16 && isFilled (k .count) (k .notes) && isFilled (k .count) (k .velocities)
+
+-- ---- the inner loop of a removal, on one array: what stands at i is dropped, and what follows, to m, moves one down; from m on it stays
+unfoldable pub closedUp : ℕ → ℕ → List ℕ → List ℕ
+closedUp i m xs = take i xs ++ drop (suc i) (take (suc m) xs) ++ drop m xs

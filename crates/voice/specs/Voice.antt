@@ -1,0 +1,108 @@
+-- The voice of voice.rs, over the held keys. 01, "Notes and velocities are 0 to 127"; "Given states: .. voice .. fields within the shelf's limits", which are "velocity 0 to 1, frequency above 0
+-- and at most 12,544" and those of the keys; number 9 for anything else; "any single value as +0 (a yes or no as false), hands back state by value as it came". Frequency and velocity are f32,
+-- as in the original: v / 127 and the pitch table. A release keeps both; only a reset makes 440 and 0. No samples are written: count is 0.
+-- A given state is judged by every call that takes it, also where the call reads or replaces part of it. Definitions only.
+use mathlib.Core.Bool.{Bool, true, false, _&&_}
+use Prim.Native.Nat.{ℕ}
+use lib.Dec.{leb}
+use lib.IntN.{pos}
+use lib.ListN.{length}
+use lib.Ieee.{Float, binary32, ofBits, ofInt, div, lt, le}
+use Rattle.floats.specs.Range.{lit0, lit1, within}
+use Rattle.pitch.specs.Pitch.{frequencyOf}
+use Rattle.answers.specs.declared.Answer.the-variants.{Done, Refused}
+use Rattle.answers.specs.declared.Refusal.the-variants.{Argument}
+use Rattle.voice.specs.declared.keys.ActiveNote.{ActiveNote}
+use Rattle.voice.specs.declared.keys.ActiveNote.the-variants.{Silent, Note}
+use Rattle.voice.specs.declared.keys.NoteOff.{NoteOff}
+use Rattle.voice.specs.declared.keys.NoteOff.the-variants.{Released, FellBack, NoChange}
+use Rattle.voice.specs.declared.keys.Keys.{Keys}
+use Rattle.voice.specs.declared.VoiceState.{VoiceState}
+use Rattle.voice.specs.declared.Changed.{Changed}
+use Rattle.voice.specs.declared.Off.{Off}
+use Rattle.voice.specs.declared.Active.{Active}
+use Rattle.voice.specs.declared.HeldNotes.{HeldNotes}
+use Rattle.voice.specs.Keys.{heldOf, freshKeys, pressedOf, liftedOf, isKeys}
+
+-- v / 127, rounded once; an f32, so the same number as an f64
+unfoldable pub velocityOf : ℕ → Float
+velocityOf v = div binary32 (ofInt binary32 (pos v)) (ofBits binary32 0x42fe_0000)
+
+-- 440 and 12,544
+abbrev pub concert : Float
+concert = ofBits binary32 0x43dc_0000
+
+abbrev pub highest : Float
+highest = ofBits binary32 0x4644_0000
+
+-- ---- the domain
+abbrev pub isMidi : ℕ → Bool
+isMidi n = leb n 127
+
+abbrev pub isLoud : Float → Bool
+isLoud x = within (lit0 binary32) (lit1 binary32) x
+
+abbrev pub isPitched : Float → Bool
+isPitched x = lt (lit0 binary32) x && le x highest
+
+unfoldable pub isVoice : VoiceState → Bool
+isVoice s = isKeys (s .keys) && isLoud (s .velocity) && isPitched (s .frequency)
+
+-- ---- answers: done, or 9 with the state as it came, and with no or 0 for what was asked
+abbrev pub changedIf : Bool → VoiceState → VoiceState → Changed
+changedIf true before after = record { answer = Done 0; voice = after }
+changedIf false before after = record { answer = Refused Argument; voice = before }
+
+abbrev pub offIf : Bool → Bool → VoiceState → VoiceState → Off
+offIf true released before after = record { answer = Done 0; released = released; voice = after }
+offIf false released before after = record { answer = Refused Argument; released = false; voice = before }
+
+abbrev pub activeIf : Bool → Bool → Active
+activeIf true active = record { answer = Done 0; active = active }
+activeIf false active = record { answer = Refused Argument; active = false }
+
+abbrev pub countIf : Bool → ℕ → HeldNotes
+countIf true n = record { answer = Done 0; count = n }
+countIf false n = record { answer = Refused Argument; count = 0 }
+
+-- ---- what sounds
+-- the note n, struck with v
+abbrev pub struck : Keys → ℕ → ℕ → VoiceState
+struck k n v = record { keys = k; velocity = velocityOf v; frequency = frequencyOf n }
+
+-- after a key is lifted: only a fall back to another note changes velocity and frequency
+abbrev pub heardOf : VoiceState → Keys → NoteOff → VoiceState
+heardOf s k Released = record { keys = k; velocity = s .velocity; frequency = s .frequency }
+heardOf s k (FellBack n v) = struck k n v
+heardOf s k NoChange = record { keys = k; velocity = s .velocity; frequency = s .frequency }
+
+abbrev pub isReleased : NoteOff → Bool
+isReleased Released = true
+isReleased (FellBack n v) = false
+isReleased NoChange = false
+
+abbrev pub isNote : ActiveNote → Bool
+isNote Silent = false
+isNote (Note n) = true
+
+-- ---- the calls
+abbrev pub newOf : VoiceState
+newOf = record { keys = freshKeys; velocity = lit0 binary32; frequency = concert }
+
+abbrev pub noteOnOf : VoiceState → ℕ → ℕ → Changed
+noteOnOf s n v = changedIf (isVoice s && isMidi n && isMidi v) s (struck (pressedOf (s .keys) n v) n v)
+
+abbrev pub noteOffOf : VoiceState → ℕ → Off
+noteOffOf s n =
+    let lift = liftedOf (s .keys) n in
+    offIf (isVoice s && isMidi n) (isReleased (lift .off)) s (heardOf s (lift .keys) (lift .off))
+
+abbrev pub resetOf : VoiceState → Changed
+resetOf s = changedIf (isVoice s) s newOf
+
+abbrev pub isActiveOf : VoiceState → Active
+isActiveOf s = activeIf (isVoice s) (isNote (s .keys .active))
+
+-- the length of the list of the held keys
+abbrev pub heldNoteCountOf : VoiceState → HeldNotes
+heldNoteCountOf s = countIf (isVoice s) (length (heldOf (s .keys)))

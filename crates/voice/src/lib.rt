@@ -1,0 +1,254 @@
+// voice.rs of the original: one voice for many keys, the last of which sounds. State goes in by value and is handed back; what lies
+// outside the domain is refused (document 01, number 9). The keys themselves are in keys.rt.
+ghost use mathlib.Core.Path.{_≡_};
+ghost use Rattle.voice.specs.Voice.{velocityOf, isVoice, isMidi, struck, heardOf, isReleased, isNote, changedIf, offIf, activeIf, countIf};
+ghost use Rattle.voice.specs.Voice.{newOf, noteOnOf, noteOffOf, resetOf, isActiveOf, heldNoteCountOf};
+use answers::Answer;
+use answers::Refusal;
+use keys::ActiveNote;
+use keys::AfterLift;
+use keys::Keys;
+use keys::NoteOff;
+
+pub mod keys;
+
+// The keys, and what sounds: the velocity from 0 to 1 and the frequency in Hz, both of the last note that sounded.
+pub struct VoiceState {
+    pub keys: Keys,
+    pub velocity: f32,
+    pub frequency: f32,
+}
+
+// What a call that changes the state answers.
+pub struct Changed {
+    pub answer: Answer,
+    pub voice: VoiceState,
+}
+
+// What lifting a key answers: whether the sound is released, and the state after.
+pub struct Off {
+    pub answer: Answer,
+    pub released: bool,
+    pub voice: VoiceState,
+}
+
+// What a call that asks for a yes or no answers.
+pub struct Active {
+    pub answer: Answer,
+    pub active: bool,
+}
+
+// What a call that asks for a number of keys answers.
+pub struct HeldNotes {
+    pub answer: Answer,
+    pub count: usize,
+}
+
+impl VoiceState {
+    // Silent, at 440 Hz.
+    pub fn new() -> VoiceState
+        ensures { λ r. ⌜ r ≡ newOf ⌝ }
+    {
+        VoiceState {
+            keys: keys::fresh_keys(),
+            velocity: 0.0,
+            frequency: 440.0,
+        }
+    }
+
+    // A key goes down and sounds.
+    pub fn note_on(self, note: u8, velocity: u8) -> Changed
+        ensures { λ r. ⌜ r ≡ noteOnOf self note velocity ⌝ }
+    {
+        let keys = self.keys;
+        let after = VoiceState {
+            keys: keys::pressed(keys, note, velocity),
+            velocity: velocity_of(velocity),
+            frequency: pitch::frequency_of(note),
+        };
+        changed_if(
+            is_voice(self) & is_midi(note) & is_midi(velocity),
+            self,
+            after,
+        )
+    }
+
+    // A key goes up. True where no note sounds any more, which keeps the velocity and the frequency.
+    pub fn note_off(self, note: u8) -> Off
+        ensures { λ r. ⌜ r ≡ noteOffOf self note ⌝ }
+    {
+        let keys = self.keys;
+        let lift = keys::lifted(keys, note);
+        off_if(
+            is_voice(self) & is_midi(note),
+            is_released(lift),
+            self,
+            heard(self, lift),
+        )
+    }
+
+    // As it was made.
+    pub fn reset(self) -> Changed
+        ensures { λ r. ⌜ r ≡ resetOf self ⌝ }
+    {
+        changed_if(is_voice(self), self, VoiceState::new())
+    }
+
+    // Whether a note sounds.
+    pub fn is_active(self) -> Active
+        ensures { λ r. ⌜ r ≡ isActiveOf self ⌝ }
+    {
+        let keys = self.keys;
+        active_if(is_voice(self), is_note(keys))
+    }
+
+    // How many keys are held.
+    pub fn held_note_count(self) -> HeldNotes
+        ensures { λ r. ⌜ r ≡ heldNoteCountOf self ⌝ }
+    {
+        let keys = self.keys;
+        count_if(is_voice(self), keys::held_count(keys))
+    }
+}
+
+// A velocity as a factor: from 0 to 1 up to 127.
+pub fn velocity_of(velocity: u8) -> f32
+    ensures { λ r. ⌜ r ≡ velocityOf velocity ⌝ }
+{
+    velocity as f32 / 127.0
+}
+
+// The same, widened.
+pub fn velocity_of_f64(velocity: u8) -> f64
+    ensures { λ r. ⌜ r ≡ velocityOf velocity ⌝ }
+{
+    velocity_of(velocity) as f64
+}
+
+// A state within the shelf's limits.
+fn is_voice(voice: VoiceState) -> bool
+    ensures { λ r. ⌜ r ≡ isVoice voice ⌝ }
+{
+    let keys = voice.keys;
+    let velocity = voice.velocity;
+    let frequency = voice.frequency;
+    let loud = (0.0 <= velocity) & (velocity <= 1.0);
+    let pitched = (0.0 < frequency) & (frequency <= 12544.0);
+    keys::is_keys(keys) & loud & pitched
+}
+
+// A note or a velocity.
+fn is_midi(number: u8) -> bool
+    ensures { λ r. ⌜ r ≡ isMidi number ⌝ }
+{
+    number <= 127
+}
+
+fn is_note(keys: Keys) -> bool
+    ensures { λ r. ⌜ r ≡ isNote (keys .active) ⌝ }
+{
+    let active = keys.active;
+    match active {
+        ActiveNote::Silent => false,
+        ActiveNote::Note(_) => true,
+    }
+}
+
+fn is_released(lift: AfterLift) -> bool
+    ensures { λ r. ⌜ r ≡ isReleased (lift .off) ⌝ }
+{
+    let off = lift.off;
+    match off {
+        NoteOff::Released => true,
+        NoteOff::FellBack(_, _) => false,
+        NoteOff::NoChange => false,
+    }
+}
+
+// What sounds after a key is lifted: only a fall back to another note changes velocity and frequency.
+fn heard(voice: VoiceState, lift: AfterLift) -> VoiceState
+    ensures { λ r. ⌜ r ≡ heardOf voice (lift .keys) (lift .off) ⌝ }
+{
+    let keys = lift.keys;
+    let off = lift.off;
+    let same = VoiceState {
+        keys,
+        velocity: voice.velocity,
+        frequency: voice.frequency,
+    };
+    match off {
+        NoteOff::Released => same,
+        NoteOff::FellBack(note, velocity) => VoiceState {
+            keys,
+            velocity: velocity_of(velocity),
+            frequency: pitch::frequency_of(note),
+        },
+        NoteOff::NoChange => same,
+    }
+}
+
+// The state after, or a refusal with the state as it came.
+fn changed_if(ok: bool, before: VoiceState, after: VoiceState) -> Changed
+    ensures { λ r. ⌜ r ≡ changedIf ok before after ⌝ }
+{
+    if ok {
+        return Changed {
+            answer: Answer::Done(0),
+            voice: after,
+        };
+    }
+    Changed {
+        answer: Answer::Refused(Refusal::Argument),
+        voice: before,
+    }
+}
+
+// Whether it is released and the state after, or a refusal with no and the state as it came.
+fn off_if(ok: bool, released: bool, came: VoiceState, left: VoiceState) -> Off
+    ensures { λ r. ⌜ r ≡ offIf ok released came left ⌝ }
+{
+    if ok {
+        return Off {
+            answer: Answer::Done(0),
+            released,
+            voice: left,
+        };
+    }
+    Off {
+        answer: Answer::Refused(Refusal::Argument),
+        released: false,
+        voice: came,
+    }
+}
+
+// Yes or no, or a refusal with no.
+fn active_if(ok: bool, active: bool) -> Active
+    ensures { λ r. ⌜ r ≡ activeIf ok active ⌝ }
+{
+    if ok {
+        return Active {
+            answer: Answer::Done(0),
+            active,
+        };
+    }
+    Active {
+        answer: Answer::Refused(Refusal::Argument),
+        active: false,
+    }
+}
+
+// The number, or a refusal with 0.
+fn count_if(ok: bool, count: usize) -> HeldNotes
+    ensures { λ r. ⌜ r ≡ countIf ok count ⌝ }
+{
+    if ok {
+        return HeldNotes {
+            answer: Answer::Done(0),
+            count,
+        };
+    }
+    HeldNotes {
+        answer: Answer::Refused(Refusal::Argument),
+        count: 0,
+    }
+}

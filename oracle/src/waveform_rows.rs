@@ -1,0 +1,255 @@
+//! Rows of the waveforms, all but sine: op, waveform (1 to 4, in the original's order), duty, phase, step, scale,
+//! samples asked for; then number, phase after, eight slots. 17 u64 a row, every float as its bits.
+//!
+//! `fill` and `block` count in radians: one sample by `generate_waveform_sample`, whose phase grows and is not reduced;
+//! up to eight by `process_waveform_scalar`, which reduces. `sample` takes a phase and a step of it in cycles, which are
+//! judged. Only Pulse has a duty. The slots are eight numbers, 42 each before the call, of which the first are written.
+
+use crate::chance::Chance;
+use crate::math::Real;
+use crate::patterns::{near, two_to};
+use crate::polyblep::{polyblamp_triangle, polyblep_pulse, polyblep_saw, polyblep_square};
+use crate::random::XorShiftRng;
+use crate::rows::{self, Part};
+use crate::waveform::{generate_waveform_sample, process_waveform_scalar, Waveform, DEFAULT_DUTY_CYCLE};
+
+pub const PART: Part = Part {
+    name: "waveform",
+    word: 8,
+    words: 17,
+    number_at: Some(7),
+    ops: &["fill", "block", "sample"],
+    edges,
+    random: |chance| rows::each(chance, random),
+    answer,
+};
+
+const FILL: u64 = 0;
+const BLOCK: u64 = 1;
+const SAMPLE: u64 = 2;
+
+const SQUARE: u64 = 1;
+const SAWTOOTH: u64 = 2;
+const TRIANGLE: u64 = 3;
+const PULSE: u64 = 4;
+const SHAPES: [u64; 4] = [SQUARE, SAWTOOTH, TRIANGLE, PULSE];
+
+const SLOTS: u64 = 8;
+const UNWRITTEN: f64 = 42.0;
+const TINY: f64 = f64::from_bits(1);
+const TAU: f64 = <f64 as Real>::TAU;
+const RATES: [f64; 5] = [8000.0, 16384.0, 44100.0, 48000.0, 192000.0];
+const FREQUENCIES: [f64; 8] = [0.0, TINY, f64::MIN_POSITIVE, 1e-3, 440.0, 12543.853_515_625, 20000.0, 19999.999];
+
+/// A row's given words; a duty stands only where Pulse reads it, a scale and a length only where a block has them.
+fn given(op: u64, shape: u64, duty: f64, phase: f64, step: f64, scale: f64, length: u64) -> Vec<u64> {
+    let duty = if shape == PULSE { duty } else { 0.0 };
+    let (scale, length) = if op == BLOCK { (scale, length) } else { (1.0, 1) };
+    vec![op, shape, duty.to_bits(), phase.to_bits(), step.to_bits(), scale.to_bits(), length]
+}
+
+fn waveform(shape: u64) -> Waveform {
+    match shape {
+        SQUARE => Waveform::Square,
+        SAWTOOTH => Waveform::Sawtooth,
+        TRIANGLE => Waveform::Triangle,
+        PULSE => Waveform::Pulse,
+        _ => panic!("no shape {shape}"),
+    }
+}
+
+/// 01's refusals of a single sample: the duty, then phase and dt. The other two refuse nothing.
+fn refusal(row: &[u64]) -> Option<u64> {
+    let [duty, phase, dt] = [2, 3, 4].map(|at| f64::from_bits(row[at]));
+    let unit = 0.0..=1.0;
+    match row[0] {
+        SAMPLE if row[1] == PULSE && !unit.contains(&duty) => Some(6),
+        SAMPLE if !unit.contains(&phase) || !(0.0..=4.0).contains(&dt) => Some(9),
+        _ => None,
+    }
+}
+
+/// Number, phase after (0 of a single sample), slots.
+fn answer(row: &[u64]) -> Vec<u64> {
+    let mut slots = [UNWRITTEN; SLOTS as usize];
+    let number = refusal(row);
+    let output = &mut slots[..row[6] as usize];
+    let after = match row[0] {
+        SAMPLE => {
+            output[0] = number.map_or_else(|| single(row), |_| 0.0);
+            0.0
+        }
+        FILL => fill(row, output),
+        _ => block(row, output),
+    };
+    assert!(slots.iter().all(|x| x.is_finite()) && after.is_finite(), "not finite at {row:?}");
+    let mut words = vec![number.unwrap_or(0), after.to_bits()];
+    words.extend(slots.map(f64::to_bits));
+    words
+}
+
+/// The phase grows by the step, as in the original's loop; where the duty is the block's own, that loop agrees.
+fn fill(row: &[u64], output: &mut [f64]) -> f64 {
+    let [duty, phase, step] = [2, 3, 4].map(|at| f64::from_bits(row[at]));
+    let rng = &mut XorShiftRng::new(0);
+    output[0] = generate_waveform_sample(waveform(row[1]), phase, step, duty, rng);
+    if row[1] != PULSE || duty == DEFAULT_DUTY_CYCLE {
+        let (mut same, mut reduced) = ([0.0], phase);
+        process_waveform_scalar(&mut same, waveform(row[1]), &mut reduced, step, rng, 1.0);
+        assert_eq!(same[0].to_bits(), output[0].to_bits(), "the loop parts ways at {row:?}");
+    }
+    phase + step
+}
+
+fn block(row: &[u64], output: &mut [f64]) -> f64 {
+    let [duty, mut phase, step, scale] = [2, 3, 4, 5].map(|at| f64::from_bits(row[at]));
+    assert!(row[1] != PULSE || duty == DEFAULT_DUTY_CYCLE, "the original's block has one duty only");
+    process_waveform_scalar(output, waveform(row[1]), &mut phase, step, &mut XorShiftRng::new(0), scale);
+    phase
+}
+
+/// The function that the original's waveform calls at a normalised phase and step.
+fn single(row: &[u64]) -> f64 {
+    let [duty, phase, dt] = [2, 3, 4].map(|at| f64::from_bits(row[at]));
+    match row[1] {
+        SQUARE => polyblep_square(phase, dt),
+        SAWTOOTH => polyblep_saw(phase, dt),
+        TRIANGLE => polyblamp_triangle(phase, dt),
+        _ => polyblep_pulse(phase, dt, duty),
+    }
+}
+
+// The edges.
+
+/// Radians: whole and half cycles with the floats beside them, up to the last start phase.
+fn phases() -> Vec<f64> {
+    let mut list = vec![0.0, -0.0, TINY, f64::MIN_POSITIVE, two_to(-53), 1.0, 999.99, near(1000.0, -1)];
+    for halves in [1.0, 2.0, 3.0, 318.0] {
+        let at = halves * TAU / 2.0;
+        list.extend([near(at, -1), at, near(at, 1)]);
+    }
+    list
+}
+
+fn steps() -> Vec<f64> {
+    let mut list = vec![-0.0, TAU / 2.0, near(TAU, -1), TAU, 20.0];
+    for frequency in FREQUENCIES {
+        list.extend([8000.0, 44100.0, 192000.0].map(|rate| frequency / rate * TAU));
+    }
+    list
+}
+
+fn duties() -> Vec<f64> {
+    vec![0.0, -0.0, TINY, 0.25, near(0.5, -1), 0.5, near(0.5, 1), near(1.0, -1), 1.0]
+}
+
+fn not_a_unit() -> Vec<f64> {
+    vec![-TINY, -1.0, near(1.0, 1), 2.0, f64::INFINITY, f64::NEG_INFINITY, f64::NAN, f64::from_bits(u64::MAX)]
+}
+
+fn edges() -> Vec<Vec<u64>> {
+    [edges_of_fill(), edges_of_block(), edges_of_sample()].concat()
+}
+
+fn edges_of_fill() -> Vec<Vec<u64>> {
+    let mut rows = Vec::new();
+    for shape in SHAPES {
+        for phase in phases() {
+            rows.extend([0.0, 440.0 / 48000.0 * TAU, 20.0].map(|step| given(FILL, shape, 0.25, phase, step, 1.0, 1)));
+        }
+        rows.extend(steps().into_iter().map(|step| given(FILL, shape, 0.25, 0.01, step, 1.0, 1)));
+    }
+    for duty in duties() {
+        for phase in [0.0, 1.0, duty * TAU, near(TAU, -1), 999.99] {
+            rows.push(given(FILL, PULSE, duty, phase, 0.05, 1.0, 1));
+        }
+    }
+    rows
+}
+
+/// Lengths 0, 1 and 8; the reduction of phases below 0 and far away too, which a block of ours takes as they are.
+fn edges_of_block() -> Vec<Vec<u64>> {
+    let mut rows = Vec::new();
+    let far = [-TINY, -1.0, -TAU, near(-TAU, -1), near(-TAU, 1), -999.99, 1e6, -1e6, 1e300, -1e300];
+    for phase in phases().into_iter().chain(far) {
+        rows.push(given(BLOCK, SAWTOOTH, 0.5, phase, 0.1, 1.0, 0));
+        rows.extend(SHAPES.map(|shape| given(BLOCK, shape, 0.5, phase, 440.0 / 44100.0 * TAU, 0.5, SLOTS)));
+    }
+    for shape in SHAPES {
+        for step in steps() {
+            rows.push(given(BLOCK, shape, 0.5, 6.0, step, 1.0, SLOTS));
+        }
+        for scale in [0.0, -0.0, TINY, 0.1, near(1.0, -1), 1.0] {
+            rows.extend([0, 1, SLOTS].map(|length| given(BLOCK, shape, 0.5, 3.0, 0.3, scale, length)));
+        }
+        rows.push(given(BLOCK, shape, 0.5, 3.0, -0.75, 1.0, SLOTS));
+    }
+    rows
+}
+
+fn edges_of_sample() -> Vec<Vec<u64>> {
+    let mut rows = Vec::new();
+    for shape in SHAPES {
+        for phase in [0.0, -0.0, 0.125, 0.5, 1.0].into_iter().chain(not_a_unit()) {
+            for dt in [0.0, 0.25, 4.0, near(4.0, 1), -TINY, f64::NAN] {
+                rows.push(given(SAMPLE, shape, 0.25, phase, dt, 1.0, 1));
+            }
+        }
+    }
+    for duty in duties().into_iter().chain(not_a_unit()) {
+        rows.extend([0.0, 0.25, 1.5].map(|phase| given(SAMPLE, PULSE, duty, phase, 0.125, 1.0, 1)));
+    }
+    rows
+}
+
+// The random rows.
+
+fn random(chance: &mut Chance) -> Vec<u64> {
+    let shape = chance.pick(&SHAPES);
+    let op = chance.pick(&[FILL, FILL, BLOCK, BLOCK, BLOCK, SAMPLE]);
+    let duty = match op {
+        BLOCK => DEFAULT_DUTY_CYCLE,
+        _ if chance.below(4) == 0 => chance.pick(&duties()),
+        _ => chance.dense(),
+    };
+    if op == SAMPLE {
+        return random_sample(shape, duty, chance);
+    }
+    let step = random_step(chance);
+    let scale = if chance.below(2) == 0 { 1.0 } else { chance.dense() };
+    let length = chance.pick(&[0, 1, SLOTS, SLOTS, SLOTS]);
+    given(op, shape, duty, random_phase(duty, step, chance), step, scale, length)
+}
+
+/// One in four is refused, most often.
+fn random_sample(shape: u64, duty: f64, chance: &mut Chance) -> Vec<u64> {
+    let mut row = given(SAMPLE, shape, duty, chance.dense(), 4.0 * chance.dense() * chance.dense(), 1.0, 1);
+    if chance.below(4) == 0 {
+        let at = chance.pick(if shape == PULSE { &[2, 3, 4] } else { &[3, 4] });
+        row[at] = chance.pick(&not_a_unit()).to_bits();
+    }
+    row
+}
+
+/// 0 up to 1,000; some near a corner of the shape, or within a step of one.
+fn random_phase(duty: f64, step: f64, chance: &mut Chance) -> f64 {
+    let cycles = chance.below(159) as f64;
+    let corner = (cycles + chance.pick(&[0.0, 0.5, 1.0, duty])) * TAU;
+    match chance.below(8) {
+        0 => near(corner, chance.between(-3, 3)).max(0.0),
+        1 | 2 => (corner + step * (2.0 * chance.unit() - 1.0)).max(0.0),
+        3 => chance.pick(&phases()),
+        4 => chance.scaled(-60, 8),
+        5 => TAU * chance.dense(),
+        _ => 999.99 * chance.dense(),
+    }
+}
+
+fn random_step(chance: &mut Chance) -> f64 {
+    match chance.below(8) {
+        0 => chance.pick(&steps()),
+        1 => 20.0 * chance.dense(),
+        2 => chance.scaled(-60, 3),
+        _ => 20000.0 * chance.dense() * chance.dense() / chance.pick(&RATES) * TAU,
+    }
+}
