@@ -3,5 +3,7 @@
 pub mod Steps
 -- the ranges of what is made of radians
 pub mod Normal
+-- a value is an f64, and every sample of a block is finite
+pub mod Values
 -- two outcomes of a public function are equal
 pub mod Unique

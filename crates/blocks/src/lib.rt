@@ -1,0 +1,74 @@
+// What the two block calls share, oscillator.rs's and lfo.rs's of the original: the judging, the inner loop over the
+// output, and the reduction after it. They differ in their highest frequency, and the oscillator's depth is 1.
+ghost use mathlib.Core.Path.{_≡_};
+ghost use Rattle.blocks.specs.Block.{isTone, isStart, refusedOf, leaves, runOf};
+ghost use Rattle.floats.specs.Range.{within};
+ghost use Rattle.floats.specs.Double.{naught};
+use answers::Answer;
+use answers::Refusal;
+use waveform::Radians;
+use waveform::Waveform;
+
+// What a block sounds, and the phase that it starts at.
+pub struct Tone {
+    pub frequency: f64,
+    pub depth: f64,
+    pub phase: Radians,
+    pub waveform: Waveform,
+}
+
+// What a run answers, and the phase after it.
+pub struct Ran {
+    pub answer: Answer,
+    pub phase: Radians,
+}
+
+// Writes a sample into every element of out, then reduces the phase.
+pub fn run(tone: Tone, highest: f64, rate: u32, out: &mut [f64]) -> Ran
+    ensures { λ r. ⌜ leaves r (now (out .exit)) ≡ runOf tone highest rate (now (out .entry)) ⌝ }
+{
+    let shape = tone.waveform;
+    if !(envelope::is_rate(rate) & waveform::is_waveform(shape)) {
+        return refused(Refusal::Setting, tone.phase);
+    }
+    if !is_tone(tone, highest) {
+        return refused(Refusal::Argument, tone.phase);
+    }
+    let step = waveform::increment(tone.frequency, rate);
+    let last = waveform::fill(out, shape, tone.phase, step, tone.depth);
+    let after = waveform::reduced(last);
+    Ran {
+        answer: Answer::Done(out.len()),
+        phase: after,
+    }
+}
+
+// A depth, a frequency and a start phase that are accepted.
+fn is_tone(tone: Tone, highest: f64) -> bool
+    ensures { λ r. ⌜ r ≡ isTone tone highest ⌝ }
+{
+    is_within(1.0, tone.depth) & is_within(highest, tone.frequency) & is_start(tone.phase)
+}
+
+// From 0 up to, not including, 1,000 radians.
+fn is_start(phase: Radians) -> bool
+    ensures { λ r. ⌜ r ≡ isStart phase ⌝ }
+{
+    (0.0 <= phase.0) & (phase.0 < 1000.0)
+}
+
+fn is_within(high: f64, x: f64) -> bool
+    ensures { λ r. ⌜ r ≡ within naught high x ⌝ }
+{
+    (0.0 <= x) & (x <= high)
+}
+
+// The phase as it came.
+fn refused(why: Refusal, phase: Radians) -> Ran
+    ensures { λ r. ⌜ r ≡ refusedOf why phase ⌝ }
+{
+    Ran {
+        answer: Answer::Refused(why),
+        phase,
+    }
+}

@@ -1,0 +1,44 @@
+-- The LFO's calls. 01, "Domain": frequency "(LFO 0 to 100), depth 0 to 1"; "Steps": "the value is taken .., times depth in the LFO". What a block call is, what it refuses and what a refusal
+-- leaves is in blocks' specs/Block.antt. A setting is judged by the call that uses it, which is `process`: the other calls refuse nothing. Definitions only.
+use mathlib.Core.List.{List}
+use Prim.Native.Nat.{ℕ}
+use lib.Ieee.{Float, binary64, ofBits}
+use Rattle.floats.specs.Double.{naught}
+use Rattle.waveform.specs.declared.Radians.{Radians}
+use Rattle.waveform.specs.declared.Waveform.{Waveform}
+use Rattle.waveform.specs.Waveform.{radians}
+use Rattle.blocks.specs.declared.Tone.{Tone}
+use Rattle.blocks.specs.Block as blocks
+use Rattle.blocks.specs.Block.{runOf}
+use Rattle.lfo.specs.declared.LfoBlock.{LfoBlock}
+use Rattle.lfo.specs.declared.Processed.{Processed}
+
+-- 100
+abbrev pub highest : Float
+highest = ofBits binary64 0x4059_0000_0000_0000
+
+abbrev pub newOf : Float → Float → Waveform → LfoBlock
+newOf frequency depth w = record { frequency = frequency; depth = depth; phase = radians naught; waveform = w }
+
+abbrev pub withPhase : LfoBlock → Radians → LfoBlock
+withPhase b p = record { frequency = b .frequency; depth = b .depth; phase = p; waveform = b .waveform }
+
+-- ---- the block call
+abbrev pub toneOf : LfoBlock → Tone
+toneOf b = record { frequency = b .frequency; depth = b .depth; phase = b .phase; waveform = b .waveform }
+
+-- what it leaves: its result, and the lent numbers
+pub record Outcome : Type 0 where
+  pub result : Processed
+  pub lent : List Float
+
+abbrev pub leaves : Processed → List Float → Outcome
+leaves r xs = record { result = r; lent = xs }
+
+-- what a run leaves, handed on: the block has the phase after it
+abbrev pub handedOf : LfoBlock → blocks.Outcome → Outcome
+handedOf b o = leaves (record { answer = o .result .answer; block = withPhase b (o .result .phase) }) (o .lent)
+
+-- every lent number is a value times the depth
+abbrev pub processOf : LfoBlock → ℕ → List Float → Outcome
+processOf b rate xs = handedOf b (runOf (toneOf b) highest rate xs)

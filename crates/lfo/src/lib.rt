@@ -1,0 +1,69 @@
+// lfo.rs of the original: a block of a slow waveform times a depth. State goes in by value and is handed back.
+ghost use mathlib.Core.Path.{_≡_};
+ghost use Rattle.lfo.specs.Lfo.{newOf, withPhase, leaves, processOf};
+ghost use Rattle.waveform.specs.Waveform.{radians};
+ghost use Rattle.floats.specs.Double.{naught};
+use answers::Answer;
+use blocks::Tone;
+use waveform::Radians;
+use waveform::Waveform;
+
+// The highest frequency that is accepted, in Hz.
+const HIGHEST: f64 = 100.0;
+
+pub struct LfoBlock {
+    pub frequency: f64,
+    pub depth: f64,
+    pub phase: Radians,
+    pub waveform: Waveform,
+}
+
+// What the block call answers, and the block after it.
+pub struct Processed {
+    pub answer: Answer,
+    pub block: LfoBlock,
+}
+
+impl LfoBlock {
+    // At phase 0, with the settings as they are given: the block call judges them.
+    pub fn new(frequency: f64, depth: f64, waveform: Waveform) -> LfoBlock
+        ensures { λ r. ⌜ r ≡ newOf frequency depth waveform ⌝ }
+    {
+        LfoBlock {
+            frequency,
+            depth,
+            phase: Radians(0.0),
+            waveform,
+        }
+    }
+
+    // The settings stay.
+    pub fn reset(self) -> LfoBlock
+        ensures { λ r. ⌜ r ≡ withPhase self (radians naught) ⌝ }
+    {
+        let start = Radians(0.0);
+        let mut block = self;
+        block.phase = start;
+        block
+    }
+
+    // Writes a value of the waveform times the depth into every element of out, then reduces the phase.
+    pub fn process(self, rate: u32, out: &mut [f64]) -> Processed
+        ensures { λ r. ⌜ leaves r (now (out .exit)) ≡ processOf self rate (now (out .entry)) ⌝ }
+    {
+        let phase = self.phase;
+        let waveform = self.waveform;
+        let tone = Tone {
+            frequency: self.frequency,
+            depth: self.depth,
+            phase,
+            waveform,
+        };
+        let ran = blocks::run(tone, HIGHEST, rate, out);
+        let answer = ran.answer;
+        let phase = ran.phase;
+        let mut block = self;
+        block.phase = phase;
+        Processed { answer, block }
+    }
+}

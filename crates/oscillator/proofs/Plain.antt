@@ -1,0 +1,49 @@
+-- The oscillator is a run at depth 1: x * 1 is x, so the samples are the values. Hence what is done is sound. Assumes nothing.
+use mathlib.Core.Path.{_≡_, refl}
+use mathlib.Core.Bool.{true}
+use mathlib.Core.List.{List}
+use Prim.Native.Nat.{ℕ, zero, suc}
+use lib.Dec.{T}
+use lib.ListN.{length}
+use lib.Ieee.{Float, binary64, ofBits, le, fits}
+use Rattle.floats.specs.Range.{within}
+use Rattle.floats.specs.Double.{_⊗_, naught, one}
+use Rattle.floats.proofs.Literals.{lit1-is}
+use Rattle.floats.proofs.OneWay.{times-one}
+use Rattle.answers.specs.declared.Answer.the-variants.{Done}
+use Rattle.waveform.specs.declared.Waveform.{Waveform}
+use Rattle.waveform.specs.Waveform.{invTau, normalOf, incrementOf}
+use Rattle.waveform.specs.Filled.{phaseFrom, valueAt, samplesFrom}
+use Rattle.waveform.proofs.Values.{value-fits}
+use Rattle.blocks.specs.Block.{isTone, runOf}
+use Rattle.blocks.specs.declared.Tone.{Tone}
+use Rattle.blocks.proofs.Sound.{Sound, run-sound}
+use Rattle.oscillator.specs.Oscillator.{highest, playedOf, valuesFrom, ranOf, processOf}
+use Rattle.oscillator.specs.declared.OscillatorBlock.{OscillatorBlock}
+
+-- x * 1
+one-times : (x : Float) → T (fits binary64 x) → x ⊗ one ≡ x
+one-times x w = rw (lit1-is binary64) (times-one binary64 x w)
+
+pub samples-are-values : (w : Waveform) (step p : Float) (k : ℕ) → samplesFrom w step one p k ≡ valuesFrom w step p k
+unfolding samplesFrom valuesFrom
+samples-are-values w step p zero = refl
+samples-are-values w step p (suc k) =
+    rw (samples-are-values w step p k, one-times (valueAt w step (phaseFrom step p k)) (value-fits w (normalOf (phaseFrom step p k)) (step ⊗ invTau))) refl
+
+-- the block as a tone
+abbrev pub toneOf : OscillatorBlock → Tone
+toneOf b = record { frequency = playedOf b; depth = one; phase = b .phase; waveform = b .waveform }
+
+one-in : within naught one one ≡ true
+one-in = unfold ofBits in unfold le in refl
+
+pub run-is : (b : OscillatorBlock) (rate : ℕ) (xs : List Float) → runOf (toneOf b) highest rate xs ≡ ranOf b rate xs
+unfolding runOf isTone ranOf
+run-is b rate xs = rw (one-in, samples-are-values (b .waveform) (incrementOf (playedOf b) rate) (b .phase .0) (length xs)) refl
+
+-- a call that is done: every sample is finite, and the phase after it lies from 0 up to, not including, TAU
+pub process-sound : (b : OscillatorBlock) (rate : ℕ) (xs : List Float) → T (fits binary64 (b .phase .0)) → (n : ℕ) → processOf b rate xs .result .answer ≡ Done n →
+    Sound (processOf b rate xs .lent) (processOf b rate xs .result .block .phase)
+process-sound b rate xs w n e =
+    rw (← run-is b rate xs) (run-sound (toneOf b) highest rate xs w (unfold ofBits in unfold le in tt) n (rw (run-is b rate xs) e))

@@ -1,0 +1,74 @@
+-- The oscillator's calls. 01, "Domain": "frequency 0 to 20,000 Hz"; "Steps": "the increment is frequency / rate * TAU. For each sample the value is taken from (phase % TAU) * INV_TAU with
+-- dt = increment * INV_TAU, .. then phase grows by the increment. After the block, phase is reduced by TAU"; what is refused, and what a refusal leaves, is in blocks' specs/Block.antt.
+-- oscillator.rs decides the rest: a note's frequency, where it is set, goes before the block's own; the frequency that does not sound is not judged. A setting is judged by the call that
+-- uses it, which is `process`: the other calls refuse nothing. Definitions only.
+use mathlib.Core.Bool.{_&&_}
+use mathlib.Core.List.{List, [], _∷_, _++_}
+use Prim.Native.Nat.{ℕ, zero, suc}
+use lib.ListN.{length}
+use lib.Ieee.{Float, binary64, ofBits}
+use Rattle.floats.specs.Range.{within}
+use Rattle.floats.specs.Double.{naught}
+use Rattle.waveform.specs.declared.Radians.{Radians}
+use Rattle.waveform.specs.declared.Waveform.{Waveform}
+use Rattle.waveform.specs.Waveform.{incrementOf, radians}
+use Rattle.waveform.specs.Filled.{phaseFrom, valueAt}
+use Rattle.blocks.specs.Block as blocks
+use Rattle.blocks.specs.Block.{isSetting, isStart, outcomeOf, phaseAfter}
+use Rattle.oscillator.specs.declared.MidiFrequency.{MidiFrequency}
+use Rattle.oscillator.specs.declared.MidiFrequency.the-variants.{Unset, Set}
+use Rattle.oscillator.specs.declared.OscillatorBlock.{OscillatorBlock}
+use Rattle.oscillator.specs.declared.Processed.{Processed}
+
+-- 20,000
+abbrev pub highest : Float
+highest = ofBits binary64 0x40d3_8800_0000_0000
+
+-- ---- the calls that refuse nothing
+abbrev pub newOf : Float → Waveform → OscillatorBlock
+newOf frequency w = record { frequency = frequency; «midi_frequency» = Unset; phase = radians naught; waveform = w }
+
+abbrev pub withMidi : OscillatorBlock → MidiFrequency → OscillatorBlock
+withMidi b m = record { frequency = b .frequency; «midi_frequency» = m; phase = b .phase; waveform = b .waveform }
+
+abbrev pub withWaveform : OscillatorBlock → Waveform → OscillatorBlock
+withWaveform b w = record { frequency = b .frequency; «midi_frequency» = b .«midi_frequency»; phase = b .phase; waveform = w }
+
+abbrev pub withPhase : OscillatorBlock → Radians → OscillatorBlock
+withPhase b p = record { frequency = b .frequency; «midi_frequency» = b .«midi_frequency»; phase = p; waveform = b .waveform }
+
+-- ---- the block call
+-- the frequency that sounds
+abbrev pub soundsAt : MidiFrequency → Float → Float
+soundsAt Unset own = own
+soundsAt (Set frequency) own = frequency
+
+unfoldable pub playedOf : OscillatorBlock → Float
+playedOf b = soundsAt (b .«midi_frequency») (b .frequency)
+
+-- the first k values
+unfoldable pub valuesFrom : Waveform → Float → Float → ℕ → List Float
+valuesFrom w step p zero = []
+valuesFrom w step p (suc k) = valuesFrom w step p k ++ (valueAt w step (phaseFrom step p k) ∷ [])
+
+-- what it leaves: its result, and the lent numbers
+pub record Outcome : Type 0 where
+  pub result : Processed
+  pub lent : List Float
+
+abbrev pub leaves : Processed → List Float → Outcome
+leaves r xs = record { result = r; lent = xs }
+
+-- what a run leaves, handed on: the block has the phase after it
+abbrev pub handedOf : OscillatorBlock → blocks.Outcome → Outcome
+handedOf b o = leaves (record { answer = o .result .answer; block = withPhase b (o .result .phase) }) (o .lent)
+
+-- every lent number is a value
+unfoldable pub ranOf : OscillatorBlock → ℕ → List Float → blocks.Outcome
+ranOf b rate xs =
+    let n = length xs in
+    let step = incrementOf (playedOf b) rate in
+    outcomeOf (isSetting rate (b .waveform)) (within naught highest (playedOf b) && isStart (b .phase)) (b .phase) xs (phaseAfter step (b .phase) n) (valuesFrom (b .waveform) step (b .phase .0) n)
+
+abbrev pub processOf : OscillatorBlock → ℕ → List Float → Outcome
+processOf b rate xs = handedOf b (ranOf b rate xs)

@@ -1,0 +1,127 @@
+// oscillator.rs of the original: a block of a waveform at a frequency of its own, or at the one that a note sets.
+// State goes in by value and is handed back.
+ghost use mathlib.Core.Path.{_≡_};
+ghost use Rattle.oscillator.specs.Oscillator.{newOf, withMidi, withWaveform, withPhase, playedOf, leaves, processOf};
+ghost use Rattle.oscillator.specs.declared.MidiFrequency.the-variants.{Unset, Set};
+ghost use Rattle.waveform.specs.Waveform.{radians};
+ghost use Rattle.floats.specs.Double.{naught};
+use answers::Answer;
+use blocks::Tone;
+use waveform::Radians;
+use waveform::Waveform;
+
+// The highest frequency that is accepted, in Hz.
+const HIGHEST: f64 = 20000.0;
+
+// The frequency of a note, in Hz, or none.
+pub enum MidiFrequency {
+    Unset,
+    Set(f64),
+}
+
+pub struct OscillatorBlock {
+    pub frequency: f64,
+    pub midi_frequency: MidiFrequency,
+    pub phase: Radians,
+    pub waveform: Waveform,
+}
+
+// What the block call answers, and the block after it.
+pub struct Processed {
+    pub answer: Answer,
+    pub block: OscillatorBlock,
+}
+
+impl OscillatorBlock {
+    // At phase 0, with the settings as they are given: the block call judges what it uses.
+    pub fn new(frequency: f64, waveform: Waveform) -> OscillatorBlock
+        ensures { λ r. ⌜ r ≡ newOf frequency waveform ⌝ }
+    {
+        OscillatorBlock {
+            frequency,
+            midi_frequency: MidiFrequency::Unset,
+            phase: Radians(0.0),
+            waveform,
+        }
+    }
+
+    // A note's frequency goes before the block's own.
+    pub fn set_midi_frequency(self, frequency: f64) -> OscillatorBlock
+        ensures { λ r. ⌜ r ≡ withMidi self (Set frequency) ⌝ }
+    {
+        with_midi(self, MidiFrequency::Set(frequency))
+    }
+
+    pub fn clear_midi_frequency(self) -> OscillatorBlock
+        ensures { λ r. ⌜ r ≡ withMidi self Unset ⌝ }
+    {
+        with_midi(self, MidiFrequency::Unset)
+    }
+
+    pub fn set_waveform(self, waveform: Waveform) -> OscillatorBlock
+        ensures { λ r. ⌜ r ≡ withWaveform self waveform ⌝ }
+    {
+        let midi_frequency = self.midi_frequency;
+        let phase = self.phase;
+        OscillatorBlock {
+            frequency: self.frequency,
+            midi_frequency,
+            phase,
+            waveform,
+        }
+    }
+
+    // The settings and the note's frequency stay.
+    pub fn reset(self) -> OscillatorBlock
+        ensures { λ r. ⌜ r ≡ withPhase self (radians naught) ⌝ }
+    {
+        let start = Radians(0.0);
+        let mut block = self;
+        block.phase = start;
+        block
+    }
+
+    // Writes a value of the waveform into every element of out, then reduces the phase.
+    pub fn process(self, rate: u32, out: &mut [f64]) -> Processed
+        ensures { λ r. ⌜ leaves r (now (out .exit)) ≡ processOf self rate (now (out .entry)) ⌝ }
+    {
+        let phase = self.phase;
+        let waveform = self.waveform;
+        let tone = Tone {
+            frequency: played(self),
+            depth: 1.0,
+            phase,
+            waveform,
+        };
+        let ran = blocks::run(tone, HIGHEST, rate, out);
+        let answer = ran.answer;
+        let phase = ran.phase;
+        let mut block = self;
+        block.phase = phase;
+        Processed { answer, block }
+    }
+}
+
+// The frequency that sounds.
+fn played(block: OscillatorBlock) -> f64
+    ensures { λ r. ⌜ r ≡ playedOf block ⌝ }
+{
+    let midi_frequency = block.midi_frequency;
+    match midi_frequency {
+        MidiFrequency::Unset => block.frequency,
+        MidiFrequency::Set(frequency) => frequency,
+    }
+}
+
+fn with_midi(block: OscillatorBlock, midi_frequency: MidiFrequency) -> OscillatorBlock
+    ensures { λ r. ⌜ r ≡ withMidi block «midi_frequency» ⌝ }
+{
+    let phase = block.phase;
+    let waveform = block.waveform;
+    OscillatorBlock {
+        frequency: block.frequency,
+        midi_frequency,
+        phase,
+        waveform,
+    }
+}

@@ -1,0 +1,136 @@
+-- Every sample of a block is finite, however long the block is: the phase grows to 2^60 at most, where a step no longer moves it, so each value is taken in its domain. And a value is an f64. Assumes nothing.
+use mathlib.Core.Path.{_≡_, refl, subst, sym, _∙_}
+use mathlib.Core.Logic.{⊎-elim}
+use mathlib.Core.Bool.{Bool, true, false, not}
+use mathlib.Core.List.{[], _∷_}
+use Prim.Native.Nat.{ℕ, zero, suc, _<_}
+use native.Mathlib.Nat.{eq-or-lt-of-le, le-of-suc-le-suc, not-suc-le-zero}
+use lib.IntN.{pos}
+use lib.Dec.{T, eqb}
+use lib.ListN.{getD, List·getD-append}
+use lib.Seq.{getD-at}
+use lib.Ieee.{Float, nan, binary64, ofBits, add, le, fits}
+use lib.Ieee.Fits.{and-i, and-l, and-r, cond-fits, add-fits, sub-fits, mul-fits, div-fits}
+use lib.Ieee.Scale.{finite}
+use Rattle.floats.specs.Range.{nought, unity, nonneg, within}
+use Rattle.floats.specs.Double.{_⊕_, _⊖_, _⊗_, naught, one, four}
+use Rattle.floats.proofs.Literals.{lit0-is, lit1-is}
+use Rattle.floats.proofs.Order.{fle-trans, under, between-finite, not-le-le}
+use Rattle.floats.proofs.Monotone.{add-mono}
+use Rattle.floats.proofs.Ranges.{add-ge0, within-nonneg}
+use Rattle.floats.proofs.Scale.{scale-up-in, scale-down-in}
+use Rattle.polyblep.specs.Polyblep.{sawOf, squareOf, pulseOf, triangleOf}
+use Rattle.polyblep.proofs.Finite.{Domain, saw-finite, square-finite, pulse-finite, triangle-finite}
+use Rattle.sine.specs.Table.{quarter}
+use Rattle.sine.specs.Sine.{steps, scale, wholePart, float, betweenOf, pointOf, readingIn, readingOf}
+use Rattle.sine.proofs.Bounds.{reading-finite}
+use Rattle.waveform.specs.declared.Waveform.{Waveform}
+use Rattle.waveform.specs.declared.Waveform.the-variants.{Sine, Square, Sawtooth, Triangle, Pulse}
+use Rattle.waveform.specs.Waveform.{invTau, isWaveform, valueOf, normalOf}
+use Rattle.waveform.specs.Filled.{phaseFrom, valueAt, samplesFrom}
+use Rattle.waveform.proofs.Normal.{normal-in}
+use Rattle.waveform.proofs.Steps.{samples-length}
+
+-- ---- a value is an f64, of any phase and step
+point-fits : (p : Float) → T (fits binary64 (pointOf quarter p))
+unfolding pointOf
+point-fits p =
+    let i = wholePart p in
+    cond-fits binary64 (eqb i 4096) (betweenOf quarter 0 naught) (betweenOf quarter i (p ⊖ float (pos i))) (div-fits binary64 _ scale) (div-fits binary64 _ scale)
+
+reading-fits : (u : Float) → T (fits binary64 (readingOf u))
+unfolding readingIn
+reading-fits u = cond-fits binary64 (within naught one u) (pointOf quarter (u ⊗ steps)) naught (point-fits (u ⊗ steps)) (unfold ofBits in unfold fits in tt)
+
+pub value-fits : (w : Waveform) (phase dt : Float) → T (fits binary64 (valueOf w phase dt))
+unfolding valueOf squareOf sawOf triangleOf pulseOf
+value-fits Sine phase dt = reading-fits phase
+value-fits Square phase dt = sub-fits binary64 _ _
+value-fits Sawtooth phase dt = sub-fits binary64 _ _
+value-fits Triangle phase dt = sub-fits binary64 _ _
+value-fits (Pulse duty) phase dt = sub-fits binary64 _ _
+
+-- in the domain of one sample it is finite
+pub value-finite : (w : Waveform) (phase dt : Float) → T (isWaveform w) → Domain phase dt → T (finite (valueOf w phase dt))
+unfolding valueOf
+value-finite Sine phase dt s h = reading-finite phase
+value-finite Square phase dt s h = square-finite phase dt h
+value-finite Sawtooth phase dt s h = saw-finite phase dt h
+value-finite Triangle phase dt s h = triangle-finite phase dt h
+value-finite (Pulse duty) phase dt s h = pulse-finite phase dt h duty s
+
+-- ---- the phase of a long block
+-- 2^60, and 16: a step is below the last
+abbrev pub far : Float
+far = ofBits binary64 0x43b0_0000_0000_0000
+
+abbrev pub sixteen : Float
+sixteen = ofBits binary64 0x4030_0000_0000_0000
+
+pub record Near (p : Float) : Type 0 where
+  pub p-fits : T (fits binary64 p)
+  pub p-nonneg : T (nonneg p)
+  pub p-le : T (le p far)
+
+module _ (step p : Float) (s : T (nonneg step)) (l : T (le step sixteen)) (h : Near p) where
+  -- 2^60 + 16 is 2^60
+  grown-le : (q : Float) → Near q → T (le (q ⊕ step) far)
+  grown-le q n =
+      fle-trans (q ⊕ step) (far ⊕ sixteen) far (add-mono binary64 q far step sixteen (n .p-nonneg) (unfold ofBits in tt) s (unfold ofBits in tt) (n .p-le) l)
+      (unfold ofBits in unfold add in unfold le in tt)
+
+  pub phase-near : (k : ℕ) → Near (phaseFrom step p k)
+  unfolding phaseFrom
+  phase-near zero = h
+  phase-near (suc k) =
+      let q = phaseFrom step p k in
+      let n = phase-near k in
+      record {
+        p-fits = add-fits binary64 q step;
+        p-nonneg = under (q ⊕ step) far (add-ge0 binary64 q step (n .p-nonneg) s) (unfold ofBits in tt) (grown-le q n);
+        p-le = grown-le q n;
+      }
+
+-- ---- samples
+-- x * t for t from 0 to 1
+scaled-finite : (x t : Float) → T (fits binary64 x) → T (finite x) → T (within naught one t) → T (finite (x ⊗ t))
+scaled-finite x t w k h = go (le nought x) refl
+  where
+    inside : T (within nought unity t)
+    inside = subst T (within-is t) h
+      where
+        within-is : (t : Float) → within naught one t ≡ within nought unity t
+        within-is t = rw (lit0-is binary64, lit1-is binary64) refl
+
+    t-nonneg : T (nonneg t)
+    t-nonneg = within-nonneg unity t tt inside
+
+    t-le : T (le t unity)
+    t-le = and-r (le nought t) (le t unity) inside
+
+    go : (b : Bool) → le nought x ≡ b → T (finite (x ⊗ t))
+    go true e =
+        let r = scale-up-in binary64 x t w k t-nonneg t-le (subst T (sym e) tt) in
+        between-finite nought (x ⊗ t) x tt k (and-l (le nought (x ⊗ t)) (le (x ⊗ t) x) r) (and-r (le nought (x ⊗ t)) (le (x ⊗ t) x) r)
+    go false e =
+        let r = scale-down-in binary64 x t w k t-nonneg t-le (not-le-le nought x tt k (subst (λ (b : Bool). T (not b)) (sym e) tt)) in
+        between-finite x (x ⊗ t) nought k tt (and-l (le x (x ⊗ t)) (le (x ⊗ t) nought) r) (and-r (le x (x ⊗ t)) (le (x ⊗ t) nought) r)
+
+-- sample i of n
+pub sample-at : (w : Waveform) (step scale p : Float) (i n : ℕ) → i < n → getD (samplesFrom w step scale p n) i nan ≡ valueAt w step (phaseFrom step p i) ⊗ scale
+unfolding samplesFrom
+sample-at w step scale p i zero h = absurd (not-suc-le-zero h)
+sample-at w step scale p i (suc n) h =
+    ⊎-elim (λ q. rw q (getD-at (samplesFrom w step scale p n) (valueAt w step (phaseFrom step p n) ⊗ scale) [] nan n (samples-length w step scale p n)))
+    (λ l. List·getD-append (samplesFrom w step scale p n) (valueAt w step (phaseFrom step p n) ⊗ scale ∷ []) nan i (rw (samples-length w step scale p n) l) ∙ sample-at w step scale p i n l)
+    (eq-or-lt-of-le (le-of-suc-le-suc h))
+
+module _ (w : Waveform) (step scale p : Float) (c : T (isWaveform w)) (s : T (nonneg step)) (l : T (le step sixteen)) (d : T (within naught four (step ⊗ invTau))) (t : T (within naught one scale)) (h : Near p) where
+  pub samples-finite : (i n : ℕ) → i < n → T (finite (getD (samplesFrom w step scale p n) i nan))
+  samples-finite i n lt =
+      let q = phaseFrom step p i in
+      let near = phase-near step p s l h i in
+      let u = normalOf q in
+      let dt = step ⊗ invTau in
+      let domain : Domain u dt = record { t-fits = mul-fits binary64 _ invTau; dt-fits = mul-fits binary64 step invTau; in-range = and-i (within naught one u) (within naught four dt) (normal-in q (near .p-fits) (near .p-nonneg)) d } in
+      rw (sample-at w step scale p i n lt) (scaled-finite (valueAt w step q) scale (value-fits w u dt) (value-finite w u dt c domain) t)
