@@ -14,7 +14,7 @@ pub record Put (text before : List ℕ) (at : ℕ) (after : List ℕ) (next : �
   pub moved : next ≡ at + length text
   pub bytes : after ≡ take at before ++ text ++ drop (at + length text) before
 
--- the call's outcome: the listing at the front and its length, the rest as it came; nothing and 0 where the buffer is too short for the longest listing
+-- the call's outcome: the listing at the front and its length, the rest as it came; nothing and 0 where the buffer has fewer than 102,413 bytes, more than any listing has
 pub record Listed (score before after : List ℕ) (count : ℕ) : Type 0 where
   pub inside : count ≤ length after
   pub counted : count ≡ cond (ltb (length before) 102413) 0 (length (listingOf score))

@@ -1,5 +1,5 @@
 -- Where two scores part. 01, "The shelf": "P is the lower position of the two at the first index where they differ, or of the one that remains where the other has ended."
--- Records are compared by all their bytes, off velocities too. Stricter than 01: defined for every two lists of bytes, over their whole records. Definitions only.
+-- Records are compared by all their bytes, off velocities too. Wider than 01: defined for every two lists of bytes, over their whole records. Definitions only.
 use mathlib.Core.Bool.{Bool, true, false, cond}
 use mathlib.Core.List.{List}
 use Prim.Native.Nat.{ℕ, zero, suc, min}

@@ -1,5 +1,5 @@
 -- A record and its ten bytes. 01, "The score": "a two-byte mark 56 4E (hex), position (4 bytes, low byte first), kind (1 on, 2 off, 3 reset), note, velocity, a zero byte: 10 bytes";
--- "A reset has note and velocity 0"; "Notes and velocities are 0 to 127". Stricter than 01: reading is defined for every list of bytes, past its end as 0. Definitions only.
+-- "A reset has note and velocity 0"; "Notes and velocities are 0 to 127". Wider than 01: reading is defined for every list of bytes, past its end as 0. Definitions only.
 use mathlib.Core.Bool.{cond}
 use mathlib.Core.List.{List, [], _∷_, _++_}
 use Prim.Native.Nat.{ℕ, _+_, _*_, _/_, _%_, _≤_, _<_}

@@ -1,6 +1,6 @@
 -- The state, and the four steps of a sample. 01, "Making sample n": "phase is reduced by TAU. Then the records at n act. On: voice and envelope `note_on`. Off: voice `note_off`, and the envelope's where it
 -- returned true. Reset: voice, envelope and phase to their fresh state. Then the sample is oscillator value * envelope level * velocity, left to right, and both advance. Frequency is always the voice's own
--- (440 when fresh)." A reset leaves the number of records acted going. The state falls into a core and a loudness: only the velocities, of the voice and of the held keys, are of the second. Definitions only.
+-- (440 when fresh)." A reset leaves the number of records acted going. Definitions only.
 use mathlib.Core.Bool.{cond}
 use Prim.Native.Nat.{ℕ, _+_}
 use lib.Dec.{ltb}

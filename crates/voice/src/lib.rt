@@ -73,7 +73,7 @@ impl VoiceState {
         )
     }
 
-    // A key goes up. True where no note sounds any more, which keeps the velocity and the frequency.
+    // A key goes up. True where it was the active one and no other is held; velocity and frequency are kept.
     pub fn note_off(self, note: u8) -> Off
         ensures { λ r. ⌜ r ≡ noteOffOf self note ⌝ }
     {
