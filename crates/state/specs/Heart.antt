@@ -42,3 +42,9 @@ unfoldable pub samplesFrom : Settings → List ℕ → ℕ → State → ℕ →
 unfolding stateFrom
 samplesFrom g s n v zero = []
 samplesFrom g s n v (suc k) = samplesFrom g s n v k ++ (sampleOf g (begun s (n + k) (stateFrom g s n v k)) ∷ [])
+
+-- the states at marks m to m + k - 1, each before its sample 4096 * m is begun, from a state v at mark m: what the shelf keeps
+unfoldable pub entriesFrom : Settings → List ℕ → ℕ → State → ℕ → List State
+unfolding stateFrom
+entriesFrom g s m v zero = []
+entriesFrom g s m v (suc k) = entriesFrom g s m v k ++ (stateFrom g s (m * 4096) v (k * 4096) ∷ [])

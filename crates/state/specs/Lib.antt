@@ -1,3 +1,4 @@
 pub mod Settings
 pub mod State
+pub mod Limits
 pub mod Heart

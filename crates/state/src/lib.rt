@@ -2,6 +2,7 @@
 // Everything that a render, a continuing call and a re-render do is these steps, counted from sample zero.
 ghost use mathlib.Core.Path.{_≡_};
 ghost use Rattle.voice.specs.Keys.{liftedOf};
+ghost use Rattle.state.specs.Limits.{inLimits, isState};
 ghost use Rattle.state.specs.Settings.{settingsOk};
 ghost use Rattle.state.specs.State.{counted, freshOf, reducedOf, eventOf, actOf, struckOf, liftedBy, steppedOf, sampleOf, advanceOf};
 use envelope::Adsr;
@@ -46,6 +47,14 @@ pub fn is_settings(settings: Settings) -> bool
     let waveform = settings.waveform;
     let adsr = settings.adsr;
     envelope::is_rate(settings.rate) & waveform::is_waveform(waveform) & envelope::is_adsr(adsr)
+}
+
+// Whether a state is within the limits of a shelf entry.
+pub fn is_state(state: State) -> bool
+    ensures { λ r. ⌜ r ≡ isState state ⌝ }
+{
+    let acted = state.acted;
+    in_limits(state) & (acted <= 0xffff_ffff_ffff)
 }
 
 // Before sample zero.
@@ -119,6 +128,22 @@ pub fn advance(settings: Settings, state: State) -> State
         keys,
         acted: state.acted,
     }
+}
+
+// Whether what sounds is within its limits.
+fn in_limits(state: State) -> bool
+    ensures { λ r. ⌜ r ≡ inLimits state ⌝ }
+{
+    let phase = state.phase.0;
+    let envelope = state.envelope;
+    let frequency = state.frequency;
+    let velocity = state.velocity;
+    let keys = state.keys;
+    ((0.0 <= phase) & (phase < 1000.0))
+        & envelope::is_envelope(envelope)
+        & ((0.0 < frequency) & (frequency <= 12544.0))
+        & ((0.0 <= velocity) & (velocity <= 1.0))
+        & keys::is_keys(keys)
 }
 
 fn at_rest(acted: u64) -> State
