@@ -1,0 +1,9 @@
+-- What holds of walks and spans beyond the contracts, in the order to read it.
+-- where a record stands and where a span ends, counted as an offset from a position
+pub mod Offsets
+-- records that act, one after the other
+pub mod Acting
+-- a span: the waveform's inner loop and the envelope's pass over it give its samples
+pub mod Sounding
+-- a turn of the loop over the spans
+pub mod Turns

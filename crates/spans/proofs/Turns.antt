@@ -1,0 +1,100 @@
+-- A turn of the loop over the spans: from a place, what a span gives is what the walk gives as far as the span's end. Assumes nothing.
+use mathlib.Core.Path.{_≡_, refl, sym, ap, _∙_}
+use mathlib.Core.Bool.{false}
+use mathlib.Core.List.{List, [], _∷_, _++_, append-assoc, append-nil}
+use Prim.Native.Nat.{ℕ, zero, suc, _+_, _-_, _%_, _<_, _≤_}
+use native.Mathlib.Nat.{add-zero, add-suc}
+use native.Mathlib.Numerals.{add-one}
+use native.Mathlib.Omega.{arith}
+use lib.ListN.{length, take, drop, length-append}
+use lib.Seq.{take-at, length-take-le}
+use borrow.Rule.Slice.PartMut.{putMid, midOf, mid-len, same-len-mid}
+use lib.Dec.{eqb}
+use lib.Ieee.{Float}
+use Rattle.score.specs.Record.{countOf}
+use Rattle.state.specs.declared.Settings.{Settings}
+use Rattle.state.specs.declared.State.{State}
+use Rattle.state.specs.State.{sampleOf, advanceOf}
+use Rattle.spans.specs.declared.Place.{Place}
+use Rattle.spans.specs.Plain.{advances, plain, Sounded}
+use Rattle.spans.specs.Walk.{placeOf, beginsAt, standsAt, begunFrom, placeFrom, playedFrom, SpanEnd}
+use Rattle.spans.proofs.Acting.{act-stop}
+use Rattle.spans.proofs.Offsets.{neither}
+
+-- a part that came back: the whole up to the part's end
+pub take-mid : {A : Type 0} (a k : ℕ) (xs ys : List A) → a ≤ length xs → length ys ≡ k → take (a + k) (putMid a k xs ys) ≡ take a xs ++ ys
+take-mid a k xs ys h e =
+    let l : length (take a xs ++ ys) ≡ a + k = length-append (take a xs) ys ∙ omega (arith, length-take-le a xs h) in
+    rw (← append-assoc (take a xs) ys (drop k (drop a xs))) (take-at (take a xs ++ ys) (drop k (drop a xs)) (a + k) l)
+
+-- a span has as many samples as were asked for
+plain-length : (g : Settings) (v : State) (k : ℕ) → length (plain g v k) ≡ k
+unfolding plain
+plain-length g v zero = refl
+plain-length g v (suc k) = rw (length-append (plain g v k) (sampleOf g (advances g v k) ∷ []), plain-length g v k) (add-one k)
+
+-- where no span begins, a sample is begun as it stands
+pub quiet : (s : List ℕ) (n : ℕ) (p : Place) → beginsAt s (p .next) n ≡ false → begunFrom s n p ≡ p
+unfolding begunFrom
+quiet s n p f = rw f (act-stop s n (countOf s - p .next) p (neither (eqb (n % 64) 0) (standsAt s (p .next) n) f .1))
+
+module _ (g : Settings) (s : List ℕ) (n : ℕ) (p : Place) (i : ℕ) where
+  -- the place at which the span is begun
+  abbrev pub begun : Place
+  begun = begunFrom s (n + i) (placeFrom g s n p i)
+
+  pub span-place : (k : ℕ) → ((m : ℕ) → i < m → m < i + suc k → beginsAt s (begun .next) (n + m) ≡ false) → placeFrom g s n p (i + suc k) ≡ placeOf (advances g (begun .state) (suc k)) (begun .next)
+  unfolding placeFrom advances
+  span-place zero f = rw (add-suc i 0, add-zero i) refl
+  span-place (suc k) f =
+      let q : placeFrom g s n p (i + suc k) ≡ placeOf (advances g (begun .state) (suc k)) (begun .next) = span-place k (λ m x y. f m x (omega arith)) in
+      rw (add-suc i (suc k), q, quiet s (n + (i + suc k)) (placeOf (advances g (begun .state) (suc k)) (begun .next)) (f (i + suc k) (omega arith) (omega arith))) refl
+
+  pub span-samples : (k : ℕ) → ((m : ℕ) → i < m → m < i + suc k → beginsAt s (begun .next) (n + m) ≡ false) → playedFrom g s n p (i + suc k) ≡ playedFrom g s n p i ++ plain g (begun .state) (suc k)
+  unfolding playedFrom plain advances
+  span-samples zero f = rw (add-suc i 0, add-zero i) refl
+  span-samples (suc k) f =
+      let f' : (m : ℕ) → i < m → m < i + suc k → beginsAt s (begun .next) (n + m) ≡ false = λ m x y. f m x (omega arith) in
+      rw (add-suc i (suc k), span-samples k f', span-place k f', quiet s (n + (i + suc k)) (placeOf (advances g (begun .state) (suc k)) (begun .next)) (f (i + suc k) (omega arith) (omega arith)))
+      (append-assoc (playedFrom g s n p i) (plain g (begun .state) (suc k)) (sampleOf g (advances g (begun .state) (suc k)) ∷ []))
+
+  -- the same as far as the span's end e
+  module _ (l e : ℕ) (z : SpanEnd s (begun .next) n i l e) where
+    whole : i + suc (e - i - 1) ≡ e
+    whole = omega (arith, z .after)
+
+    silent : (m : ℕ) → i < m → m < i + suc (e - i - 1) → beginsAt s (begun .next) (n + m) ≡ false
+    silent m x y = z .silent m x (omega (arith, whole))
+
+    pub turn-place : placeFrom g s n p e ≡ placeOf (advances g (begun .state) (e - i)) (begun .next)
+    turn-place =
+        let d : suc (e - i - 1) ≡ e - i = omega (arith, z .after) in
+        ap (placeFrom g s n p) (sym whole) ∙ span-place (e - i - 1) silent ∙ ap (λ (k : ℕ). placeOf (advances g (begun .state) k) (begun .next)) d
+
+    pub turn-samples : playedFrom g s n p e ≡ playedFrom g s n p i ++ plain g (begun .state) (e - i)
+    turn-samples =
+        let d : suc (e - i - 1) ≡ e - i = omega (arith, z .after) in
+        ap (playedFrom g s n p) (sym whole) ∙ span-samples (e - i - 1) silent ∙ ap (λ (k : ℕ). playedFrom g s n p i ++ plain g (begun .state) k) d
+
+    -- a turn: the span is lent, and comes back as ys with the state u
+    module _ (part ys : List Float) (u : State) (long : length part ≡ l) (heard : take i part ≡ playedFrom g s n p i) (x : Sounded g (begun .state) (midOf i (e - i) part) ys u) where
+      within : e ≤ length part
+      within = omega (arith, z .within)
+
+      many : length (midOf i (e - i) part) ≡ e - i
+      many = mid-len i e part within
+
+      full : length ys ≡ e - i
+      full = ap length (x .samples) ∙ plain-length g (begun .state) (length (midOf i (e - i) part)) ∙ many
+
+      pub turn-length : length (putMid i (e - i) part ys) ≡ length part
+      turn-length = same-len-mid i (e - i) part ys (full ∙ sym many)
+
+      pub turn-stands : placeOf u (begun .next) ≡ placeFrom g s n p e
+      turn-stands = ap (λ (v : State). placeOf v (begun .next)) (x .state ∙ ap (advances g (begun .state)) many) ∙ sym turn-place
+
+      pub turn-heard : take e (putMid i (e - i) part ys) ≡ playedFrom g s n p e
+      turn-heard =
+          let d : i + (e - i) ≡ e = omega (arith, z .after) in
+          ap (λ (k : ℕ). take k (putMid i (e - i) part ys)) (sym d) ∙ take-mid i (e - i) part ys (omega (arith, z .after)) full
+          ∙ rw (heard, x .samples, many) (sym turn-samples)

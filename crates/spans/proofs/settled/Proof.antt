@@ -1,0 +1,17 @@
+-- `spans::settled` meets its contract. Assumes nothing.
+use mathlib.Core.Path.{refl}
+use borrow.Author.Needs.{needs}
+use Rattle.spans.proofs.settled.Statement.{statement}
+use Rattle.spans.proofs.settled.Tie as tie
+
+reduce-requires : tie.Need-reduce-requires
+reduce-requires c κs = search needs
+
+returns : tie.Need-returns
+returns c = rw (c .before .if1 .taken, c .reduce .ensures) refl
+
+returns-2 : tie.Need-returns-2
+returns-2 c = search needs
+
+pub settled-spec : {M : Type 1} → statement M
+settled-spec = tie.close (tie.spec reduce-requires returns returns-2)

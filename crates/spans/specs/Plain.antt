@@ -1,0 +1,40 @@
+-- A span: samples between which nothing is reduced and no record acts, so that each is taken and the state advances. 01: "the sample is oscillator value * envelope level * velocity, left to right, and both
+-- advance". Definitions only.
+use mathlib.Core.List.{List, [], _∷_, _++_}
+use mathlib.Core.Path.{_≡_}
+use Prim.Native.Nat.{ℕ, zero, suc}
+use lib.ListN.{length, getD}
+use lib.Ieee.{Float, nan}
+use Rattle.floats.specs.Double.{_⊗_}
+use Rattle.envelope.specs.declared.Adsr.{Adsr}
+use Rattle.envelope.specs.declared.Envelope.{Envelope}
+use Rattle.envelope.specs.Running.{envelopeFrom}
+use Rattle.state.specs.declared.Settings.{Settings}
+use Rattle.state.specs.declared.State.{State}
+use Rattle.state.specs.State.{sampleOf, advanceOf}
+
+-- the state after k samples
+unfoldable pub advances : Settings → State → ℕ → State
+advances g v zero = v
+advances g v (suc k) = advanceOf g (advances g v k)
+
+-- the k samples
+unfoldable pub plain : Settings → State → ℕ → List Float
+unfolding advances
+plain g v zero = []
+plain g v (suc k) = plain g v k ++ (sampleOf g (advances g v k) ∷ [])
+
+-- a lent part holds them, and r is the state after them
+pub record Sounded (g : Settings) (v : State) (before after : List Float) (r : State) : Type 0 where
+  pub samples : after ≡ plain g v (length before)
+  pub state : r ≡ advances g v (length before)
+
+-- ---- the second pass: oscillator values that stand in a part already, times level times velocity
+-- the first n of them
+unfoldable pub shapedTo : Adsr → Float → Envelope → Float → List Float → ℕ → List Float
+shapedTo k t e velocity xs zero = []
+shapedTo k t e velocity xs (suc n) = shapedTo k t e velocity xs n ++ (getD xs n nan ⊗ envelopeFrom k t e (suc n) .level ⊗ velocity ∷ [])
+
+pub record Shaped (k : Adsr) (t : Float) (e : Envelope) (velocity : Float) (before after : List Float) (r : Envelope) : Type 0 where
+  pub samples : after ≡ shapedTo k t e velocity before (length before)
+  pub envelope : r ≡ envelopeFrom k t e (length before)

@@ -1,0 +1,72 @@
+-- A walk through a score: the state, and the next record, which is the first that has not acted. 01, "Making sample n": "If n is a multiple of 64 or a record has position n, phase is reduced by TAU. Then the
+-- records at n act." A walk looks at the next record alone: it acts where it stands at n, and then so may the one after it. On a score whose positions never fall, from the first record that is not below n, that is
+-- what state's Heart says of all records (proofs/Agrees.antt); it is defined for every score and every place. Definitions only.
+use mathlib.Core.Bool.{Bool, cond, false, _&&_, _||_}
+use mathlib.Core.List.{List, [], _∷_, _++_}
+use mathlib.Core.Path.{_≡_}
+use Prim.Native.Nat.{ℕ, zero, suc, _+_, _-_, _%_, _<_, _≤_}
+use lib.Dec.{ltb, eqb}
+use lib.ListN.{length}
+use lib.Ieee.{Float}
+use Rattle.score.specs.Record.{countOf, positionAt, recordAt}
+use Rattle.state.specs.declared.Settings.{Settings}
+use Rattle.state.specs.declared.State.{State}
+use Rattle.state.specs.State.{reducedOf, eventOf, actOf, sampleOf, advanceOf}
+use Rattle.spans.specs.declared.Place.{Place}
+
+abbrev pub placeOf : State → ℕ → Place
+placeOf v i = record { state = v; next = i }
+
+-- ---- sample n is begun
+-- whether there is a record i, and it has position n
+abbrev pub standsAt : List ℕ → ℕ → ℕ → Bool
+standsAt s i n = ltb i (countOf s) && eqb (positionAt s i) n
+
+-- the next record acts
+abbrev pub actNext : List ℕ → Place → Place
+actNext s p = placeOf (actOf (p .state) (eventOf (recordAt s (p .next)))) (suc (p .next))
+
+-- of the next k records the first ones act, as long as they stand at n
+unfoldable pub actFrom : List ℕ → ℕ → ℕ → Place → Place
+actFrom s n zero p = p
+actFrom s n (suc k) p = cond (standsAt s (p .next) n) (actFrom s n k (actNext s p)) p
+
+-- whether a span begins at n
+abbrev pub beginsAt : List ℕ → ℕ → ℕ → Bool
+beginsAt s i n = eqb (n % 64) 0 || standsAt s i n
+
+abbrev pub reducedAt : Place → Place
+reducedAt p = placeOf (reducedOf (p .state)) (p .next)
+
+unfoldable pub begunFrom : List ℕ → ℕ → Place → Place
+unfolding actFrom
+begunFrom s n p = actFrom s n (countOf s - p .next) (cond (beginsAt s (p .next) n) (reducedAt p) p)
+
+-- ---- from a place p before sample n is begun
+-- the place before sample n + k is begun
+unfoldable pub placeFrom : Settings → List ℕ → ℕ → Place → ℕ → Place
+placeFrom g s n p zero = p
+placeFrom g s n p (suc k) = let b = begunFrom s (n + k) (placeFrom g s n p k) in placeOf (advanceOf g (b .state)) (b .next)
+
+-- samples n to n + k - 1
+unfoldable pub playedFrom : Settings → List ℕ → ℕ → Place → ℕ → List Float
+unfolding placeFrom
+playedFrom g s n p zero = []
+playedFrom g s n p (suc k) = playedFrom g s n p k ++ (sampleOf g (begunFrom s (n + k) (placeFrom g s n p k) .state) ∷ [])
+
+-- every sample of a lent part, and the place after the last
+pub record Played (g : Settings) (s : List ℕ) (n : ℕ) (p : Place) (before after : List Float) (r : Place) : Type 0 where
+  pub samples : after ≡ playedFrom g s n p (length before)
+  pub place : r ≡ placeFrom g s n p (length before)
+
+-- ---- the end of the span that begins at offset a of a part of k samples from n on, where i is the next record
+pub record SpanEnd (s : List ℕ) (i n a k r : ℕ) : Type 0 where
+  pub after : a < r
+  pub within : r ≤ k
+  pub silent : (m : ℕ) → a < m → m < r → beginsAt s i (n + m) ≡ false
+
+-- the next multiple of 64, or the part's end, by itself
+pub record BlockEnd (n a k r : ℕ) : Type 0 where
+  pub after : a < r
+  pub within : r ≤ k
+  pub apart : (m : ℕ) → a < m → m < r → eqb ((n + m) % 64) 0 ≡ false
