@@ -52,7 +52,7 @@ fn measure() -> Tally {
 }
 
 fn counted(tally: Tally, difference: f64) -> Tally {
-    let rows = one_more(tally.rows);
+    let rows = tally::one_more(tally.rows);
     let largest = if difference > tally.largest {
         difference
     } else {
@@ -61,7 +61,7 @@ fn counted(tally: Tally, difference: f64) -> Tally {
     if difference <= 0.000001 {
         return Tally {
             rows,
-            within: one_more(tally.within),
+            within: tally::one_more(tally.within),
             largest,
         };
     }
@@ -70,10 +70,6 @@ fn counted(tally: Tally, difference: f64) -> Tally {
         within: tally.within,
         largest,
     }
-}
-
-fn one_more(n: u64) -> u64 {
-    if n < u64::MAX { n + 1 } else { n }
 }
 
 fn difference(row: &[u8]) -> f64 {

@@ -3,11 +3,7 @@
 // short or names no note counts as unequal.
 use libc::STDIN_FILENO;
 use libc::STDOUT_FILENO;
-
-struct Tally {
-    rows: u64,
-    equal: u64,
-}
+use tally::Tally;
 
 fn main() {
     let tally = replay();
@@ -20,7 +16,7 @@ fn main() {
 
 // A proved loop has to end, and nothing says that the input does: the loop counts its turns down.
 fn replay() -> Tally {
-    let mut tally = Tally { rows: 0, equal: 0 };
+    let mut tally = tally::none();
     let mut turns = u64::MAX;
     while turns > 0 {
         let mut row = [0u8; 32];
@@ -29,30 +25,12 @@ fn replay() -> Tally {
             return tally;
         }
         if got < 32 {
-            return counted(tally, false);
+            return tally::counted(tally, false);
         }
-        tally = counted(tally, is_equal(&row));
+        tally = tally::counted(tally, is_equal(&row));
         turns -= 1;
     }
     tally
-}
-
-fn counted(tally: Tally, equal: bool) -> Tally {
-    let rows = one_more(tally.rows);
-    if equal {
-        return Tally {
-            rows,
-            equal: one_more(tally.equal),
-        };
-    }
-    Tally {
-        rows,
-        equal: tally.equal,
-    }
-}
-
-fn one_more(n: u64) -> u64 {
-    if n < u64::MAX { n + 1 } else { n }
 }
 
 fn is_equal(row: &[u8]) -> bool {

@@ -4,6 +4,7 @@
 // short or names no call counts as unequal.
 use libc::STDIN_FILENO;
 use libc::STDOUT_FILENO;
+use tally::Tally;
 use waveform::Radians;
 use waveform::Waveform;
 
@@ -14,11 +15,6 @@ const UNWRITTEN: f64 = 42.0;
 struct Outcome {
     number: u64,
     phase: f64,
-}
-
-struct Tally {
-    rows: u64,
-    equal: u64,
 }
 
 fn main() {
@@ -32,7 +28,7 @@ fn main() {
 
 // A proved loop has to end, and nothing says that the input does: the loop counts its turns down.
 fn replay() -> Tally {
-    let mut tally = Tally { rows: 0, equal: 0 };
+    let mut tally = tally::none();
     let mut turns = u64::MAX;
     while turns > 0 {
         let mut row = [0u8; 136];
@@ -41,30 +37,12 @@ fn replay() -> Tally {
             return tally;
         }
         if got < 136 {
-            return counted(tally, false);
+            return tally::counted(tally, false);
         }
-        tally = counted(tally, is_equal(&row));
+        tally = tally::counted(tally, is_equal(&row));
         turns -= 1;
     }
     tally
-}
-
-fn counted(tally: Tally, equal: bool) -> Tally {
-    let rows = one_more(tally.rows);
-    if equal {
-        return Tally {
-            rows,
-            equal: one_more(tally.equal),
-        };
-    }
-    Tally {
-        rows,
-        equal: tally.equal,
-    }
-}
-
-fn one_more(n: u64) -> u64 {
-    if n < u64::MAX { n + 1 } else { n }
 }
 
 fn is_equal(row: &[u8]) -> bool {

@@ -9,6 +9,9 @@ Inv-loop tally₀ turns₀ tally turns = Unit
 abbrev μ-loop : tie.MeasureT-loop
 μ-loop tally₀ turns₀ tally turns = turns
 
+none-requires : tie.Need-none-requires Inv-loop μ-loop
+none-requires c κs = search needs
+
 loop-holds : tie.Need-loop-holds Inv-loop μ-loop
 loop-holds c = search needs
 
@@ -54,6 +57,7 @@ replay-spec =
     (tie.spec
     Inv-loop
     μ-loop
+    none-requires
     loop-holds
     slice-aggregate-read-full
     read-full-requires

@@ -1,0 +1,2 @@
+-- Laws on what this crate defines.
+pub mod Unique
