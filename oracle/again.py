@@ -3,9 +3,11 @@
 
 Every operation is done without rounding and then rounded once by `rounded` below, so neither the processor's floats
 nor the original's text has a part in it. Says how many rows agree, exits 1 if one does not. The parts are phase,
-polyblep, envelope and waveform, and sine, which is measured: there the rows must besides be sines by Python's library.
+polyblep, envelope, waveform and voice, whose pitches are those of the definition's list, and sine, which is measured:
+there the rows must besides be sines by Python's library.
 """
 
+import functools
 import math
 import re
 import struct
@@ -278,6 +280,63 @@ def waveform_answer(op, shape, *given):
     return (number, bits_of(after, True)) + tuple(slots)
 
 
+# The voice.
+
+NO_NOTE = 256
+HIGHEST = 12544.0
+
+
+@functools.cache
+def pitches():
+    """The bits of the 128 pitches, as the definition lists them."""
+    text = (Path(__file__).parent.parent / "crates/pitch/specs/Patterns.antt").read_text()
+    return [int(bits, 16) for bits in re.findall(r"0x([0-9a-f]{8}) ∷", text)]
+
+
+def struck(note, velocity):
+    """The bits of velocity and frequency of a key that sounds."""
+    return bits_of(SINGLE.div(float(velocity), 127.0), False), pitches()[note]
+
+
+def voice_words(active, held, loudness, pitch):
+    """A state's words: the gate is up where a note sounds, and the unused pairs are 0."""
+    notes, velocities = (bytes(column) for column in zip(*held, *(16 - len(held)) * [(0, 0)]))
+    return (active, int(active != NO_NOTE), len(held)) + struct.unpack("<8I", notes + velocities) + (loudness, pitch)
+
+
+def is_voice(active, gate, count, pairs, loudness, pitch):
+    in_range = all(x <= 127 for pair in pairs[:count] for x in pair)
+    unused = all(pair == (0, 0) for pair in pairs[count:])
+    note = active <= 127 and gate == 1 or active == NO_NOTE and gate == 0
+    return note and count <= 16 and in_range and unused and 0 <= loudness <= 1 and 0 < pitch <= HIGHEST
+
+
+def voice_answer(op, *given):
+    active, gate, count = given[:3]
+    arrays = struct.pack("<8I", *given[3:11])
+    pairs = list(zip(arrays[:16], arrays[16:]))
+    sound, (note, velocity) = given[11:13], given[13:]
+    fresh = voice_words(NO_NOTE, [], 0, bits_of(440.0, False))
+    if op == 5:
+        return (0, 0) + fresh
+    floats = (float_of(bits, False) for bits in sound)
+    if note > 127 or velocity > 127 or not is_voice(active, gate, count, pairs, *floats):
+        return (9, 0) + given[:13]
+    held = pairs[:count]
+    if op == 0:
+        return (0, 0) + voice_words(note, (held + [(note, velocity)])[:16], *struck(note, velocity))
+    if op == 1:
+        held = [pair for pair in held if pair[0] != note]
+        if note != active:
+            return (0, 0) + voice_words(active, held, *sound)
+        if held:
+            return (0, 0) + voice_words(held[-1][0], held, *struck(*held[-1]))
+        return (0, 1) + voice_words(NO_NOTE, held, *sound)
+    if op == 2:
+        return (0, 0) + fresh
+    return (0, int(active != NO_NOTE) if op == 3 else count) + given[:13]
+
+
 # The sine, which is ours.
 
 
@@ -320,6 +379,7 @@ PARTS = {
     "polyblep": ("<6Q", 4, polyblep_answer, {op: {0, 9} for op in range(6)}),
     "envelope": ("<25Q", 11, envelope_answer, {0: {0, 9}, 1: {0, 9}, 2: {0, 9}, 3: {0, 6, 9}, 4: {0}}),
     "waveform": ("<17Q", 7, waveform_answer, {0: {0}, 1: {0}, 2: {0, 6, 9}}),
+    "voice": ("<31I", 16, voice_answer, {op: {0, 9} if op < 5 else {0} for op in range(6)}),
 }
 
 

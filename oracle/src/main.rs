@@ -20,18 +20,20 @@ mod pitch_rows;
 mod polyblep_rows;
 mod rows;
 mod sine_rows;
+mod voice_rows;
 mod waveform_rows;
 
 use std::process::exit;
 
 /// One entry a part of the voice; a later part is a module and a line here.
-const PARTS: [rows::Part; 6] = [
+const PARTS: [rows::Part; 7] = [
     phase_rows::PART,
     polyblep_rows::PART,
     pitch_rows::PART,
     sine_rows::PART,
     envelope_rows::PART,
     waveform_rows::PART,
+    voice_rows::PART,
 ];
 
 const USAGE: &str = "\
