@@ -20,7 +20,7 @@ below-more t p n (suc k) f =
     rw (add-suc n k, le-ltb (positionAt t (n + k)) p (f (n + k) (omega arith) (omega arith)), add-zero (below t p (n + k)))
     (below-more t p n k (λ i a b. f i a (omega arith)))
 
-below-few : (s : List ℕ) (p n : ℕ) → below s p n ≤ n
+pub below-few : (s : List ℕ) (p n : ℕ) → below s p n ≤ n
 unfolding below
 below-few s p zero = omega arith
 below-few s p (suc n) = go (ltb (positionAt s n) p) (below-few s p n)
