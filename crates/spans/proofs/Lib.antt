@@ -7,3 +7,7 @@ pub mod Acting
 pub mod Sounding
 -- a turn of the loop over the spans
 pub mod Turns
+-- on a score whose positions never fall a walk is what the state's definitions say
+pub mod Agrees
+-- two outcomes of a public function are equal
+pub mod Unique

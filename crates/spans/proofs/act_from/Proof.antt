@@ -54,7 +54,7 @@ loop-again c =
     let t = sym (c .before .before .before .before .stands-at .ensures) ∙ not-false _ (c .before .before .before .if1 .left) in (
       at .loop .inv .0,
       at .loop .inv .1 ∙ act-on (a .score .now) (a .position + a .offset) _ (at .loop .next) (at .loop .state) (c .before .before .before .before .before .loop-test .taken) t
-        ∙ rw (c .act .ensures, c .before .event-of .ensures, c .before .before .record-at .ensures) refl,
+          ∙ rw (c .act .ensures, c .before .event-of .ensures, c .before .before .record-at .ensures) refl,
     )
 
 returns-2 : tie.Need-returns-2 Inv-loop μ-loop

@@ -20,12 +20,12 @@ cast-p : tie.Need-cast-p
 cast-p c = search needs
 
 returns-2 : tie.Need-returns-2
-returns-2 c = 
+returns-2 c =
     let a = c .before .before .before .before .before .args in
     sym (stands-not (a .score .now) (a .i) (a .position) (a .offset) (λ e. let h : c .before .position .result < a .position = c .if2 .taken in let q = c .before .position .ensures in omega arith))
 
 returns-3 : tie.Need-returns-3
-returns-3 c = 
+returns-3 c =
     let a = c .before .before .before .before .before .args in
     let q = c .before .position .ensures in
     rw q (sym (stands-here (a .score .now) (a .i) (a .position) (a .offset) (rw (← c .before .before .before .count .ensures) (c .before .before .if1 .left)) (rw (← q) (c .if2 .left))))
