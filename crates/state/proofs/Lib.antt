@@ -9,5 +9,15 @@ pub mod Depends
 pub mod ButActed
 -- and is the number of records below the position
 pub mod Acted
+-- the floats of a state are values of an f64, through every step
+pub mod Fits
+-- the limits of a state, part by part, and that events keep them
+pub mod Limits
+-- how far the phase climbs between two reductions
+pub mod Ladder
+-- what holds of the phase through every sample, all else being in its limits
+pub mod Through
+-- through every sample the limits are kept
+pub mod Stays
 -- two outcomes of a public function are equal
 pub mod Unique

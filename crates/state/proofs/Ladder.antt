@@ -1,0 +1,158 @@
+-- How far the phase climbs between two reductions: a sample adds at most 12,544 / 8,000 * TAU, which is below 10, so j samples after a reduction the phase is at most rung j of a ladder of tens.
+-- Rung 64, which is 650, is below 1,000. Assumes nothing.
+use mathlib.Core.Path.{_≡_, refl}
+use mathlib.Core.Logic.{⊎-elim}
+use mathlib.Core.Bool.{Bool, true, false, not}
+use Prim.Native.Nat.{ℕ, zero, suc, _≤_}
+use native.Mathlib.Nat.{eq-or-lt-of-le, le-of-suc-le-suc}
+use native.Mathlib.Nat as nat
+use native.Mathlib.Omega.{arith}
+use lib.IntN.{pos}
+use lib.Dec.{T, leb, leb→le, lit<}
+use lib.Ieee.{Float, binary64, ofBits, ofInt, round, add, mul, div, rem, lt, le}
+use lib.Ieee.Bits.{ofBits-fits}
+use lib.Ieee.Fits.{and-l, and-r}
+use lib.Ieee.Order.{round-mono}
+use lib.Ieee.Scale.{finite}
+use lib.Ieee.Positive.{positive}
+use Rattle.floats.specs.Range.{ge0, nonneg}
+use Rattle.floats.specs.Double.{_⊕_, _⊗_, _⊘_, naught}
+use Rattle.floats.proofs.Literals.{lit0-is}
+use Rattle.floats.proofs.Order.{fle-trans, fle-refl, lt-not-le, not-lt-le, by-contra, ge0→le, nonneg→finite, under}
+use Rattle.floats.proofs.Rounds.{ge0-round}
+use Rattle.floats.proofs.Monotone.{add-mono, mul-mono, div-mono}
+use Rattle.floats.proofs.Ranges.{add-ge0, mul-ge0, div-ge0, rem-ge0, rem-le, add-grows, ge0-positive}
+use Rattle.envelope.specs.Limits.{ten, isRate}
+use Rattle.waveform.specs.Waveform.{tau, reduceOf, incrementOf}
+use Rattle.waveform.specs.Filled.{phaseFrom}
+use Rattle.waveform.proofs.Values.{Near, phase-near}
+use Rattle.state.specs.Limits.{thousand, highest, isPitch}
+use Rattle.state.proofs.Limits.{pitch-nonneg}
+
+-- ---- the ladder
+-- 10, 20, 30, ..
+abbrev pub ladder : ℕ → Float
+ladder j = phaseFrom ten ten j
+
+ten-nonneg : T (nonneg ten)
+ten-nonneg = unfold ofBits in tt
+
+rung-near : (j : ℕ) → Near (ladder j)
+rung-near j =
+    phase-near ten ten ten-nonneg (unfold ofBits in unfold le in tt)
+    (record { p-fits = ofBits-fits binary64 0x4024_0000_0000_0000; p-nonneg = ten-nonneg; p-le = unfold ofBits in unfold le in tt }) j
+
+pub rung-nonneg : (j : ℕ) → T (nonneg (ladder j))
+rung-nonneg j = rung-near j .p-nonneg
+
+-- a rung further up is not below
+pub rungs-rise : (i j : ℕ) → i ≤ j → T (le (ladder i) (ladder j))
+unfolding phaseFrom
+rungs-rise i zero h = let z : i ≡ 0 = omega arith in rw z (unfold ofBits in unfold le in tt)
+rungs-rise i (suc j) h =
+    ⊎-elim (λ e. rw e (fle-refl (ladder (suc j)) (nonneg→finite (ladder (suc j)) (rung-nonneg (suc j)))))
+    (λ l. fle-trans (ladder i) (ladder j) (ladder j ⊕ ten) (rungs-rise i j (le-of-suc-le-suc l)) (add-grows binary64 (ladder j) ten (rung-near j .p-fits) (rung-nonneg j) ten-nonneg)) (eq-or-lt-of-le h)
+
+-- the uppermost that is needed
+last-below : T (lt (ladder 64) thousand)
+unfolding phaseFrom ofBits add lt
+last-below = tt
+
+-- x ≤ y < z
+le-lt : (x y z : Float) → T (finite x) → T (finite z) → T (le x y) → T (lt y z) → T (lt x z)
+le-lt x y z p q h l = by-contra (lt x z) (λ (n : T (not (lt x z))). lt-not-le y z l (fle-trans z x y (not-lt-le x z p q n) h))
+
+-- what is on a rung to 64 is below 1,000
+pub rung-below : (j : ℕ) (x : Float) → j ≤ 64 → T (finite x) → T (le x (ladder j)) → T (lt x thousand)
+rung-below j x h k l = le-lt x (ladder 64) thousand k (unfold ofBits in tt) (fle-trans x (ladder j) (ladder 64) l (rungs-rise j 64 h)) last-below
+
+-- TAU is on every rung, and 0
+tau-on : (j : ℕ) → T (le tau (ladder j))
+unfolding phaseFrom
+tau-on j = fle-trans tau ten (ladder j) (unfold ofBits in unfold le in tt) (rungs-rise 0 j (omega arith))
+
+pub naught-on : (j : ℕ) → T (le naught (ladder j))
+unfolding phaseFrom
+naught-on j = fle-trans naught ten (ladder j) (unfold ofBits in unfold le in tt) (rungs-rise 0 j (omega arith))
+
+-- ---- a reduction
+tau-nonneg : T (nonneg tau)
+tau-nonneg = unfold ofBits in tt
+
+-- a phase that is not negative, an f64 or not, is reduced to TAU at most
+module _ (p : Float) (h : T (nonneg p)) where
+  abbrev rest : Float
+  rest = rem binary64 p tau
+
+  rest-le : T (le rest tau)
+  rest-le = rem-le binary64 p tau (ofBits-fits binary64 0x4019_21fb_5444_2d18) h (unfold ofBits in tt)
+
+  rest-ge0 : T (ge0 rest)
+  rest-ge0 = rem-ge0 binary64 p tau h (unfold ofBits in tt)
+
+  reduced-is : reduceOf p ≡ rest
+  unfolding reduceOf
+  reduced-is = rw (no (lt rest naught) (λ (t : T (lt rest naught)). lt-not-le rest naught t (rw (lit0-is binary64) (ge0→le rest rest-ge0)))) refl
+    where
+      no : (b : Bool) → (T b → ⊥) → b ≡ false
+      no true n = absurd (n tt)
+      no false n = refl
+
+  pub reduced-on : (j : ℕ) → T (le (reduceOf p) (ladder j))
+  reduced-on j = rw reduced-is (fle-trans rest tau (ladder j) rest-le (tau-on j))
+
+  pub reduced-nonneg : T (nonneg (reduceOf p))
+  reduced-nonneg = rw reduced-is (under rest tau rest-ge0 (nonneg→finite tau tau-nonneg) rest-le)
+
+-- ---- what a sample adds
+abbrev slow : Float
+slow = ofBits binary64 0x40bf_4000_0000_0000
+
+-- 12,544 / 8,000 * TAU
+abbrev steep : Float
+steep = highest ⊘ slow ⊗ tau
+
+-- a rate as a float
+rate-slow : (rate : ℕ) → T (isRate rate) → T (le slow (ofInt binary64 (pos rate)))
+unfolding ofInt isRate
+rate-slow rate h = rw whole (round-mono binary64 8000 1 rate 1 (lit< tt) (lit< tt) (nat.mul-le-mul-right 1 (leb→le 8000 rate (and-l (leb 8000 rate) (leb rate 192000) h))))
+  where
+    whole : slow ≡ round binary64 false 8000 1
+    whole = unfold ofBits in unfold round in refl
+
+rate-positive : (rate : ℕ) → T (isRate rate) → T (positive (ofInt binary64 (pos rate)))
+unfolding ofInt isRate
+rate-positive rate h =
+    let x = round binary64 false rate 1 in
+    let top : T (le x (round binary64 false 192000 1)) = round-mono binary64 rate 1 192000 1 (lit< tt) (lit< tt) (nat.mul-le-mul-right 1 (leb→le rate 192000 (and-r (leb 8000 rate) (leb rate 192000) h))) in
+    ge0-positive slow x (unfold ofBits in tt) (rate-slow rate h) (nonneg→finite x (under x (round binary64 false 192000 1) (ge0-round binary64 rate 1) (unfold round in tt) top))
+
+module _ (frequency : Float) (rate : ℕ) (f : T (isPitch frequency)) (r : T (isRate rate)) where
+  frequency-le : T (le frequency highest)
+  frequency-le = and-r (lt naught frequency) (le frequency highest) f
+
+  ratio-le : T (le (frequency ⊘ ofInt binary64 (pos rate)) (highest ⊘ slow))
+  ratio-le = div-mono binary64 frequency highest (ofInt binary64 (pos rate)) slow (pitch-nonneg frequency f) (unfold ofBits in tt) (rate-positive rate r) (unfold ofBits in tt) frequency-le (rate-slow rate r)
+
+  ratio-nonneg : T (nonneg (frequency ⊘ ofInt binary64 (pos rate)))
+  ratio-nonneg = under (frequency ⊘ ofInt binary64 (pos rate)) (highest ⊘ slow) (div-ge0 binary64 frequency (ofInt binary64 (pos rate)) (pitch-nonneg frequency f) (rate-positive rate r)) (unfold ofBits in unfold div in tt) ratio-le
+
+  pub pace-le : T (le (incrementOf frequency rate) ten)
+  unfolding incrementOf
+  pace-le =
+      fle-trans (incrementOf frequency rate) steep ten
+      (mul-mono binary64 (frequency ⊘ ofInt binary64 (pos rate)) (highest ⊘ slow) tau tau ratio-nonneg (unfold ofBits in unfold div in tt) tau-nonneg tau-nonneg ratio-le (fle-refl tau (nonneg→finite tau tau-nonneg)))
+      (unfold ofBits in unfold div in unfold mul in unfold le in tt)
+
+  pub pace-nonneg : T (nonneg (incrementOf frequency rate))
+  unfolding incrementOf
+  pace-nonneg = under (incrementOf frequency rate) ten (mul-ge0 binary64 (frequency ⊘ ofInt binary64 (pos rate)) tau ratio-nonneg tau-nonneg) (nonneg→finite ten ten-nonneg) pace-le
+
+-- one sample is one rung
+module _ (j : ℕ) (p step : Float) (h : T (nonneg p)) (l : T (le p (ladder j))) (s : T (nonneg step)) (t : T (le step ten)) where
+  pub next-rung : T (le (p ⊕ step) (ladder (suc j)))
+  unfolding phaseFrom
+  next-rung = add-mono binary64 p (ladder j) step ten h (rung-nonneg j) s ten-nonneg l t
+
+  pub next-nonneg : T (nonneg (p ⊕ step))
+  next-nonneg = under (p ⊕ step) (ladder (suc j)) (add-ge0 binary64 p step h s) (nonneg→finite (ladder (suc j)) (rung-nonneg (suc j))) next-rung

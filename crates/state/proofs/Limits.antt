@@ -1,0 +1,226 @@
+-- The limits of a state, part by part, and that every event of an accepted score keeps them. A state is `Kept P` where its phase has P and all else is within its limits: an event leaves the phase or sets it to 0, so
+-- what P is does not matter to it. What is within the limits has no NaN and no infinity. Assumes nothing.
+use mathlib.Core.Path.{_≡_, refl, sym, subst}
+use mathlib.Core.Bool.{Bool, true, false, not, cond, _&&_}
+use mathlib.Core.List.{List, []}
+use Prim.Native.Nat.{ℕ, _*_, _≤_, _<_}
+use native.Mathlib.Omega.{arith}
+use lib.Dec.{T, eqb}
+use lib.ListN.{length}
+use lib.Ieee.{Float, nan, inf, fin, binary32, binary64, ofBits, lt, le, isNan}
+use lib.Ieee.Fits.{and-i, and-l, and-r}
+use lib.Ieee.Scale.{finite}
+use Rattle.floats.specs.Range.{nought, nonneg, within, lit0, lit1}
+use Rattle.floats.specs.Double.{naught, one}
+use Rattle.floats.proofs.Literals.{lit0-is, lit1-is}
+use Rattle.floats.proofs.Order.{lt-le, le→ge0, nonneg→finite, under}
+use Rattle.pitch.specs.Pitch.{frequencyOf}
+use Rattle.pitch.proofs.Rules.{frequency-in}
+use Rattle.voice.specs.Keys.{liftedOf, isKeys}
+use Rattle.voice.specs.Voice.{velocityOf}
+use Rattle.voice.specs.declared.keys.ActiveNote.the-variants.{Silent}
+use Rattle.voice.specs.declared.keys.Keys.{Keys}
+use Rattle.voice.specs.declared.keys.NoteOff.{NoteOff}
+use Rattle.voice.specs.declared.keys.NoteOff.the-variants.{Released, FellBack, NoChange}
+use Rattle.voice.proofs.Actions.{pressed-keeps, BackRanged, lifted-keeps}
+use Rattle.voice.proofs.Limits.{AllRanged, holds-limits}
+use Rattle.voice.proofs.Loudness as loudness
+use Rattle.envelope.specs.Limits.{isEnvelope}
+use Rattle.envelope.proofs.Inside.{FiniteFields, finite-fields}
+use Rattle.envelope.proofs.Keeps.{fresh-accepted, triggered-keeps, released-keeps}
+use Rattle.score.specs.declared.Kind.{Kind}
+use Rattle.score.specs.declared.Kind.the-variants.{On, Off, Reset}
+use Rattle.score.specs.declared.Verdict.the-variants.{Accepted}
+use Rattle.score.specs.Record.{countOf, byteAt, recordAt}
+use Rattle.score.specs.Score.{mostOf, verdictOf}
+use Rattle.score.proofs.Verdicts.{accepted-all}
+use Rattle.state.specs.declared.State.{State}
+use Rattle.state.specs.declared.Event.{Event}
+use Rattle.state.specs.declared.Event.the-variants as event
+use Rattle.state.specs.State.{freshOf, eventFor, eventOf, liftedBy, actOf}
+use Rattle.state.specs.Limits.{thousand, highest, isTurn, isPitch, inLimits, isState}
+
+-- a test that passes is true, and the other way
+pub is-true : (b : Bool) → T b → b ≡ true
+is-true true t = refl
+
+pub from-true : (b : Bool) → b ≡ true → T b
+from-true b e = subst T (sym e) tt
+
+-- ---- the parts
+pub record Kept (P : Float → Type 0) (v : State) : Type 0 where
+  pub phase-in : P (v .phase .0)
+  pub envelope-in : T (isEnvelope (v .envelope))
+  pub pitch-in : T (isPitch (v .frequency))
+  pub velocity-in : T (within naught one (v .velocity))
+  pub keys-in : T (isKeys (v .keys))
+
+abbrev pub Turn : Float → Type 0
+Turn x = T (isTurn x)
+
+pub weaken : (P Q : Float → Type 0) (v : State) → (P (v .phase .0) → Q (v .phase .0)) → Kept P v → Kept Q v
+weaken P Q v f k = record { phase-in = f (k .phase-in); envelope-in = k .envelope-in; pitch-in = k .pitch-in; velocity-in = k .velocity-in; keys-in = k .keys-in }
+
+module _ (v : State) where
+  abbrev turn : Bool
+  turn = isTurn (v .phase .0)
+
+  abbrev shaped : Bool
+  shaped = isEnvelope (v .envelope)
+
+  abbrev pitched : Bool
+  pitched = isPitch (v .frequency)
+
+  abbrev loud : Bool
+  loud = within naught one (v .velocity)
+
+  abbrev keyed : Bool
+  keyed = isKeys (v .keys)
+
+  -- the limits are these parts
+  pub in-kept : inLimits v ≡ true → Kept Turn v
+  unfolding inLimits
+  in-kept e =
+      let h = from-true (inLimits v) e in
+      let h4 = and-l (turn && shaped && pitched && loud) keyed h in
+      let h3 = and-l (turn && shaped && pitched) loud h4 in
+      let h2 = and-l (turn && shaped) pitched h3 in
+      record {
+        phase-in = and-l turn shaped h2;
+        envelope-in = and-r turn shaped h2;
+        pitch-in = and-r (turn && shaped) pitched h3;
+        velocity-in = and-r (turn && shaped && pitched) loud h4;
+        keys-in = and-r (turn && shaped && pitched && loud) keyed h;
+      }
+
+  pub kept-in : Kept Turn v → inLimits v ≡ true
+  unfolding inLimits
+  kept-in k =
+      is-true (inLimits v)
+      (and-i (turn && shaped && pitched && loud) keyed
+      (and-i (turn && shaped && pitched) loud (and-i (turn && shaped) pitched (and-i turn shaped (k .phase-in) (k .envelope-in)) (k .pitch-in)) (k .velocity-in))
+      (k .keys-in))
+
+-- ---- no NaN, no infinity
+pub record AllFinite (v : State) : Type 0 where
+  pub phase-finite : T (finite (v .phase .0))
+  pub frequency-finite : T (finite (v .frequency))
+  pub velocity-finite : T (finite (v .velocity))
+  pub envelope-finite : FiniteFields (v .envelope)
+
+pub no-nan : (x : Float) → T (finite x) → T (not (isNan x))
+unfolding isNan
+no-nan nan h = h
+no-nan (inf s) h = tt
+no-nan (fin s m e) h = tt
+
+-- 0 ≤ x, by the literal
+from-literal : (x : Float) → T (le naught x) → T (le nought x)
+from-literal x h = rw lit0-is at h
+
+pub turn-nonneg : (x : Float) → Turn x → T (nonneg x)
+turn-nonneg x h = under x thousand (le→ge0 x (from-literal x (and-l (le naught x) (lt x thousand) h))) (unfold ofBits in tt) (lt-le x thousand (and-r (le naught x) (lt x thousand) h))
+
+pub pitch-nonneg : (x : Float) → T (isPitch x) → T (nonneg x)
+pitch-nonneg x h = under x highest (le→ge0 x (from-literal x (lt-le naught x (and-l (lt naught x) (le x highest) h)))) (unfold ofBits in tt) (and-r (lt naught x) (le x highest) h)
+
+loud-nonneg : (x : Float) → T (within naught one x) → T (nonneg x)
+loud-nonneg x h = under x one (le→ge0 x (from-literal x (and-l (le naught x) (le x one) h))) (unfold ofBits in tt) (and-r (le naught x) (le x one) h)
+
+pub kept-finite : (P : Float → Type 0) (v : State) → (P (v .phase .0) → T (nonneg (v .phase .0))) → Kept P v → AllFinite v
+kept-finite P v f k =
+    record {
+      phase-finite = nonneg→finite (v .phase .0) (f (k .phase-in));
+      frequency-finite = nonneg→finite (v .frequency) (pitch-nonneg (v .frequency) (k .pitch-in));
+      velocity-finite = nonneg→finite (v .velocity) (loud-nonneg (v .velocity) (k .velocity-in));
+      envelope-finite = finite-fields (v .envelope) (k .envelope-in);
+    }
+
+pub in-finite : (v : State) → inLimits v ≡ true → AllFinite v
+in-finite v e = kept-finite Turn v (turn-nonneg (v .phase .0)) (in-kept v e)
+
+-- ---- the fresh state
+module _ (P : Float → Type 0) (p : P naught) where
+  pub fresh-keeps : (acted : ℕ) → Kept P (freshOf acted)
+  fresh-keeps acted =
+      record {
+        phase-in = p;
+        envelope-in = fresh-accepted;
+        pitch-in = unfold ofBits in unfold lt in unfold le in tt;
+        velocity-in = unfold ofBits in unfold le in tt;
+        keys-in = holds-limits Silent false [] tt (omega arith) (unfold AllRanged in tt);
+      }
+
+naught-turn : Turn naught
+naught-turn = unfold ofBits in unfold lt in unfold le in tt
+
+pub fresh-in : (acted : ℕ) → inLimits (freshOf acted) ≡ true
+fresh-in acted = kept-in (freshOf acted) (fresh-keeps Turn naught-turn acted)
+
+pub fresh-is-state : isState (freshOf 0) ≡ true
+unfolding isState
+fresh-is-state = rw (fresh-in 0) refl
+
+-- ---- notes and velocities in their range
+pitch-in-limits : (n : ℕ) → n ≤ 127 → T (isPitch (frequencyOf n))
+pitch-in-limits n h = frequency-in n (omega arith)
+
+loudness-in : (v : ℕ) → v ≤ 127 → T (within naught one (velocityOf v))
+loudness-in v h = go (loudness.velocity-in v h)
+  where
+    go : T (within (lit0 binary32) (lit1 binary32) (velocityOf v)) → T (within naught one (velocityOf v))
+    go t = rw (lit0-is binary64, lit1-is binary64) (rw (lit0-is binary32, lit1-is binary32) at t)
+
+-- ---- events
+-- what an event may be: a note and a velocity to 127
+abbrev pub EventIn : Event → Type 0
+EventIn (event.Strike n v) = (n ≤ 127) × (v ≤ 127)
+EventIn (event.Release n) = Unit
+EventIn event.Reset = Unit
+
+event-in : (k : Kind) (n v : ℕ) → n ≤ 127 → v ≤ 127 → EventIn (eventFor k n v)
+event-in On n v hn hv = (hn, hv)
+event-in Off n v hn hv = tt
+event-in Reset n v hn hv = tt
+
+most-in : (b : ℕ) → mostOf b ≤ 127
+most-in b = go (eqb b 3)
+  where
+    go : (t : Bool) → cond t 0 127 ≤ 127
+    go true = omega arith
+    go false = omega arith
+
+-- every record of an accepted score is such an event
+abbrev pub EventsIn : List ℕ → Type 0
+EventsIn s = (i : ℕ) → i < countOf s → EventIn (eventOf (recordAt s i))
+
+pub accepted-events : (s : List ℕ) (m : ℕ) → verdictOf s ≡ Accepted m → EventsIn s
+accepted-events s m a i h =
+    let all = accepted-all s m a in
+    let size : length s ≡ m * 10 = all .size in
+    let r = all .fine i (omega arith) .right in
+    event-in (recordAt s i .kind) (byteAt s i 7) (byteAt s i 8) (omega (arith, r .note-right, most-in (byteAt s i 6))) (omega (arith, r .velocity-right, most-in (byteAt s i 6)))
+
+-- an event keeps the limits, and what holds of the phase if it holds of 0
+module _ (P : Float → Type 0) (p : P naught) (v : State) (k : Kept P v) where
+  lift-keeps : (l : Keys) (off : NoteOff) → T (isKeys l) → BackRanged off → Kept P (liftedBy v l off)
+  lift-keeps l Released h b = record { phase-in = k .phase-in; envelope-in = released-keeps (v .envelope) (k .envelope-in); pitch-in = k .pitch-in; velocity-in = k .velocity-in; keys-in = h }
+  lift-keeps l (FellBack n w) h b = record { phase-in = k .phase-in; envelope-in = k .envelope-in; pitch-in = pitch-in-limits n (b .0); velocity-in = loudness-in w (b .1); keys-in = h }
+  lift-keeps l NoChange h b = record { phase-in = k .phase-in; envelope-in = k .envelope-in; pitch-in = k .pitch-in; velocity-in = k .velocity-in; keys-in = h }
+
+  pub act-keeps : (e : Event) → EventIn e → Kept P (actOf v e)
+  unfolding actOf
+  act-keeps (event.Strike n w) h =
+      record {
+        phase-in = k .phase-in;
+        envelope-in = triggered-keeps (v .envelope) (k .envelope-in);
+        pitch-in = pitch-in-limits n (h .0);
+        velocity-in = loudness-in w (h .1);
+        keys-in = pressed-keeps (v .keys) n w (k .keys-in) (h .0) (h .1);
+      }
+  act-keeps (event.Release n) h = let l = lifted-keeps (v .keys) n (k .keys-in) in lift-keeps (liftedOf (v .keys) n .keys) (liftedOf (v .keys) n .off) (l .within) (l .back)
+  act-keeps event.Reset h = fresh-keeps P p _
+
+-- so it keeps the limits of a state
+pub act-in : (v : State) (e : Event) → EventIn e → inLimits v ≡ true → inLimits (actOf v e) ≡ true
+act-in v e h i = kept-in (actOf v e) (act-keeps Turn naught-turn v (in-kept v i) e h)
