@@ -1,0 +1,30 @@
+-- How many entries the shelf of an output of n samples has: one for each mark below n, the last less than a mark from its end. Assumes nothing.
+use mathlib.Core.Path.{_≡_, refl}
+use Prim.Native.Nat.{ℕ, _+_, _*_, _/_, _≤_, _<_}
+use native.Mathlib.Omega.{arith}
+use Rattle.shelf.specs.Shelf.{entryWords, mark, entriesFor, wordsFor}
+
+-- entry m is there exactly where its sample is
+pub entry-there : (n m : ℕ) → m * mark < n → m < entriesFor n
+entry-there n m h = omega arith
+
+pub entry-below : (n m : ℕ) → m < entriesFor n → m * mark < n
+entry-below n m h = omega arith
+
+-- the entries reach to the end, and not a mark further
+pub entries-reach : (n : ℕ) → n ≤ entriesFor n * mark
+entries-reach n = omega arith
+
+pub entries-near : (n : ℕ) → entriesFor n * mark < n + mark
+entries-near n = omega arith
+
+pub no-entries : entriesFor 0 ≡ 0
+no-entries = refl
+
+-- the mark at or before a sample of the output has its entry
+pub start-there : (n p : ℕ) → p < n → p / mark < entriesFor n
+start-there n p h = omega arith
+
+-- the words of entry m lie within the shelf
+pub words-there : (n m : ℕ) → m < entriesFor n → m * entryWords + entryWords ≤ wordsFor n
+words-there n m h = omega arith

@@ -1,0 +1,72 @@
+-- Entries by example: the words of the fresh state and of one with two keys held, and words at the edge of the test, on either side. Assumes nothing.
+use mathlib.Core.Path.{_≡_, refl}
+use mathlib.Core.Bool.{true, false}
+use mathlib.Core.List.{List, [], _∷_, _++_, map}
+use Prim.Native.Nat.{ℕ, _+_, _*_}
+use lib.ListN.{set, take}
+use lib.Ieee.{lt, eq, le, ofBits, toBits}
+use Rattle.floats.specs.Double.{naught, half, one}
+use Rattle.envelope.specs.Limits.{isEnvelope}
+use Rattle.envelope.specs.declared.EnvelopeStage.the-variants.{Sustain}
+use Rattle.voice.specs.Keys.{atMost, isKeys, keysOf}
+use Rattle.voice.specs.declared.keys.ActiveNote.the-variants.{Note}
+use Rattle.waveform.specs.Waveform.{radians}
+use Rattle.state.specs.declared.State.{State}
+use Rattle.state.specs.State.{freshOf, concert}
+use Rattle.state.specs.Limits.{inLimits, isState}
+use Rattle.shelf.specs.Shelf.{packedWord, fourPairs, entryOf, stateOf, isEntry}
+
+-- the fresh state
+abbrev rest : List ℕ
+rest = 0 ∷ 0 ∷ 0 ∷ 0 ∷ 0 ∷ 255 ∷ 0x407b_8000_0000_0000 ∷ 0 ∷ 0 ∷ 0 ∷ 0 ∷ 0 ∷ []
+
+pub fresh-words : entryOf (freshOf 0) ≡ rest
+unfolding entryOf packedWord fourPairs ofBits toBits
+fresh-words = refl
+
+-- 60 at velocity 100 and then 64 at 90, which sounds; 2 records acted
+abbrev playing : State
+playing =
+    record {
+      phase = radians half;
+      envelope = record { stage = Sustain; level = half; «stage_time» = naught; «release_level» = naught };
+      frequency = concert;
+      velocity = one;
+      keys = keysOf (Note 64) true (record { note = 60; velocity = 100 } ∷ record { note = 64; velocity = 90 } ∷ []);
+      acted = 2;
+    }
+
+abbrev played : List ℕ
+played =
+    0x3fe0_0000_0000_0000
+    ∷ 3
+    ∷ 0x3fe0_0000_0000_0000
+    ∷ 0
+    ∷ 0
+    ∷ 0x2_0540
+    ∷ 0x407b_8000_0000_0000
+    ∷ 0x3ff0_0000_0000_0000
+    ∷ 0x5a40_643c
+    ∷ 0
+    ∷ 0
+    ∷ 0
+    ∷ []
+
+pub played-words : entryOf playing ≡ played
+unfolding entryOf packedWord fourPairs ofBits toBits
+played-words = refl
+
+-- a phase of -0, the highest frequency, 440.1 Hz, which no f32 is, and all records acted that there is room for
+pub taken : map isEntry (rest ∷ played ∷ set rest 0 0x8000_0000_0000_0000 ∷ set rest 6 0x40c8_8000_0000_0000 ∷ set rest 6 0x407b_8199_9999_999a ∷ set rest 5 0xffff_ffff_ffff_00ff ∷ []) ≡ true ∷ true ∷ true ∷ true ∷ true ∷ true ∷ []
+unfolding isEntry stateOf isState inLimits isEnvelope isKeys atMost ofBits lt eq le
+taken = refl
+
+-- eleven words, and thirteen; a phase of 1,000, and a NaN's bits; a stage of 5; a frequency of -0
+pub not-taken : map isEntry (take 11 rest ∷ (rest ++ 0 ∷ []) ∷ set rest 0 0x408f_4000_0000_0000 ∷ set rest 0 0x7ff8_0000_0000_0000 ∷ set rest 1 5 ∷ set rest 6 0x8000_0000_0000_0000 ∷ []) ≡ false ∷ false ∷ false ∷ false ∷ false ∷ false ∷ []
+unfolding isEntry stateOf isState inLimits isEnvelope isKeys atMost ofBits lt eq le
+not-taken = refl
+
+-- note 128, its gate down and up; a note with the gate down; none with the gate up; 17 held; an unused pair that is not 0; a held note of 128
+pub not-keys : map isEntry (set rest 5 128 ∷ set rest 5 (128 + 256) ∷ set rest 5 60 ∷ set rest 5 (255 + 256) ∷ set rest 5 (255 + 512 * 17) ∷ set rest 11 1 ∷ set played 8 0x5a80_643c ∷ []) ≡ false ∷ false ∷ false ∷ false ∷ false ∷ false ∷ false ∷ []
+unfolding isEntry stateOf isState inLimits isEnvelope isKeys atMost ofBits lt eq le
+not-keys = refl

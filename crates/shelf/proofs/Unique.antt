@@ -1,0 +1,19 @@
+-- Two outcomes that meet a public function's statement are equal. Assumes nothing.
+use mathlib.Core.Path.{_≡_, sym, _∙_}
+use mathlib.Core.List.{List}
+use Prim.Native.Nat.{ℕ}
+use Rattle.state.specs.declared.State.{State}
+use Rattle.shelf.specs.declared.Entry.{Entry}
+use Rattle.shelf.specs.Shelf.{entriesFor, wordsFor, entryOf, decodedOf}
+
+pub entries-unique : (n r t : ℕ) → r ≡ entriesFor n → t ≡ entriesFor n → r ≡ t
+entries-unique n r t p q = p ∙ sym q
+
+pub words-for-unique : (n r t : ℕ) → r ≡ wordsFor n → t ≡ wordsFor n → r ≡ t
+words-for-unique n r t p q = p ∙ sym q
+
+pub encode-unique : (v : State) (r t : List ℕ) → r ≡ entryOf v → t ≡ entryOf v → r ≡ t
+encode-unique v r t p q = p ∙ sym q
+
+pub decode-unique : (ws : List ℕ) (r t : Entry) → r ≡ decodedOf ws → t ≡ decodedOf ws → r ≡ t
+decode-unique ws r t p q = p ∙ sym q
