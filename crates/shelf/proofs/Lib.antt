@@ -11,6 +11,8 @@ pub mod Parts
 pub mod There
 -- an entry's state has that entry's words, so no bit is left over
 pub mod Back
+-- entries put together, and each found again
+pub mod Whole
 -- 01's sentence, word by word, is what the test says
 pub mod Sentence
 -- entries by example

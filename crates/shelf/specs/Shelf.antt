@@ -5,7 +5,7 @@
 -- Twelve words are read as a state, and the limits are asked of that state: `isState` has them. Word by word the same is said, and proved the same, in proofs/Sentence.antt; that no bit of an entry is left over is `decode-encode` of
 -- proofs/Back.antt. Definitions only.
 use mathlib.Core.Bool.{Bool, true, false, cond, _&&_}
-use mathlib.Core.List.{List, [], _∷_}
+use mathlib.Core.List.{List, [], _∷_, _++_}
 use Prim.Native.Nat.{ℕ, _+_, _-_, _*_, _/_, _%_}
 use lib.Dec.{eqb, leb}
 use lib.ListN.{length, getD}
@@ -150,3 +150,8 @@ isEntry ws = eqb (length ws) entryWords && leb (word ws 1) 4 && isState (stateOf
 -- whether the words hold a state, and the state as they are read
 abbrev pub decodedOf : List ℕ → Entry
 decodedOf ws = record { holds = isEntry ws; state = stateOf ws }
+
+-- ---- a whole shelf: the entries' words, one after the other
+unfoldable pub shelfOf : List State → List ℕ
+shelfOf [] = []
+shelfOf (v ∷ vs) = entryOf v ++ shelfOf vs

@@ -20,7 +20,7 @@ use Rattle.state.specs.Heart.{hasAt, actTo, begun, stateFrom, samplesFrom}
 use Rattle.state.proofs.Depends.{has-none, act-none}
 use Rattle.spans.specs.declared.Place.{Place}
 use Rattle.spans.specs.Walk.{placeOf, standsAt, actFrom, beginsAt, reducedAt, begunFrom, placeFrom, playedFrom}
-use Rattle.spans.proofs.Acting.{act-stop}
+use Rattle.spans.proofs.Offsets.{or-true}
 
 -- the records at n have acted, from v, and those that follow are above n
 pub record Acts (s : List ℕ) (n : ℕ) (v : State) (r : Place) : Type 0 where
@@ -70,10 +70,6 @@ module _ (s : List ℕ) (o : Sorted s) (n : ℕ) (v : State) where
       go ih false q = acting-stop i w (omega arith) (eqb-false (positionAt s i) n q) x
 
 -- ---- where a span begins, and what is begun there
-or-true : (b : Bool) → (b || true) ≡ true
-or-true true = refl
-or-true false = refl
-
 has-some : (s : List ℕ) (n i k : ℕ) → i < k → positionAt s i ≡ n → hasAt s n k ≡ true
 unfolding hasAt
 has-some s n i zero l e = absurd (none i l)

@@ -16,6 +16,10 @@ and-false : (b : Bool) → (b && false) ≡ false
 and-false true = refl
 and-false false = refl
 
+pub or-true : (b : Bool) → (b || true) ≡ true
+or-true true = refl
+or-true false = refl
+
 -- a test of two is a test of each
 pub both : (p q : Bool) → (p && q) ≡ true → (p ≡ true) × (q ≡ true)
 both true true e = (refl, refl)
@@ -48,10 +52,10 @@ module _ (s : List ℕ) (i n : ℕ) where
 
 -- ---- the end of a span
 pub block-to-end : (n a k : ℕ) → a < k → k - a < 64 - (n + a) % 64 → BlockEnd n a k k
-block-to-end n a k h l = record { after = h; within = omega arith; apart = λ m x y. ne-eqb ((n + m) % 64) 0 (λ e. omega arith) }
+block-to-end n a k h l = record { after = h; within = omega arith; ends = λ x. eq-eqb ((n + k) % 64) 0 (omega arith); apart = λ m x y. ne-eqb ((n + m) % 64) 0 (λ e. omega arith) }
 
 pub block-to-next : (n a k : ℕ) → 64 - (n + a) % 64 ≤ k - a → BlockEnd n a k (a + (64 - (n + a) % 64))
-block-to-next n a k l = record { after = omega arith; within = omega arith; apart = λ m x y. ne-eqb ((n + m) % 64) 0 (λ e. omega arith) }
+block-to-next n a k l = record { after = omega arith; within = omega arith; ends = λ x. eq-eqb ((n + (a + (64 - (n + a) % 64))) % 64) 0 (omega arith); apart = λ m x y. ne-eqb ((n + m) % 64) 0 (λ e. omega arith) }
 
 module _ (s : List ℕ) (i n a k e : ℕ) (b : BlockEnd n a k e) where
   begins-not : (m : ℕ) → a < m → m < e → standsAt s i (n + m) ≡ false → beginsAt s i (n + m) ≡ false
@@ -59,7 +63,7 @@ module _ (s : List ℕ) (i n a k e : ℕ) (b : BlockEnd n a k e) where
 
   -- no record lies between
   whole-block : ((m : ℕ) → a < m → m < e → standsAt s i (n + m) ≡ false) → SpanEnd s i n a k e
-  whole-block f = record { after = b .after; within = b .within; silent = λ m x y. begins-not m x y (f m x y) }
+  whole-block f = record { after = b .after; within = b .within; ends = λ x. rw (b .ends x) refl; silent = λ m x y. begins-not m x y (f m x y) }
 
   pub end-none : countOf s ≤ i → SpanEnd s i n a k e
   end-none h = whole-block (λ m x y. stands-none s i n m h)
@@ -75,10 +79,13 @@ module _ (s : List ℕ) (i n a k e : ℕ) (b : BlockEnd n a k e) where
       no true false f g h = let z : true ≡ false = sym h in absurd (clash (cc))
       no false q f g h = let z : true ≡ false = sym g in absurd (clash (cc))
 
-  pub end-record : n ≤ positionAt s i → a < positionAt s i - n → positionAt s i - n < e → SpanEnd s i n a k (positionAt s i - n)
-  end-record h x y =
+  pub end-record : i < countOf s → n ≤ positionAt s i → a < positionAt s i - n → positionAt s i - n < e → SpanEnd s i n a k (positionAt s i - n)
+  end-record l h x y =
+      let d : n + (positionAt s i - n) ≡ positionAt s i = omega arith in
+      let here : standsAt s i (n + (positionAt s i - n)) ≡ true = rw (d, lt-ltb i (countOf s) l, eq-eqb (positionAt s i) (positionAt s i) refl) refl in
       record {
         after = x;
         within = omega (arith, b .within);
+        ends = λ z. rw here (or-true (eqb ((n + (positionAt s i - n)) % 64) 0));
         silent = λ m u w. begins-not m u (omega arith) (stands-not s i n m (λ z. omega arith));
       }

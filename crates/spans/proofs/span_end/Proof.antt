@@ -32,7 +32,7 @@ returns-3 c =
     let q = c .before .before .position .ensures in
     let at = c .before .before .position .result - a .position in
     let end = c .before .before .before .before .before .block-end .result in
-    rw q (end-record (a .score .now) (a .next) (a .position) (a .offset) (a .length) _ (c .before .before .before .before .before .block-end .ensures) (rw (← q) (c .before .if2 .left)) (rw (← q) (ltb-true _ _ (both (ltb (a .offset) at) (ltb at end) (c .if3 .taken) .0))) (rw (← q) (ltb-true _ _ (both (ltb (a .offset) at) (ltb at end) (c .if3 .taken) .1))))
+    rw q (end-record (a .score .now) (a .next) (a .position) (a .offset) (a .length) _ (c .before .before .before .before .before .block-end .ensures) (rw (← c .before .before .before .before .count .ensures) (c .before .before .before .if1 .left)) (rw (← q) (c .before .if2 .left)) (rw (← q) (ltb-true _ _ (both (ltb (a .offset) at) (ltb at end) (c .if3 .taken) .0))) (rw (← q) (ltb-true _ _ (both (ltb (a .offset) at) (ltb at end) (c .if3 .taken) .1))))
 
 returns-4 : tie.Need-returns-4
 returns-4 c =

@@ -1,0 +1,41 @@
+-- On a score whose positions never fall, from the first record that is not below a mark, the sections are what the state's definitions say: samples, states and entries. Assumes nothing.
+use mathlib.Core.Path.{_≡_, refl, sym, ap, _∙_}
+use mathlib.Core.Bool.{true}
+use mathlib.Core.List.{List, [], _∷_, _++_}
+use Prim.Native.Nat.{ℕ, zero, suc, _-_, _*_}
+use lib.Dec.{eqb}
+use lib.ListN.{length, take}
+use lib.Ieee.{Float}
+use borrow.Author.Tests.{eq-eqb}
+use Rattle.score.specs.Below.{Sorted, Cut}
+use Rattle.state.specs.declared.Settings.{Settings}
+use Rattle.state.specs.declared.State.{State}
+use Rattle.state.specs.Heart.{stateFrom, samplesFrom, entriesFrom}
+use Rattle.shelf.specs.Shelf.{mark, entryWords, entriesFor, wordsFor, entryOf, shelfOf}
+use Rattle.shelf.proofs.Whole.{shelf-more}
+use Rattle.spans.specs.Walk.{placeOf, placeFrom, playedFrom}
+use Rattle.spans.proofs.Agrees.{kept, samples-agree}
+use Rattle.sections.specs.Sections.{keptFrom, Outcome, playOnOf}
+
+module _ (g : Settings) (s : List ℕ) (o : Sorted s) (m i : ℕ) (v : State) (c : Cut s (m * mark) i) where
+  entries-agree : (k : ℕ) → keptFrom g s m (placeOf v i) k ≡ shelfOf (entriesFrom g s m v k)
+  unfolding keptFrom entriesFrom shelfOf
+  entries-agree zero = refl
+  entries-agree (suc k) =
+      rw (shelf-more (entriesFrom g s m v k) (stateFrom g s (m * mark) v (k * mark)), entries-agree k, kept g s o (m * mark) i v c (k * mark) .state-is) refl
+
+  -- what the call leaves where the shelf fits the output
+  pub record Made (out : List Float) (shelf : List ℕ) (r : Outcome) : Type 0 where
+    pub state-is : r .place .state ≡ stateFrom g s (m * mark) v (length out - m * mark)
+    pub heard-is : r .heard ≡ take (m * mark) out ++ samplesFrom g s (m * mark) v (length out - m * mark)
+    pub stored-is : r .stored ≡ take (m * entryWords) shelf ++ shelfOf (entriesFrom g s m v (entriesFor (length out) - m))
+
+  pub made : (out : List Float) (shelf : List ℕ) → length shelf ≡ wordsFor (length out) → Made out shelf (playOnOf g s m (placeOf v i) out shelf)
+  unfolding playOnOf
+  made out shelf e =
+      rw (eq-eqb (length shelf) (wordsFor (length out)) e)
+      (record {
+        state-is = kept g s o (m * mark) i v c (length out - m * mark) .state-is;
+        heard-is = ap (λ (l : List Float). take (m * mark) out ++ l) (samples-agree g s o (m * mark) i v c (length out - m * mark));
+        stored-is = ap (λ (l : List ℕ). take (m * entryWords) shelf ++ l) (entries-agree (entriesFor (length out) - m));
+      })

@@ -1,0 +1,145 @@
+-- The loop over the sections, on plain values: where it starts, a turn, where it ends. Assumes nothing.
+use mathlib.Core.Path.{_≡_, refl, sym, ap, _∙_}
+use mathlib.Core.List.{List, [], _∷_, _++_, append-assoc, append-nil}
+use Prim.Native.Nat.{ℕ, zero, suc, _+_, _-_, _*_, _<_, _≤_}
+use native.Mathlib.Nat.{sub-self}
+use native.Mathlib.Numerals.{add-one}
+use native.Mathlib.Omega.{arith}
+use lib.ListN.{length, take}
+use lib.Seq.{take-all}
+use lib.Ieee.{Float}
+use borrow.Author.Tests.{eq-eqb, ne-eqb}
+use borrow.Rule.Slice.PartMut.{putMid, midOf, mid-len, same-len-mid}
+use Rattle.shelf.specs.Shelf.{mark, entryWords, entriesFor, wordsFor, entryOf}
+use Rattle.shelf.proofs.There.{entry-length}
+use Rattle.state.specs.declared.Settings.{Settings}
+use Rattle.spans.specs.declared.Place.{Place}
+use Rattle.spans.specs.Walk.{placeFrom, playedFrom, Played}
+use Rattle.spans.proofs.Turns.{take-mid}
+use Rattle.spans.proofs.GoesOn.{played-length, place-on, played-on}
+use Rattle.sections.specs.Sections.{keptFrom, leaves, played, playOnOf, SectionEnd}
+
+-- what the loop keeps: the samples as far as start are played, and the entries below k are kept
+pub record Walked (g : Settings) (s : List ℕ) (m : ℕ) (p : Place) (out₀ : List Float) (shelf₀ : List ℕ) (out : List Float) (shelf : List ℕ) (at : Place) (k start : ℕ) : Type 0 where
+  pub len : length out ≡ length out₀
+  pub lens : length shelf ≡ length shelf₀
+  pub from : m * mark ≤ start
+  pub within : start ≤ length out₀
+  pub past : m ≤ k
+  pub at-mark : start < length out₀ → start ≡ k * mark
+  pub most : start ≤ k * mark
+  pub least : k * mark < start + mark
+  pub place-is : at ≡ placeFrom g s (m * mark) p (start - m * mark)
+  pub heard : take start out ≡ take (m * mark) out₀ ++ playedFrom g s (m * mark) p (start - m * mark)
+  pub stored : take (k * entryWords) shelf ≡ take (m * entryWords) shelf₀ ++ keptFrom g s m p (k - m)
+
+module _ (g : Settings) (s : List ℕ) (m : ℕ) (p : Place) (out₀ : List Float) (shelf₀ : List ℕ) (fits : length shelf₀ ≡ wordsFor (length out₀)) (there : m < entriesFor (length out₀)) where
+  pub walk-first : Walked g s m p out₀ shelf₀ out₀ shelf₀ p m (m * mark)
+  unfolding placeFrom playedFrom keptFrom
+  walk-first =
+      record {
+        len = refl; lens = refl; from = omega arith; within = omega arith; past = omega arith;
+        at-mark = λ l. refl; most = omega arith; least = omega arith;
+        place-is = rw (sub-self (m * mark)) refl;
+        heard = rw (sub-self (m * mark), append-nil (take (m * mark) out₀)) refl;
+        stored = rw (sub-self m, append-nil (take (m * entryWords) shelf₀)) refl;
+      }
+
+  module _ (out : List Float) (shelf : List ℕ) (at : Place) (k start : ℕ) (w : Walked g s m p out₀ shelf₀ out shelf at k start) (h : start < length out) where
+    -- the entry has its place in the shelf
+    pub room : k * entryWords + entryWords ≤ length shelf
+    room = let e : start ≡ k * mark = w .at-mark (omega (arith, w .len)) in omega (arith, fits, w .len, w .lens)
+
+    -- the section is lent from start to e and comes back as ys, the entry's words as zs
+    module _ (e : ℕ) (z : SectionEnd start (length out) e) (ys : List Float) (r : Place) (x : Played g s start at (midOf start (e - start) out) ys r) (zs : List ℕ) (kept : zs ≡ entryOf (at .state)) where
+      abbrev out′ : List Float
+      out′ = putMid start (e - start) out ys
+
+      abbrev shelf′ : List ℕ
+      shelf′ = putMid (k * entryWords) entryWords shelf zs
+
+      many : length (midOf start (e - start) out) ≡ e - start
+      many = mid-len start e out (z .within)
+
+      full : length ys ≡ e - start
+      full = ap length (x .samples) ∙ played-length g s start at (length (midOf start (e - start) out)) ∙ many
+
+      here : m * mark + (start - m * mark) ≡ start
+      here = omega (arith, w .from)
+
+      span : start - m * mark + (e - start) ≡ e - m * mark
+      span = omega (arith, w .from, z .after)
+
+      pub turn-place : r ≡ placeFrom g s (m * mark) p (e - m * mark)
+      turn-place =
+          x .place ∙ rw (many, w .place-is) refl
+          ∙ ap (λ (n : ℕ). placeFrom g s n (placeFrom g s (m * mark) p (start - m * mark)) (e - start)) (sym here)
+          ∙ sym (place-on g s (m * mark) p (start - m * mark) (e - start)) ∙ ap (placeFrom g s (m * mark) p) span
+
+      pub turn-heard : take e out′ ≡ take (m * mark) out₀ ++ playedFrom g s (m * mark) p (e - m * mark)
+      turn-heard =
+          let d : start + (e - start) ≡ e = omega (arith, z .after) in
+          ap (λ (n : ℕ). take n out′) (sym d) ∙ take-mid start (e - start) out ys (omega arith) full
+          ∙ rw (w .heard, x .samples, many, w .place-is) refl
+          ∙ ap (λ (n : ℕ). (take (m * mark) out₀ ++ playedFrom g s (m * mark) p (start - m * mark)) ++ playedFrom g s n (placeFrom g s (m * mark) p (start - m * mark)) (e - start)) (sym here)
+          ∙ append-assoc (take (m * mark) out₀) (playedFrom g s (m * mark) p (start - m * mark)) _
+          ∙ ap (λ (l : List Float). take (m * mark) out₀ ++ l) (sym (played-on g s (m * mark) p (start - m * mark) (e - start)) ∙ ap (playedFrom g s (m * mark) p) span)
+
+      pub turn-stored : take ((k + 1) * entryWords) shelf′ ≡ take (m * entryWords) shelf₀ ++ keptFrom g s m p (k + 1 - m)
+      unfolding keptFrom
+      turn-stored =
+          let a : start ≡ k * mark = w .at-mark (omega (arith, w .len)) in
+          let q : k + 1 - m ≡ suc (k - m) = omega (arith, w .past) in
+          let b : start - m * mark ≡ (k - m) * mark = omega (arith, w .past) in
+          let n : (k + 1) * entryWords ≡ k * entryWords + entryWords = omega arith in
+          let l : length zs ≡ entryWords = ap length kept ∙ entry-length (at .state) in
+          let v : at ≡ placeFrom g s (m * mark) p ((k - m) * mark) = w .place-is ∙ ap (placeFrom g s (m * mark) p) b in
+          rw (n, q) (take-mid (k * entryWords) entryWords shelf zs (omega (arith, room)) l
+          ∙ rw (w .stored, kept, v) (append-assoc (take (m * entryWords) shelf₀) (keptFrom g s m p (k - m)) (entryOf (placeFrom g s (m * mark) p ((k - m) * mark) .state))))
+
+      pub walk-on : Walked g s m p out₀ shelf₀ out′ shelf′ r (k + 1) e
+      walk-on =
+          let a : start ≡ k * mark = w .at-mark (omega (arith, w .len)) in
+          let lz : length zs ≡ entryWords = ap length kept ∙ entry-length (at .state) in
+          let d : k * entryWords + entryWords - k * entryWords ≡ entryWords = omega arith in
+          record {
+            len = same-len-mid start (e - start) out ys (full ∙ sym many) ∙ w .len;
+            lens = same-len-mid (k * entryWords) entryWords shelf zs (lz ∙ sym (rw d at (mid-len (k * entryWords) (k * entryWords + entryWords) shelf room))) ∙ w .lens;
+            from = omega (arith, w .from, z .after);
+            within = omega (arith, z .within, w .len);
+            past = omega (arith, w .past);
+            at-mark = λ l. (let t : e ≡ start + mark = z .whole (omega (arith, w .len)) in omega arith);
+            most = omega (arith, z .near);
+            least = omega (arith, z .after);
+            place-is = turn-place;
+            heard = turn-heard;
+            stored = turn-stored;
+          }
+
+  pub walk-last : (out : List Float) (shelf : List ℕ) (at : Place) (k start : ℕ) → Walked g s m p out₀ shelf₀ out shelf at k start → length out ≤ start → leaves at out shelf ≡ played g s m p out₀ shelf₀
+  walk-last out shelf at k start w h =
+      let a : start ≡ length out₀ = omega (arith, w .within, w .len) in
+      let b : k ≡ entriesFor (length out₀) = omega (arith, w .most, w .least) in
+      let x : out ≡ take (m * mark) out₀ ++ playedFrom g s (m * mark) p (length out₀ - m * mark) = sym (take-all start out (omega (arith, w .len))) ∙ w .heard ∙ ap (λ (n : ℕ). take (m * mark) out₀ ++ playedFrom g s (m * mark) p (n - m * mark)) a in
+      let y : shelf ≡ take (m * entryWords) shelf₀ ++ keptFrom g s m p (entriesFor (length out₀) - m) =
+      sym (take-all (k * entryWords) shelf (omega (arith, fits, w .lens))) ∙ w .stored ∙ ap (λ (n : ℕ). take (m * entryWords) shelf₀ ++ keptFrom g s m p (n - m)) b in
+      let v : at ≡ placeFrom g s (m * mark) p (length out₀ - m * mark) = w .place-is ∙ ap (λ (n : ℕ). placeFrom g s (m * mark) p (n - m * mark)) a in
+      rw (← x, ← y, ← v) refl
+
+-- ---- the cases of the call
+module _ (g : Settings) (s : List ℕ) (m : ℕ) (p : Place) (out : List Float) (shelf : List ℕ) where
+  pub unfit : (length shelf ≡ wordsFor (length out) → ⊥) → leaves p out shelf ≡ playOnOf g s m p out shelf
+  unfolding playOnOf
+  unfit f = rw (ne-eqb (length shelf) (wordsFor (length out)) f) refl
+
+  -- a mark at or past the end leaves nothing to play
+  pub past-the-end : length shelf ≡ wordsFor (length out) → entriesFor (length out) ≤ m → leaves p out shelf ≡ playOnOf g s m p out shelf
+  unfolding playOnOf placeFrom playedFrom keptFrom
+  past-the-end e h =
+      let a : length out - m * mark ≡ 0 = omega arith in
+      let b : entriesFor (length out) - m ≡ 0 = omega arith in
+      rw (eq-eqb (length shelf) (wordsFor (length out)) e, a, b, take-all (m * mark) out (omega arith), take-all (m * entryWords) shelf (omega (arith, e)), append-nil out, append-nil shelf) refl
+
+  pub fit : length shelf ≡ wordsFor (length out) → played g s m p out shelf ≡ playOnOf g s m p out shelf
+  unfolding playOnOf
+  fit e = rw (eq-eqb (length shelf) (wordsFor (length out)) e) refl

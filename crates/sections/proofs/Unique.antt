@@ -1,0 +1,14 @@
+-- Two outcomes that meet a public function's statement are equal. Assumes nothing.
+use mathlib.Core.Path.{_≡_, sym, ap, _∙_}
+use mathlib.Core.List.{List}
+use Prim.Native.Nat.{ℕ}
+use lib.Ieee.{Float}
+use Rattle.state.specs.declared.Settings.{Settings}
+use Rattle.spans.specs.declared.Place.{Place}
+use Rattle.sections.specs.Sections.{Outcome, leaves, playOnOf}
+
+pub play-on-unique : (g : Settings) (s : List ℕ) (m : ℕ) (p : Place) (out a b : List Float) (shelf c d : List ℕ) (r t : Place) → leaves r a c ≡ playOnOf g s m p out shelf → leaves t b d ≡ playOnOf g s m p out shelf
+    → (r ≡ t) × (a ≡ b) × (c ≡ d)
+play-on-unique g s m p out a b shelf c d r t x y =
+    let e : leaves r a c ≡ leaves t b d = x ∙ sym y in
+    (ap (λ (o : Outcome). o .place) e, ap (λ (o : Outcome). o .heard) e, ap (λ (o : Outcome). o .stored) e)

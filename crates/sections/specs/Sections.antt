@@ -1,0 +1,50 @@
+-- From a mark to the end of the output, section by section: the entry of a mark, and then its samples, 4,096 or as many as are left. 01, "The shelf": "Entry k holds the state before sample 4096k is begun, for every
+-- 4096k below N, the output's length". It is a walk (the crate spans) from a place at any mark; where the shelf has not the words that the output asks for, nothing is played and nothing stored. Definitions only.
+use mathlib.Core.Bool.{Bool, true, false}
+use mathlib.Core.Path.{_≡_}
+use mathlib.Core.List.{List, [], _∷_, _++_}
+use Prim.Native.Nat.{ℕ, zero, suc, _+_, _-_, _*_, _<_, _≤_}
+use lib.Dec.{eqb}
+use lib.ListN.{length, take}
+use lib.Ieee.{Float}
+use Rattle.shelf.specs.Shelf.{mark, entryWords, entriesFor, wordsFor, entryOf}
+use Rattle.spans.specs.declared.Place.{Place}
+use Rattle.spans.specs.Walk.{placeFrom, playedFrom}
+use Rattle.state.specs.declared.Settings.{Settings}
+
+-- the words of the entries m to m + k - 1, from a place p at mark m
+unfoldable pub keptFrom : Settings → List ℕ → ℕ → Place → ℕ → List ℕ
+keptFrom g s m p zero = []
+keptFrom g s m p (suc k) = keptFrom g s m p k ++ entryOf (placeFrom g s (m * mark) p (k * mark) .state)
+
+-- what the call leaves: the place after the last sample, the output, the shelf
+pub record Outcome : Type 0 where
+  pub place : Place
+  pub heard : List Float
+  pub stored : List ℕ
+
+abbrev pub leaves : Place → List Float → List ℕ → Outcome
+leaves p out shelf = record { place = p; heard = out; stored = shelf }
+
+-- what lies before the mark stays as it came
+abbrev pub played : Settings → List ℕ → ℕ → Place → List Float → List ℕ → Outcome
+played g s m p out shelf =
+    let n = length out in
+    leaves
+    (placeFrom g s (m * mark) p (n - m * mark))
+    (take (m * mark) out ++ playedFrom g s (m * mark) p (n - m * mark))
+    (take (m * entryWords) shelf ++ keptFrom g s m p (entriesFor n - m))
+
+abbrev pub playedIf : Bool → Settings → List ℕ → ℕ → Place → List Float → List ℕ → Outcome
+playedIf true g s m p out shelf = played g s m p out shelf
+playedIf false g s m p out shelf = leaves p out shelf
+
+unfoldable pub playOnOf : Settings → List ℕ → ℕ → Place → List Float → List ℕ → Outcome
+playOnOf g s m p out shelf = playedIf (eqb (length shelf) (wordsFor (length out))) g s m p out shelf
+
+-- r is 4,096 samples after a, or the end k
+pub record SectionEnd (a k r : ℕ) : Type 0 where
+  pub after : a < r
+  pub within : r ≤ k
+  pub near : r ≤ a + mark
+  pub whole : r < k → r ≡ a + mark
