@@ -3,8 +3,8 @@
 
 Every operation is done without rounding and then rounded once by `rounded` below, so neither the processor's floats
 nor the original's text has a part in it. Says how many rows agree, exits 1 if one does not. The parts are phase,
-polyblep, envelope, waveform and voice, whose pitches are those of the definition's list, and sine, which is measured:
-there the rows must besides be sines by Python's library.
+polyblep, envelope, waveform and voice, whose pitches are those of the definition's list, and sine and blocks: a sine is
+measured, and the rows must besides be sines by Python's library.
 """
 
 import functools
@@ -20,15 +20,14 @@ def rounded(exact, bits, lowest, negative_zero=False):
     """The nearest number of `bits` digits, ties to even; no digit below 2^lowest; too large is infinite."""
     if exact == 0:
         return -0.0 if negative_zero else 0.0
-    size = abs(exact)
-    top = size.numerator.bit_length() - size.denominator.bit_length()
-    if size < Fraction(2) ** top:
+    over, under = abs(exact.numerator), exact.denominator
+    top = over.bit_length() - under.bit_length()
+    if over << max(-top, 0) < under << max(top, 0):
         top -= 1
     unit = max(top - bits + 1, lowest)
-    scaled = size / Fraction(2) ** unit
-    whole = scaled.numerator // scaled.denominator
-    rest = scaled - whole
-    if rest > Fraction(1, 2) or (rest == Fraction(1, 2) and whole % 2 == 1):
+    under <<= max(unit, 0)
+    whole, rest = divmod(over << max(-unit, 0), under)
+    if 2 * rest > under or (2 * rest == under and whole % 2 == 1):
         whole += 1
     try:
         found = math.ldexp(whole, unit)
@@ -247,15 +246,29 @@ INV_TAU = float_of(0x3FC45F306DC9C883, True)
 
 def remainder(x):
     """x % TAU, which is exact and has the sign of x."""
-    size = Fraction(abs(x))
-    whole = size / Fraction(TAU)
-    left = float(size - whole.numerator // whole.denominator * Fraction(TAU))
+    left = float(Fraction(abs(x)) % Fraction(TAU))
     return -left if minus(x) else left
 
 
+def reduced(x):
+    left = remainder(x)
+    return add(left, TAU) if left < 0 else left
+
+
 def waveform_value(shape, phase, dt, duty):
-    calls = [None, square, saw, triangle, lambda p, d: pulse(p, d, duty)]
+    calls = [lambda p, d: sine(p), square, saw, triangle, lambda p, d: pulse(p, d, duty)]
     return calls[shape](phase, dt)
+
+
+def radians_block(shape, duty, phase, step, scale, length):
+    """The samples, the phase of each, and the phase after them, which is not reduced."""
+    samples, phases, dt = [], [], mul(step, INV_TAU)
+    for _ in range(length):
+        value = waveform_value(shape, mul(remainder(phase), INV_TAU), dt, duty)
+        samples.append(mul(value, scale))
+        phases.append(phase)
+        phase = add(phase, step)
+    return samples, phases, phase
 
 
 def waveform_answer(op, shape, *given):
@@ -268,14 +281,9 @@ def waveform_answer(op, shape, *given):
             number = 9
         samples.append(waveform_value(shape, phase, step, duty) if number == 0 else 0.0)
     else:
-        after = phase
-        for _ in range(given[4]):
-            value = waveform_value(shape, mul(remainder(after), INV_TAU), mul(step, INV_TAU), duty)
-            samples.append(mul(value, scale))
-            after = add(after, step)
+        samples, _, after = radians_block(shape, duty, phase, step, scale, given[4])
     if op == 1:
-        after = remainder(after)
-        after = add(after, TAU) if after < 0 else after
+        after = reduced(after)
     slots = [bits_of(x, True) for x in samples] + (8 - len(samples)) * [UNWRITTEN]
     return (number, bits_of(after, True)) + tuple(slots)
 
@@ -345,14 +353,17 @@ def quarter_wave():
     return [float(entry) for entry in re.findall(r"^    (\d+),$", text, re.M)]
 
 
-def sine(wave, u):
+WAVE = quarter_wave()
+
+
+def sine(u):
     point = mul(u, 4096.0)
     i = math.floor(point)
     part = sub(point, float(i))
     if i == 4096:
         i, part = 0, 0.0
     quadrant, j = divmod(i, 1024)
-    a, b = (wave[j], wave[j + 1]) if quadrant % 2 == 0 else (wave[1024 - j], wave[1023 - j])
+    a, b = (WAVE[j], WAVE[j + 1]) if quadrant % 2 == 0 else (WAVE[1024 - j], WAVE[1023 - j])
     if quadrant > 1:
         a, b = 0.0 - a, 0.0 - b
     return div(add(a, mul(sub(b, a), part)), 2.0**30)
@@ -360,10 +371,10 @@ def sine(wave, u):
 
 def measure(path):
     """How far our sine is from the rows', and theirs from another library's."""
-    wave, total, within, largest, fine = quarter_wave(), 0, 0, Fraction(0), True
+    total, within, largest, fine = 0, 0, Fraction(0), True
     for u, theirs in struct.iter_unpack("<2d", open(path, "rb").read()):
         total += 1
-        off = abs(Fraction(sine(wave, u)) - Fraction(theirs))
+        off = abs(Fraction(sine(u)) - Fraction(theirs))
         within += off <= Fraction(1, 10**6)
         largest = max(largest, off)
         if abs(theirs - math.sin(mul(u, TAU))) > 1e-15:
@@ -371,6 +382,61 @@ def measure(path):
             print("sine: the row of", u.hex(), "is not a sine's")
     print(f"sine: {total} rows, {within} within 0.000001, largest difference {math.ceil(largest * 10**9)} billionths")
     return fine and within == total > 0
+
+
+# The block calls.
+
+
+def block_rows(path):
+    """The given words of each row, the words of the answer, and those of the samples."""
+    data, at = open(path, "rb").read(), 0
+    while at < len(data):
+        (length,) = struct.unpack_from("<Q", data, at + 56)
+        row = struct.unpack_from(f"<{11 + length}Q", data, at)
+        at += 8 * len(row)
+        yield row[:8], row[8:11], row[11:]
+
+
+def block_answer(op, shape, duty_bits, rate, *given):
+    """Number, count and phase after; the samples, and the phase of each."""
+    duty, frequency, depth, phase = (float_of(w, True) for w in (duty_bits, *given[:3]))
+    number, highest = 0, 100 if op == 1 else 20000
+    if not 8000 <= rate <= 192000 or (shape == 4 and not 0 <= duty <= 1):
+        number = 6
+    elif not (0 <= frequency <= highest and 0 <= depth <= 1 and 0 <= phase < 1000):
+        number = 9
+    if number > 0:
+        return (number, 0, given[2]), given[3] * [42.0], []
+    step = mul(div(frequency, float(rate)), TAU)
+    samples, phases, after = radians_block(shape, duty, phase, step, depth, given[3])
+    return (0, given[3], bits_of(reduced(after), True)), samples, phases
+
+
+def farthest(samples, theirs):
+    return max((abs(Fraction(a) - Fraction(b)) for a, b in zip(samples, theirs)), default=Fraction(0))
+
+
+def compare_blocks(path):
+    """Works every row out again; a sine is measured, and the row's must be another library's."""
+    total, equal, largest, seen = 0, 0, Fraction(0), {op: set() for op in range(3)}
+    for given, answer, words in block_rows(path):
+        total += 1
+        seen[given[0]].add(answer[0])
+        again, samples, phases = block_answer(*given)
+        if given[1] == 0 and answer[0] == 0:
+            depth, theirs = float_of(given[5], True), [float_of(w, True) for w in words]
+            off = farthest(samples, theirs)
+            largest = max(largest, off)
+            fine = off <= Fraction(depth) / 10**6
+            fine = fine and farthest([math.sin(phase) * depth for phase in phases], theirs) <= 1e-15
+        else:
+            fine = words == tuple(bits_of(x, True) for x in samples)
+        equal += fine and again == answer
+        if not (fine and again == answer) and total - equal < 5:
+            print("blocks", [f"{w:x}" for w in given + answer], [f"{w:x}" for w in again])
+    told = f"largest difference of a sine {math.ceil(largest * 10**9)} billionths"
+    print(f"blocks: {total} rows, {equal} equal, {told}")
+    return equal == total > 0 and seen == {op: {0, 6, 9} for op in range(3)}
 
 
 # part: words, how many of them are given, what answers, and every op with the numbers that it must be seen with
@@ -401,9 +467,12 @@ def compare(name, path):
     return equal == total and seen == numbers
 
 
+# the parts that are measured
+OTHERS = {"sine": measure, "blocks": compare_blocks}
+
 if __name__ == "__main__":
     pairs = list(zip(sys.argv[1::2], sys.argv[2::2]))
-    if len(sys.argv) < 3 or len(sys.argv) % 2 == 0 or any(name not in [*PARTS, "sine"] for name, _ in pairs):
+    if len(sys.argv) < 3 or len(sys.argv) % 2 == 0 or any(name not in [*PARTS, *OTHERS] for name, _ in pairs):
         sys.exit("oracle/again.py PART FILE [PART FILE ..]")
-    fine = [measure(path) if name == "sine" else compare(name, path) for name, path in pairs]
+    fine = [OTHERS[name](path) if name in OTHERS else compare(name, path) for name, path in pairs]
     sys.exit(0 if all(fine) else 1)

@@ -18,6 +18,7 @@ pub const PART: Part = Part {
     name: "envelope",
     word: 8,
     words: 25,
+    more_at: None,
     number_at: Some(11),
     ops: &["note_on", "note_off", "reset", "process", "new"],
     edges,
@@ -37,7 +38,7 @@ const TINY: f64 = f64::from_bits(1);
 const FLOOR: f64 = 1e-6;
 
 const STAGES: [EnvelopeStage; 5] = [Idle, Attack, Decay, Sustain, Release];
-const RATES: [u64; 5] = [8000, 16384, 44100, 48000, 192000];
+pub const RATES: [u64; 5] = [8000, 16384, 44100, 48000, 192000];
 
 /// Attack, decay, sustain, release.
 type Settings = [f64; 4];
@@ -390,7 +391,7 @@ fn random_time(chance: &mut Chance) -> f64 {
     }
 }
 
-fn random_rate(chance: &mut Chance) -> u64 {
+pub fn random_rate(chance: &mut Chance) -> u64 {
     match chance.below(4) {
         0 => chance.between(8000, 192000) as u64,
         _ => chance.pick(&RATES),

@@ -10,6 +10,7 @@ pub use stand_ins::{block, context, parameter, random, sample};
 // The original's files as modules (math, phase, polyblep, ..), and `opened`: see modules.in.
 include!(concat!(env!("OUT_DIR"), "/modules.rs"));
 
+mod block_rows;
 mod chance;
 mod check;
 mod check_copies;
@@ -26,7 +27,7 @@ mod waveform_rows;
 use std::process::exit;
 
 /// One entry a part of the voice; a later part is a module and a line here.
-const PARTS: [rows::Part; 7] = [
+const PARTS: [rows::Part; 8] = [
     phase_rows::PART,
     polyblep_rows::PART,
     pitch_rows::PART,
@@ -34,6 +35,7 @@ const PARTS: [rows::Part; 7] = [
     envelope_rows::PART,
     waveform_rows::PART,
     voice_rows::PART,
+    block_rows::PART,
 ];
 
 const USAGE: &str = "\

@@ -12,6 +12,7 @@ pub const PART: Part = Part {
     name: "phase",
     word: 4,
     words: 9,
+    more_at: None,
     number_at: Some(5),
     ops: &["set_frequency", "set_increment", "increment", "next", "phase", "set_phase", "reset", "new"],
     edges,

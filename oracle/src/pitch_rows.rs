@@ -9,6 +9,7 @@ pub const PART: Part = Part {
     name: "pitch",
     word: 8,
     words: 4,
+    more_at: None,
     number_at: Some(1),
     ops: &["midi_note_to_frequency"],
     edges,

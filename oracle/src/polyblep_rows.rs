@@ -11,6 +11,7 @@ pub const PART: Part = Part {
     name: "polyblep",
     word: 8,
     words: 6,
+    more_at: None,
     number_at: Some(4),
     ops: &["poly_blep", "poly_blamp", "polyblep_saw", "polyblep_square", "polyblep_pulse", "polyblamp_triangle"],
     edges,

@@ -1,4 +1,4 @@
-//! Rows of fixed size, little-endian: what every part's rows share.
+//! Rows of words, little-endian: what every part's rows share.
 
 use std::collections::HashSet;
 use std::io::{self, Read, Write};
@@ -8,10 +8,11 @@ use crate::chance::Chance;
 /// A part's rows: their shape, and how they are made.
 pub struct Part {
     pub name: &'static str,
-    /// Bytes in a word (4 or 8), words in a row, and which word holds the answer's number, if any. The first word is
-    /// the op, unless there is only one.
+    /// Bytes in a word (4 or 8), words in a row, which word says how many more there are, if any, and which holds the
+    /// answer's number, if any. The first word is the op, unless there is only one.
     pub word: usize,
     pub words: usize,
+    pub more_at: Option<usize>,
     pub number_at: Option<usize>,
     pub ops: &'static [&'static str],
     /// The given words of every edge.
@@ -47,29 +48,40 @@ pub fn write(part: &Part, seed: u64, count: u64) {
 
 fn put(part: &Part, given: &[u64], out: &mut impl Write) {
     let answer = (part.answer)(given);
-    assert_eq!(given.len() + answer.len(), part.words);
+    let more = part.more_at.map_or(0, |at| given[at] as usize);
+    assert_eq!(given.len() + answer.len(), part.words + more);
     for word in given.iter().chain(&answer) {
         assert!(part.word == 8 || *word <= u32::MAX as u64);
         out.write_all(&word.to_le_bytes()[..part.word]).expect("standard output took not all");
     }
 }
 
-/// How many rows of standard input are done and refused, a line an op.
+/// How many rows standard input has, and how many of each op are done and refused, a line an op.
 pub fn tally(part: &Part) {
     let mut bytes = Vec::new();
     io::stdin().read_to_end(&mut bytes).expect("standard input gave not all");
-    let size = part.word * part.words;
-    assert!(bytes.len() % size == 0, "no whole number of rows of {size} bytes");
     let mut counts = vec![[0u64; 2]; part.ops.len()];
-    for row in bytes.chunks_exact(size) {
+    let (mut rows, mut rest) = (0, &bytes[..]);
+    while !rest.is_empty() {
+        let (row, after) = rest.split_at(size(part, rest));
         let refused = part.number_at.is_some_and(|at| word(part, row, at) != 0);
         let op = if part.ops.len() == 1 { 0 } else { word(part, row, 0) };
         counts[op as usize][refused as usize] += 1;
+        (rows, rest) = (rows + 1, after);
     }
-    println!("{} rows of {} bytes, {} bytes", bytes.len() / size, size, bytes.len());
+    println!("{rows} rows, {} bytes", bytes.len());
     for (op, [done, refused]) in part.ops.iter().zip(counts) {
         println!("{op}: {done} done, {refused} refused");
     }
+}
+
+/// Bytes in the first row of some.
+fn size(part: &Part, rows: &[u8]) -> usize {
+    let fixed = part.word * part.words;
+    let more = part.more_at.filter(|_| rows.len() >= fixed).map_or(0, |at| word(part, rows, at) as usize);
+    let size = fixed + part.word * more;
+    assert!(size <= rows.len(), "the last row is cut short");
+    size
 }
 
 fn word(part: &Part, row: &[u8], at: usize) -> u64 {

@@ -16,6 +16,7 @@ pub const PART: Part = Part {
     name: "sine",
     word: 8,
     words: 2,
+    more_at: None,
     number_at: None,
     ops: &["sine"],
     edges,

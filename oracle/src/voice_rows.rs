@@ -16,6 +16,7 @@ pub const PART: Part = Part {
     name: "voice",
     word: 4,
     words: 31,
+    more_at: None,
     number_at: Some(16),
     ops: &["note_on", "note_off", "reset", "is_active", "held_note_count", "new"],
     edges,

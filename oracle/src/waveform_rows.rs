@@ -17,6 +17,7 @@ pub const PART: Part = Part {
     name: "waveform",
     word: 8,
     words: 17,
+    more_at: None,
     number_at: Some(7),
     ops: &["fill", "block", "sample"],
     edges,
@@ -28,18 +29,19 @@ const FILL: u64 = 0;
 const BLOCK: u64 = 1;
 const SAMPLE: u64 = 2;
 
-const SQUARE: u64 = 1;
-const SAWTOOTH: u64 = 2;
-const TRIANGLE: u64 = 3;
-const PULSE: u64 = 4;
+pub const SINE: u64 = 0;
+pub const SQUARE: u64 = 1;
+pub const SAWTOOTH: u64 = 2;
+pub const TRIANGLE: u64 = 3;
+pub const PULSE: u64 = 4;
 const SHAPES: [u64; 4] = [SQUARE, SAWTOOTH, TRIANGLE, PULSE];
 
 const SLOTS: u64 = 8;
-const UNWRITTEN: f64 = 42.0;
-const TINY: f64 = f64::from_bits(1);
-const TAU: f64 = <f64 as Real>::TAU;
+pub const UNWRITTEN: f64 = 42.0;
+pub const TINY: f64 = f64::from_bits(1);
+pub const TAU: f64 = <f64 as Real>::TAU;
 const RATES: [f64; 5] = [8000.0, 16384.0, 44100.0, 48000.0, 192000.0];
-const FREQUENCIES: [f64; 8] = [0.0, TINY, f64::MIN_POSITIVE, 1e-3, 440.0, 12543.853_515_625, 20000.0, 19999.999];
+pub const FREQUENCIES: [f64; 8] = [0.0, TINY, f64::MIN_POSITIVE, 1e-3, 440.0, 12543.853_515_625, 20000.0, 19999.999];
 
 /// A row's given words; a duty stands only where Pulse reads it, a scale and a length only where a block has them.
 fn given(op: u64, shape: u64, duty: f64, phase: f64, step: f64, scale: f64, length: u64) -> Vec<u64> {
@@ -48,8 +50,9 @@ fn given(op: u64, shape: u64, duty: f64, phase: f64, step: f64, scale: f64, leng
     vec![op, shape, duty.to_bits(), phase.to_bits(), step.to_bits(), scale.to_bits(), length]
 }
 
-fn waveform(shape: u64) -> Waveform {
+pub fn waveform(shape: u64) -> Waveform {
     match shape {
+        SINE => Waveform::Sine,
         SQUARE => Waveform::Square,
         SAWTOOTH => Waveform::Sawtooth,
         TRIANGLE => Waveform::Triangle,
@@ -122,7 +125,7 @@ fn single(row: &[u64]) -> f64 {
 // The edges.
 
 /// Radians: whole and half cycles with the floats beside them, up to the last start phase.
-fn phases() -> Vec<f64> {
+pub fn phases() -> Vec<f64> {
     let mut list = vec![0.0, -0.0, TINY, f64::MIN_POSITIVE, two_to(-53), 1.0, 999.99, near(1000.0, -1)];
     for halves in [1.0, 2.0, 3.0, 318.0] {
         let at = halves * TAU / 2.0;
@@ -139,11 +142,11 @@ fn steps() -> Vec<f64> {
     list
 }
 
-fn duties() -> Vec<f64> {
+pub fn duties() -> Vec<f64> {
     vec![0.0, -0.0, TINY, 0.25, near(0.5, -1), 0.5, near(0.5, 1), near(1.0, -1), 1.0]
 }
 
-fn not_a_unit() -> Vec<f64> {
+pub fn not_a_unit() -> Vec<f64> {
     vec![-TINY, -1.0, near(1.0, 1), 2.0, f64::INFINITY, f64::NEG_INFINITY, f64::NAN, f64::from_bits(u64::MAX)]
 }
 
@@ -232,7 +235,7 @@ fn random_sample(shape: u64, duty: f64, chance: &mut Chance) -> Vec<u64> {
 }
 
 /// 0 up to 1,000; some near a corner of the shape, or within a step of one.
-fn random_phase(duty: f64, step: f64, chance: &mut Chance) -> f64 {
+pub fn random_phase(duty: f64, step: f64, chance: &mut Chance) -> f64 {
     let cycles = chance.below(159) as f64;
     let corner = (cycles + chance.pick(&[0.0, 0.5, 1.0, duty])) * TAU;
     match chance.below(8) {

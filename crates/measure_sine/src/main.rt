@@ -8,9 +8,6 @@ use libc::STDOUT_FILENO;
 // Farther off than a sine can be.
 const FAR: f64 = 4.0;
 
-// The largest number of billionths that is told.
-const MOST: u32 = 1000000;
-
 struct Tally {
     rows: u64,
     within: u64,
@@ -24,7 +21,7 @@ fn main() {
     io::write_all(STDOUT_FILENO, b" rows, ");
     io::print_decimal(STDOUT_FILENO, tally.within);
     io::write_all(STDOUT_FILENO, b" within 0.000001, largest difference ");
-    io::print_decimal(STDOUT_FILENO, billionths(tally.largest) as u64);
+    io::print_decimal(STDOUT_FILENO, nearness::billionths(tally.largest) as u64);
     io::write_all(STDOUT_FILENO, b" billionths\n");
 }
 
@@ -53,11 +50,7 @@ fn measure() -> Tally {
 
 fn counted(tally: Tally, difference: f64) -> Tally {
     let rows = tally::one_more(tally.rows);
-    let largest = if difference > tally.largest {
-        difference
-    } else {
-        tally.largest
-    };
+    let largest = nearness::larger(difference, tally.largest);
     if difference <= 0.000001 {
         return Tally {
             rows,
@@ -79,20 +72,5 @@ fn difference(row: &[u8]) -> f64 {
     if answers::in_numbers(answer).number > 0 {
         return FAR;
     }
-    if ours.value < theirs {
-        return theirs - ours.value;
-    }
-    ours.value - theirs
-}
-
-// The least number of billionths that is not below x, or MOST.
-fn billionths(x: f64) -> u32 {
-    let mut n = 0;
-    while n < MOST {
-        if n as f64 / 1000000000.0 >= x {
-            return n;
-        }
-        n += 1;
-    }
-    n
+    nearness::apart(ours.value, theirs)
 }
