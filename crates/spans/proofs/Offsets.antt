@@ -54,8 +54,8 @@ module _ (s : List ℕ) (i n : ℕ) where
 pub block-to-end : (n a k : ℕ) → a < k → k - a < 64 - (n + a) % 64 → BlockEnd n a k k
 block-to-end n a k h l = record { after = h; within = omega arith; ends = λ x. eq-eqb ((n + k) % 64) 0 (omega arith); apart = λ m x y. ne-eqb ((n + m) % 64) 0 (λ e. omega arith) }
 
-pub block-to-next : (n a k : ℕ) → 64 - (n + a) % 64 ≤ k - a → BlockEnd n a k (a + (64 - (n + a) % 64))
-block-to-next n a k l = record { after = omega arith; within = omega arith; ends = λ x. eq-eqb ((n + (a + (64 - (n + a) % 64))) % 64) 0 (omega arith); apart = λ m x y. ne-eqb ((n + m) % 64) 0 (λ e. omega arith) }
+pub block-to-next : (n a k t : ℕ) → t ≡ (n + a) % 64 → 64 - t ≤ k - a → BlockEnd n a k (a + (64 - t))
+block-to-next n a k t q l = record { after = omega arith; within = omega arith; ends = λ x. eq-eqb ((n + (a + (64 - t))) % 64) 0 (omega arith); apart = λ m x y. ne-eqb ((n + m) % 64) 0 (λ e. omega arith) }
 
 module _ (s : List ℕ) (i n a k e : ℕ) (b : BlockEnd n a k e) where
   begins-not : (m : ℕ) → a < m → m < e → standsAt s i (n + m) ≡ false → beginsAt s i (n + m) ≡ false

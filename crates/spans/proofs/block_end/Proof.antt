@@ -22,7 +22,7 @@ add-result : tie.Need-add-result
 add-result c = search needs
 
 returns-2 : tie.Need-returns-2
-returns-2 c = rw (c .before .into-block .ensures) (block-to-next _ _ _ (rw (← c .before .into-block .ensures) (c .if1 .left)))
+returns-2 c = block-to-next _ _ _ _ (c .before .into-block .ensures) (c .if1 .left)
 
 pub block-end-spec : {M : Type 1} → statement M
 block-end-spec =
