@@ -38,8 +38,14 @@ module _ (g : Settings) (s : List ℕ) (m : ℕ) (p : Place) (out₀ : List Floa
   unfolding placeFrom playedFrom keptFrom
   walk-first =
       record {
-        len = refl; lens = refl; from = omega arith; within = omega arith; past = omega arith;
-        at-mark = λ l. refl; most = omega arith; least = omega arith;
+        len = refl;
+        lens = refl;
+        from = omega arith;
+        within = omega arith;
+        past = omega arith;
+        at-mark = λ l. refl;
+        most = omega arith;
+        least = omega arith;
         place-is = rw (sub-self (m * mark)) refl;
         heard = rw (sub-self (m * mark), append-nil (take (m * mark) out₀)) refl;
         stored = rw (sub-self m, append-nil (take (m * entryWords) shelf₀)) refl;

@@ -1,0 +1,122 @@
+// The arranger's render, every sample from sample zero, and the stage player's, part by part from the state in the air.
+// Both are the samples that the score's records give, counted from sample zero; the end of a part reduces nothing.
+ghost use mathlib.Core.Path.{_≡_};
+ghost use Rattle.answers.specs.declared.Answer.the-variants.{Done};
+ghost use Rattle.answers.specs.declared.Refusal.the-variants.{GivenState};
+ghost use Rattle.render.specs.Order.{unless, judgedOf, isRoom};
+ghost use Rattle.render.specs.Calls.{leaves, renderOf, leavesPart, isStretch, isGiven, continueOf};
+use answers::Answer;
+use answers::Refusal;
+use score::Verdict;
+use spans::Place;
+use state::Settings;
+use state::State;
+
+// The most samples of an output.
+const MOST: u64 = 16_777_216;
+
+// What a call says, and the state before the sample after its last.
+pub struct Rendered {
+    pub answer: Answer,
+    pub state: State,
+}
+
+// Every sample of the output and every entry of the shelf, from the fresh state at sample zero.
+pub fn render(settings: Settings, score: &[u8], out: &mut [f64], shelf: &mut [u64]) -> Rendered
+    ensures { λ r. ⌜ leaves r (now (out .exit)) (now (shelf .exit)) ≡ renderOf settings (now (score .entry)) (now (out .entry)) (now (shelf .entry)) ⌝ }
+{
+    let room = is_room(out.len(), shelf.len());
+    let answer = judged(settings, room, score, Answer::Done(out.len()));
+    match answer {
+        Answer::Refused(why) => Rendered {
+            answer: Answer::Refused(why),
+            state: state::fresh(),
+        },
+        Answer::Done(n) => {
+            let start = Place {
+                state: state::fresh(),
+                next: 0,
+            };
+            let end = sections::play_on(settings, score, 0, start, out, shelf);
+            let state = end.state;
+            Rendered {
+                answer: Answer::Done(n),
+                state,
+            }
+        }
+    }
+}
+
+// The next part of the output, from a given state before the sample at its position is begun.
+pub fn continue_render(
+    settings: Settings,
+    score: &[u8],
+    state: State,
+    position: u64,
+    part: &mut [f64],
+) -> Rendered
+    ensures { λ r. ⌜ leavesPart r (now (part .exit)) ≡ continueOf settings (now (score .entry)) state position (now (part .entry)) ⌝ }
+{
+    let stretch = is_stretch(position, part.len());
+    let rest = given(score, state, position, part.len());
+    let answer = judged(settings, stretch, score, rest);
+    match answer {
+        Answer::Refused(why) => Rendered {
+            answer: Answer::Refused(why),
+            state,
+        },
+        Answer::Done(n) => {
+            let next = score::count_below(score, position);
+            let end = spans::play(settings, score, Place { state, next }, position, part);
+            let after = end.state;
+            Rendered {
+                answer: Answer::Done(n),
+                state: after,
+            }
+        }
+    }
+}
+
+// 6, 7, the old or only score, and then the answer that follows.
+pub fn judged(settings: Settings, room: bool, score: &[u8], rest: Answer) -> Answer
+    ensures { λ r. ⌜ r ≡ judgedOf settings room (now (score .entry)) rest ⌝ }
+{
+    if !state::is_settings(settings) {
+        return Answer::Refused(Refusal::Setting);
+    }
+    if !room {
+        return Answer::Refused(Refusal::Size);
+    }
+    match score::judge(score) {
+        Verdict::Accepted(_) => rest,
+        Verdict::Faulty(fault) => Answer::Refused(Refusal::Score(fault)),
+    }
+}
+
+// Whether an output and its shelf have sizes that go together.
+pub fn is_room(samples: usize, words: usize) -> bool
+    ensures { λ r. ⌜ r ≡ isRoom samples words ⌝ }
+{
+    (samples as u64 <= MOST) & (words == shelf::words_for(samples))
+}
+
+// Whether so many samples from a position on end in time.
+fn is_stretch(position: u64, samples: usize) -> bool
+    ensures { λ r. ⌜ r ≡ isStretch position samples ⌝ }
+{
+    if position > MOST {
+        return false;
+    }
+    samples as u64 <= MOST - position
+}
+
+// 10, or done with so many samples.
+fn given(score: &[u8], state: State, position: u64, samples: usize) -> Answer
+    ensures { λ r. ⌜ r ≡ unless (isGiven (now (score .entry)) position state) GivenState (Done samples) ⌝ }
+{
+    let acted = state.acted;
+    if state::is_state(state) & (acted == score::count_below(score, position) as u64) {
+        return Answer::Done(samples);
+    }
+    Answer::Refused(Refusal::GivenState)
+}
