@@ -1,0 +1,126 @@
+-- The plan, its run and the call, case by case. Assumes nothing.
+use mathlib.Core.Path.{_≡_, refl, sym, ap, _∙_}
+use mathlib.Core.Bool.{Bool, true, false, cond}
+use mathlib.Core.List.{List, _++_}
+use Prim.Native.Nat.{ℕ, _-_, _*_, _/_, _≤_, _<_}
+use native.Mathlib.Omega.{arith}
+use lib.Dec.{ltb}
+use lib.ListN.{length, take}
+use lib.Ieee.{Float}
+use borrow.Author.Tests.{lt-ltb, le-ltb, ltb-true}
+use Rattle.answers.specs.declared.Answer.{Answer}
+use Rattle.answers.specs.declared.Answer.the-variants.{Done, Refused}
+use Rattle.answers.specs.declared.Refusal.{Refusal}
+use Rattle.answers.specs.declared.Refusal.the-variants.{NewScore, StartEntry}
+use Rattle.score.specs.declared.Difference.{Difference}
+use Rattle.score.specs.declared.Difference.the-variants.{Equal, At}
+use Rattle.score.specs.declared.Verdict.{Verdict}
+use Rattle.score.specs.declared.Verdict.the-variants.{Accepted, Faulty}
+use Rattle.score.specs.Score.{verdictOf}
+use Rattle.score.specs.Below.{countBelow, Sorted}
+use Rattle.score.specs.Apart.{differenceOf}
+use Rattle.score.proofs.Cuts.{accepted-sorted, count-cut}
+use Rattle.shelf.specs.Shelf.{mark, entriesFor, wordsFor}
+use Rattle.shelf.proofs.Count.{start-there}
+use Rattle.state.specs.declared.Settings.{Settings}
+use Rattle.state.specs.Settings.{settingsOk}
+use Rattle.state.specs.Heart.{samplesFrom, entriesFrom}
+use Rattle.spans.specs.declared.Place.{Place}
+use Rattle.spans.specs.Walk.{placeOf}
+use Rattle.sections.specs.Sections as sections
+use Rattle.sections.specs.Sections.{playOnOf}
+use Rattle.sections.proofs.Agrees.{Made, made}
+use Rattle.render.specs.Order.{judgedOf, isRoom}
+use Rattle.render.proofs.Judging.{Passed, all-passed, Roomy, roomy}
+use Rattle.rerender.specs.declared.Plan.{Plan}
+use Rattle.rerender.specs.declared.Plan.the-variants.{Nothing, From}
+use Rattle.rerender.specs.Rerender.{leaves, newScored, checkedOf, planFor, planOf, startOf, isStart, madeFrom, fromOf, runOf, rerenderOf}
+
+clash : _≡_ {A = ℕ} 0 1 → ⊥
+clash h = omega arith
+
+-- ---- the plan
+module _ (old new : List ℕ) (n : ℕ) where
+  pub plan-equal : differenceOf old new ≡ Equal → Nothing ≡ planOf old new n
+  unfolding planFor
+  plan-equal e = rw e refl
+
+  pub plan-late : (p : ℕ) → differenceOf old new ≡ At p → n ≤ p → Nothing ≡ planOf old new n
+  unfolding planFor
+  plan-late p e h = rw (e, le-ltb p n h) refl
+
+  pub plan-from : (p : ℕ) → differenceOf old new ≡ At p → p < n → From (p / mark) ≡ planOf old new n
+  unfolding planFor
+  plan-from p e h = rw (e, lt-ltb p n h) refl
+
+-- the mark of a plan lies below the end, and at or before the first difference
+pub record Planned (old new : List ℕ) (n m : ℕ) : Type 0 where
+  pub change : ℕ
+  pub differs : differenceOf old new ≡ At change
+  pub heard : change < n
+  pub mark-is : m ≡ change / mark
+
+from-inj : {n m : ℕ} → From n ≡ From m → n ≡ m
+from-inj e = cc
+
+pub plan-says : (old new : List ℕ) (n m : ℕ) → planOf old new n ≡ From m → Planned old new n m
+unfolding planFor
+plan-says old new n m h = go (differenceOf old new) refl h
+  where
+    go : (d : Difference) → differenceOf old new ≡ d → planFor d n ≡ From m → Planned old new n m
+    go Equal e h = absurd (clash (cc))
+    go (At p) e h = at (ltb p n) refl h
+      where
+        at : (t : Bool) → ltb p n ≡ t → cond t (From (p / mark)) Nothing ≡ From m → Planned old new n m
+        at true q h = record { change = p; differs = e; heard = ltb-true p n q; mark-is = sym (from-inj h) }
+        at false q h = absurd (clash (cc))
+
+pub plan-there : (old new : List ℕ) (n m : ℕ) → planOf old new n ≡ From m → m < entriesFor n
+plan-there old new n m h = let p : Planned old new n m = plan-says old new n m h in rw (p .mark-is) (start-there n (p .change) (p .heard))
+
+-- ---- the run
+module _ (g : Settings) (new : List ℕ) (m : ℕ) (out : List Float) (shelf : List ℕ) where
+  pub from-refused : isStart new m shelf ≡ false → leaves (Refused StartEntry) out shelf ≡ fromOf g new m out shelf
+  unfolding fromOf
+  from-refused e = rw e refl
+
+  pub from-made : Sorted new → length shelf ≡ wordsFor (length out) → isStart new m shelf ≡ true
+      → (p : Place) (ys : List Float) (ws : List ℕ) → sections.leaves p ys ws ≡ playOnOf g new m (placeOf (startOf shelf m) (countBelow new (m * mark))) out shelf
+      → leaves (Done (length out - m * mark)) ys ws ≡ fromOf g new m out shelf
+  unfolding fromOf
+  from-made o f e p ys ws x =
+      let d = made g new o m (countBelow new (m * mark)) (startOf shelf m) (count-cut new o (m * mark)) out shelf f in
+      rw (e, ← d .heard-is, ← d .stored-is, ← x) refl
+
+-- ---- the call
+pub newly-refused : (new : List ℕ) (v : Verdict) → verdictOf new ≡ v → newScored v (Done 0) ≡ newScored (verdictOf new) (Done 0)
+newly-refused new v e = rw e refl
+
+-- what the checks let through
+pub record Checked (g : Settings) (old new : List ℕ) (n words : ℕ) : Type 0 where
+  pub settings : settingsOk g ≡ true
+  pub room : Roomy n words
+  pub old-records : ℕ
+  pub old-accepted : verdictOf old ≡ Accepted old-records
+  pub new-records : ℕ
+  pub new-accepted : verdictOf new ≡ Accepted new-records
+
+pub all-checked : (g : Settings) (old new : List ℕ) (n words k : ℕ) → checkedOf g old new n words ≡ Done k → Checked g old new n words
+all-checked g old new n words k h =
+    let rest = newScored (verdictOf new) (Done 0) in
+    let p : Passed g (isRoom n words) old rest k = all-passed g (isRoom n words) old rest k h in
+    go p (verdictOf new) refl (p .score .follows)
+  where
+    go : Passed g (isRoom n words) old (newScored (verdictOf new) (Done 0)) k → (v : Verdict) → verdictOf new ≡ v → newScored v (Done 0) ≡ Done k → Checked g old new n words
+    go p (Accepted m) e h =
+        record { settings = p .settings; room = roomy n words (p .sized); old-records = p .score .records; old-accepted = p .score .accepted; new-records = m; new-accepted = e }
+    go p (Faulty f) e h = absurd (clash (cc))
+
+module _ (g : Settings) (old new : List ℕ) (out : List Float) (shelf : List ℕ) where
+  pub checks-refuse : (why : Refusal) → checkedOf g old new (length out) (length shelf) ≡ Refused why → leaves (Refused why) out shelf ≡ rerenderOf g old new out shelf
+  unfolding rerenderOf
+  checks-refuse why e = rw e refl
+
+  pub checks-pass : (k : ℕ) → checkedOf g old new (length out) (length shelf) ≡ Done k → (plan : Plan) → planOf old new (length out) ≡ plan → runOf g new plan out shelf ≡ rerenderOf g old new out shelf
+  unfolding rerenderOf
+  checks-pass k e plan q = rw (e, q) refl

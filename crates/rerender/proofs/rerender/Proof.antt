@@ -1,0 +1,85 @@
+-- `rerender::rerender` meets its contract. Assumes nothing.
+use mathlib.Core.Path.{_≡_, refl, sym, _∙_}
+use Rattle.score.proofs.Cuts.{accepted-sorted}
+use Rattle.rerender.proofs.Cases.{plan-there, all-checked, checks-refuse, checks-pass}
+use borrow.Author.Needs.{needs}
+use Rattle.rerender.proofs.rerender.Statement.{statement}
+use Rattle.rerender.proofs.rerender.Tie as tie
+
+is-room-requires : tie.Need-is-room-requires
+is-room-requires c κs = search needs
+
+new-scored-requires : tie.Need-new-scored-requires
+new-scored-requires c κs = search needs
+
+judged-requires : tie.Need-judged-requires
+judged-requires c κs = search needs
+
+enum-known-checked : tie.Need-enum-known-checked
+enum-known-checked c = search needs
+
+returns : tie.Need-returns
+returns c =
+    let x = c .before .before .before in
+    checks-refuse _ _ _ _ _ _ (sym (rw (x .before .new-scored .ensures, x .before .before .is-room .ensures) at (x .judged .ensures)) ∙ c .before .checked .given .1)
+
+enum-told : tie.Need-enum-told
+enum-told c = search needs
+
+planned-requires : tie.Need-planned-requires
+planned-requires c κs = search needs
+
+enum-told-2 : tie.Need-enum-told-2
+enum-told-2 c = search needs
+
+enum-known-plan : tie.Need-enum-known-plan
+enum-known-plan c = search needs
+
+run-from-requires : tie.Need-run-from-requires
+run-from-requires c κs =
+    let made = c .before .before .before .before .before in
+    let told = made .before in
+    let x = told .before .before in
+    let k = all-checked _ _ _ _ _ _ (sym (rw (x .before .new-scored .ensures, x .before .before .is-room .ensures) at (x .judged .ensures)) ∙ told .enum-told .given .1) in
+    (accepted-sorted _ _ (k .new-accepted), (k .room .fits, plan-there _ _ _ _ (sym (made .planned .ensures) ∙ c .before .before .before .plan .given .1)))
+
+returns-2 : tie.Need-returns-2
+returns-2 c =
+    let made = c .before .before in
+    let told = made .before in
+    let x = told .before .before in
+    checks-pass _ _ _ _ _ _ (sym (rw (x .before .new-scored .ensures, x .before .before .is-room .ensures) at (x .judged .ensures)) ∙ told .enum-told .given .1) _ (sym (made .planned .ensures) ∙ c .enum-told2 .given .1)
+
+same-length : tie.Need-same-length
+same-length c = search needs
+
+same-length-2 : tie.Need-same-length-2
+same-length-2 c = search needs
+
+returns-3 : tie.Need-returns-3
+returns-3 c =
+    let run = c .before .before .before .before in
+    let made = run .before .before .before .before .before .before in
+    let told = made .before in
+    let x = told .before .before in
+    run .run-from .ensures
+    ∙ checks-pass _ _ _ _ _ _ (sym (rw (x .before .new-scored .ensures, x .before .before .is-room .ensures) at (x .judged .ensures)) ∙ told .enum-told .given .1) _ (sym (made .planned .ensures) ∙ run .before .before .before .before .plan .given .1)
+
+pub rerender-spec : {M : Type 1} → statement M
+rerender-spec =
+    tie.close
+    (tie.spec
+    is-room-requires
+    new-scored-requires
+    judged-requires
+    enum-known-checked
+    returns
+    enum-told
+    planned-requires
+    enum-told-2
+    enum-known-plan
+    run-from-requires
+    returns-2
+    same-length
+    same-length-2
+    returns-3)

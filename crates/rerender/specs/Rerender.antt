@@ -1,0 +1,93 @@
+-- A re-render. 01, "The shelf": "A re-render takes both scores. P is the lower position of the two at the first index where they differ, or of the one that remains where the other has ended. It starts at entry
+-- floor(P/4096). Equal scores, or P at or above N, write nothing and count 0"; "8 | start entry is no state, or its records acted differ from the new score's records below its position"; "Order: 6, 7, the old or only
+-- score, the new score (same numbers plus 16), then 8"; "Where count is 0 for equal scores or a late P, no entry is read and 8 is not given". Demand 3: "The count is the samples from the mark to the end".
+-- It is decided for every start entry that is a state, a doctored one too: what is made are the steps from it. First the checks, then a plan, then its run. Definitions only.
+use mathlib.Core.Bool.{Bool, true, false, cond, _&&_}
+use mathlib.Core.List.{List, _++_}
+use Prim.Native.Nat.{ℕ, _-_, _*_, _/_}
+use lib.Dec.{ltb, eqb}
+use lib.ListN.{length, take, drop}
+use lib.Ieee.{Float}
+use Rattle.answers.specs.declared.Answer.{Answer}
+use Rattle.answers.specs.declared.Answer.the-variants.{Done, Refused}
+use Rattle.answers.specs.declared.Refusal.the-variants.{NewScore, StartEntry}
+use Rattle.score.specs.declared.Difference.{Difference}
+use Rattle.score.specs.declared.Difference.the-variants.{Equal, At}
+use Rattle.score.specs.declared.Verdict.{Verdict}
+use Rattle.score.specs.declared.Verdict.the-variants.{Accepted, Faulty}
+use Rattle.score.specs.Score.{verdictOf}
+use Rattle.score.specs.Below.{countBelow}
+use Rattle.score.specs.Apart.{differenceOf}
+use Rattle.shelf.specs.Shelf.{mark, entryWords, entriesFor, stateOf, isEntry, shelfOf}
+use Rattle.state.specs.declared.Settings.{Settings}
+use Rattle.state.specs.declared.State.{State}
+use Rattle.state.specs.Heart.{samplesFrom, entriesFrom}
+use Rattle.render.specs.Order.{judgedOf, isRoom}
+use Rattle.rerender.specs.declared.Plan.{Plan}
+use Rattle.rerender.specs.declared.Plan.the-variants.{Nothing, From}
+
+-- what it leaves: the answer, the output, the shelf
+pub record Outcome : Type 0 where
+  pub answer : Answer
+  pub heard : List Float
+  pub stored : List ℕ
+
+abbrev pub leaves : Answer → List Float → List ℕ → Outcome
+leaves answer out shelf = record { answer = answer; heard = out; stored = shelf }
+
+-- ---- the checks: 6, 7, the old score, the new one
+abbrev pub newScored : Verdict → Answer → Answer
+newScored (Accepted n) rest = rest
+newScored (Faulty fault) rest = Refused (NewScore fault)
+
+abbrev pub checkedOf : Settings → List ℕ → List ℕ → ℕ → ℕ → Answer
+checkedOf g old new n words = judgedOf g (isRoom n words) old (newScored (verdictOf new) (Done 0))
+
+-- ---- the plan: nothing, or from a mark on
+unfoldable pub planFor : Difference → ℕ → Plan
+planFor Equal n = Nothing
+planFor (At p) n = cond (ltb p n) (From (p / mark)) Nothing
+
+abbrev pub planOf : List ℕ → List ℕ → ℕ → Plan
+planOf old new n = planFor (differenceOf old new) n
+
+-- ---- the run
+-- the words of entry m, and the state that they are read as
+abbrev pub entryAt : List ℕ → ℕ → List ℕ
+entryAt shelf m = take entryWords (drop (m * entryWords) shelf)
+
+abbrev pub startOf : List ℕ → ℕ → State
+startOf shelf m = stateOf (entryAt shelf m)
+
+-- it is a state, with as many records acted as the new score has below its position
+abbrev pub isStart : List ℕ → ℕ → List ℕ → Bool
+isStart new m shelf = isEntry (entryAt shelf m) && eqb (startOf shelf m .acted) (countBelow new (m * mark))
+
+-- where the samples end: with the output
+abbrev pub endOf : ℕ → ℕ
+endOf n = n
+
+-- what lies before the mark stays as it came
+abbrev pub madeFrom : Settings → List ℕ → ℕ → List Float → List ℕ → Outcome
+madeFrom g new m out shelf =
+    let n = length out in
+    let v = startOf shelf m in
+    leaves
+    (Done (endOf n - m * mark))
+    (take (m * mark) out ++ samplesFrom g new (m * mark) v (endOf n - m * mark))
+    (take (m * entryWords) shelf ++ shelfOf (entriesFrom g new m v (entriesFor (endOf n) - m)))
+
+unfoldable pub fromOf : Settings → List ℕ → ℕ → List Float → List ℕ → Outcome
+fromOf g new m out shelf = cond (isStart new m shelf) (madeFrom g new m out shelf) (leaves (Refused StartEntry) out shelf)
+
+abbrev pub runOf : Settings → List ℕ → Plan → List Float → List ℕ → Outcome
+runOf g new Nothing out shelf = leaves (Done 0) out shelf
+runOf g new (From m) out shelf = fromOf g new m out shelf
+
+-- ---- the call
+abbrev pub afterChecks : Answer → Settings → List ℕ → Plan → List Float → List ℕ → Outcome
+afterChecks (Done n) g new plan out shelf = runOf g new plan out shelf
+afterChecks (Refused why) g new plan out shelf = leaves (Refused why) out shelf
+
+unfoldable pub rerenderOf : Settings → List ℕ → List ℕ → List Float → List ℕ → Outcome
+rerenderOf g old new out shelf = afterChecks (checkedOf g old new (length out) (length shelf)) g new (planOf old new (length out)) out shelf

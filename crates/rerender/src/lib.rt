@@ -1,0 +1,98 @@
+// The re-render: each edit of a score carries on from what the score says, not from the air. The checks, then a plan, which
+// is the last mark at or before the first changed record, and then its run, from the state that the shelf keeps there.
+ghost use mathlib.Core.Path.{_≡_};
+ghost use Prim.Native.Nat.{_<_};
+ghost use lib.ListN.{length};
+ghost use Rattle.answers.specs.declared.Answer.the-variants.{Done};
+ghost use Rattle.score.specs.Below.{Sorted};
+ghost use Rattle.score.specs.Score.{verdictOf};
+ghost use Rattle.shelf.specs.Shelf.{entriesFor, wordsFor};
+ghost use Rattle.rerender.specs.Rerender.{leaves, newScored, planOf, fromOf, rerenderOf};
+use answers::Answer;
+use answers::Refusal;
+use score::Difference;
+use score::Verdict;
+use shelf::ENTRY_WORDS;
+use shelf::MARK;
+use spans::Place;
+use state::Settings;
+
+// Where a re-render starts: nowhere, where nothing that is heard has changed, or at a mark.
+pub enum Plan {
+    Nothing,
+    From(usize),
+}
+
+// The samples and entries from the last mark at or before the first changed record on, as the new score gives them.
+pub fn rerender(
+    settings: Settings,
+    old: &[u8],
+    new: &[u8],
+    out: &mut [f64],
+    shelf: &mut [u64],
+) -> Answer
+    ensures { λ r. ⌜ leaves r (now (out .exit)) (now (shelf .exit)) ≡ rerenderOf settings (now (old .entry)) (now (new .entry)) (now (out .entry)) (now (shelf .entry)) ⌝ }
+{
+    let room = render::is_room(out.len(), shelf.len());
+    let checked = render::judged(settings, room, old, new_scored(new));
+    if let Answer::Refused(why) = checked {
+        return Answer::Refused(why);
+    }
+    let plan = planned(old, new, out.len());
+    match plan {
+        Plan::Nothing => Answer::Done(0),
+        Plan::From(mark) => run_from(settings, new, mark, out, shelf),
+    }
+}
+
+// The plan for two scores and an output of so many samples.
+pub fn planned(old: &[u8], new: &[u8], samples: usize) -> Plan
+    ensures { λ r. ⌜ r ≡ planOf (now (old .entry)) (now (new .entry)) samples ⌝ }
+{
+    match score::first_difference(old, new) {
+        Difference::Equal => Plan::Nothing,
+        Difference::At(position) => {
+            let p = position as usize;
+            if p < samples {
+                return Plan::From(p / MARK);
+            }
+            Plan::Nothing
+        }
+    }
+}
+
+// The new score's fault, or done.
+fn new_scored(new: &[u8]) -> Answer
+    ensures { λ r. ⌜ r ≡ newScored (verdictOf (now (new .entry))) (Done 0) ⌝ }
+{
+    match score::judge(new) {
+        Verdict::Accepted(_) => Answer::Done(0),
+        Verdict::Faulty(fault) => Answer::Refused(Refusal::NewScore(fault)),
+    }
+}
+
+// From the state that the shelf keeps at a mark, or 8.
+fn run_from(
+    settings: Settings,
+    new: &[u8],
+    mark: usize,
+    out: &mut [f64],
+    shelf: &mut [u64],
+) -> Answer
+    requires { ⌜ Sorted (now new) ⌝ }
+    requires { ⌜ length (now shelf) ≡ wordsFor (length (now out)) ⌝ }
+    requires { ⌜ mark < entriesFor (length (now out)) ⌝ }
+    ensures { λ r. ⌜ leaves r (now (out .exit)) (now (shelf .exit)) ≡ fromOf settings (now (new .entry)) mark (now (out .entry)) (now (shelf .entry)) ⌝ }
+{
+    let word = mark * ENTRY_WORDS;
+    let start = mark * MARK;
+    let count = out.len() - start;
+    let entry = shelf::decode(&shelf[word..word + ENTRY_WORDS]);
+    let state = entry.state;
+    let next = score::count_below(new, start as u64);
+    if !(entry.holds & (state.acted == next as u64)) {
+        return Answer::Refused(Refusal::StartEntry);
+    }
+    sections::play_on(settings, new, mark, Place { state, next }, out, shelf);
+    Answer::Done(count)
+}
