@@ -35,11 +35,8 @@ module _ (ws : List ℕ) (h : isEntry ws ≡ true) where
   pub entry-has-stage : word ws 1 ≤ 4
   entry-has-stage = leb→le (word ws 1) 4 (and-r long staged (and-l (long && staged) (isState (stateOf ws)) passed))
 
-  within-limits : T (isState (stateOf ws))
-  within-limits = and-r (long && staged) (isState (stateOf ws)) passed
-
   pub entry-is-state : isState (stateOf ws) ≡ true
-  entry-is-state = is-true (isState (stateOf ws)) within-limits
+  entry-is-state = is-true (isState (stateOf ws)) (and-r (long && staged) (isState (stateOf ws)) passed)
 
 -- what words are read as has values of its types
 pub read-fits : (ws : List ℕ) → Fitting (stateOf ws)
@@ -102,7 +99,7 @@ module _ (p a b c d : ℕ) where
 pub decode-encode : (ws : List ℕ) → ((i : ℕ) → word ws i < beyond) → isEntry ws ≡ true → entryOf (stateOf ws) ≡ ws
 unfolding entryOf stateOf
 decode-encode ws l h =
-    let n = all-numbers (stateOf ws) (within-limits ws h) in
+    let n = all-numbers (stateOf ws) (entry-is-state ws h) in
     let p = word ws 5 in
     let a = word ws 8 in
     let b = word ws 9 in

@@ -5,7 +5,7 @@ pub mod Count
 pub mod Digits
 -- two outcomes of a public function are equal
 pub mod Unique
--- what the limits of a state say, part by part
+-- no float of a state is a NaN, and its notes and velocities are bytes
 pub mod Parts
 -- a state's words are read as that state
 pub mod There

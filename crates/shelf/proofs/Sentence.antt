@@ -1,6 +1,6 @@
 -- 01's sentence, word by word, is what the test of an entry says: "An entry is a state if phase is at least 0 and below 1,000, stage_time 0 to 11, levels and velocity 0 to 1, frequency above 0 and at most 12,544, active
 -- note 0 to 127 or 255, gate 1 exactly when it is not 255, held count at most 16, pairs in range, and the rest of these words zero." Of the packed word it assumes that it is below 2^64, as a u64 is. Assumes nothing else.
-use mathlib.Core.Path.{_≡_, refl, sym, subst}
+use mathlib.Core.Path.{_≡_, refl}
 use mathlib.Core.Bool.{Bool, true, false, cond, _&&_}
 use mathlib.Core.List.{List}
 use mathlib.Core.Logic.{_⊎_, inl, inr, ⊎-elim}
@@ -19,9 +19,10 @@ use Rattle.voice.specs.declared.keys.ActiveNote.the-variants.{Silent, Note}
 use Rattle.voice.specs.Keys.{isFilled, isSound, isKeys}
 use Rattle.voice.proofs.Limits.{keys-sound, keys-few}
 use Rattle.state.specs.Limits.{isTurn, isPitch, isState}
+use Rattle.state.proofs.Limits.{from-true, in-kept, kept-in, state-in, in-state}
 use Rattle.shelf.specs.Shelf.{entryWords, word, float, activeOf, notesOf, velocitiesOf, keysIn, stateOf, isEntry}
 use Rattle.shelf.proofs.Digits.{beyond}
-use Rattle.shelf.proofs.Parts.{is-within, within-is, keys-notes, keys-velocities, keys-are}
+use Rattle.shelf.proofs.Parts.{keys-notes, keys-velocities, keys-are}
 use Rattle.shelf.proofs.Back.{entry-is-long, entry-has-stage, entry-is-state}
 
 -- the active byte b and the gate's bit g
@@ -74,13 +75,12 @@ sounding-is b g s = go (eqb b 255) refl
 pub entry-says : (ws : List ℕ) → isEntry ws ≡ true → Sentence ws
 unfolding stateOf
 entry-says ws h =
-    let t : T (isState (stateOf ws)) = subst T (sym (entry-is-state ws h)) tt in
-    let w = is-within (stateOf ws) t in
+    let w = in-kept (stateOf ws) (state-in (stateOf ws) (entry-is-state ws h)) in
     let i = is-inside (stateOf ws .envelope) (w .envelope-in) in
     let k = stateOf ws .keys in
     record {
       twelve-words = entry-is-long ws h;
-      phase-in = w .turn-in;
+      phase-in = w .phase-in;
       stage-in = entry-has-stage ws h;
       level-in = i .level-in;
       time-in = i .time-in;
@@ -99,16 +99,16 @@ says-entry ws l s =
     let p = word ws 5 in
     let k = keysIn p (word ws 8) (word ws 9) (word ws 10) (word ws 11) in
     let keys : T (isKeys k) = keys-are k (sounding-is (p % 256) (p / 256 % 2) (s .sounding)) (s .held-in) (s .notes-in) (s .velocities-in) in
-    let state : T (isState (stateOf ws)) =
-    within-is (stateOf ws)
+    let limits =
+    kept-in (stateOf ws)
     (record {
-      turn-in = s .phase-in;
+      phase-in = s .phase-in;
       envelope-in = accepted (stateOf ws .envelope) (record { level-in = s .level-in; release-in = s .release-in; time-in = s .time-in });
       pitch-in = s .frequency-in;
       velocity-in = s .velocity-in;
       keys-in = keys;
-      acted-in = omega arith;
     }) in
+    let state = from-true (isState (stateOf ws)) (in-state (stateOf ws) limits (omega arith)) in
     is-true (isEntry ws)
     (and-i (eqb (length ws) entryWords && leb (word ws 1) 4) (isState (stateOf ws))
     (and-i (eqb (length ws) entryWords) (leb (word ws 1) 4) (rw (s .twelve-words) tt) (le→leb (word ws 1) 4 (s .stage-in))) state)

@@ -1,5 +1,5 @@
 -- A state's words are read as that state, and are an entry. Of the state it assumes that it is within its limits and that it has values of its types (`Fitting`), which every state of a program has. Assumes nothing else.
-use mathlib.Core.Path.{_≡_, refl, sym, subst, _∙_}
+use mathlib.Core.Path.{_≡_, refl, _∙_}
 use mathlib.Core.Bool.{Bool, true, false}
 use mathlib.Core.List.{List, [], _∷_}
 use Prim.Native.Nat.{ℕ, _+_, _/_, _%_, _≤_, _<_}
@@ -20,9 +20,10 @@ use Rattle.voice.specs.declared.keys.Keys.{Keys}
 use Rattle.voice.proofs.Limits.{keys-sound, keys-few}
 use Rattle.state.specs.declared.State.{State}
 use Rattle.state.specs.Limits.{isState}
+use Rattle.state.proofs.Limits.{in-kept, state-in, state-few}
 use Rattle.shelf.specs.Shelf.{entryWords, stageWord, activeByte, gateBit, packedWord, fourPairs, entryOf, stageOf, activeOf, notesThen, velocitiesThen, notesOf, velocitiesOf, keysIn, stateOf, isEntry, decodedOf}
 use Rattle.shelf.proofs.Digits.{Bytes, byte-in, bit-in, count-in, rest-in, bytes-in, sixteen}
-use Rattle.shelf.proofs.Parts.{is-within, notes-bytes, velocities-bytes}
+use Rattle.shelf.proofs.Parts.{notes-bytes, velocities-bytes}
 
 -- values of an f64, and arrays of 16
 pub record Fitting (v : State) : Type 0 where
@@ -123,11 +124,11 @@ module _ (k : Keys) (t : T (isKeys k)) where
     keys-back hn hv = rw (active-again, gate-again, count-again, notes-back hn, velocities-back hv) refl
 
 -- ---- the state
-state-back : (v : State) → Fitting v → T (isState v) → stateOf (entryOf v) ≡ v
+state-back : (v : State) → Fitting v → isState v ≡ true → stateOf (entryOf v) ≡ v
 unfolding entryOf stateOf
-state-back v f t =
-    let w = is-within v t in
-    let h : v .acted < 281474976710656 = omega (arith, w .acted-in) in
+state-back v f i =
+    let w = in-kept v (state-in v i) in
+    let h : v .acted < 281474976710656 = omega (arith, state-few v i) in
     rw (
       ofBits-toBits binary64 (v .phase .0) (f .phase-fits),
       stage-back (v .envelope .stage),
@@ -151,4 +152,4 @@ entry-stage v = stage-low (v .envelope .stage)
 
 pub encode-decode : (v : State) → Fitting v → isState v ≡ true → decodedOf (entryOf v) ≡ record { holds = true; state = v }
 unfolding isEntry
-encode-decode v f h = rw (entry-length v, entry-stage v, state-back v f (subst T (sym h) tt), h) refl
+encode-decode v f h = rw (entry-length v, entry-stage v, state-back v f h, h) refl

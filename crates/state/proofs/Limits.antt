@@ -5,7 +5,8 @@ use mathlib.Core.Bool.{Bool, true, false, not, cond, _&&_}
 use mathlib.Core.List.{List, []}
 use Prim.Native.Nat.{ℕ, _*_, _≤_, _<_}
 use native.Mathlib.Omega.{arith}
-use lib.Dec.{T, eqb}
+use lib.Dec.{T, leb, leb→le, eqb}
+use borrow.Author.Tests.{le-leb}
 use lib.ListN.{length}
 use lib.Ieee.{Float, nan, inf, fin, binary32, binary64, ofBits, lt, le, isNan}
 use lib.Ieee.Fits.{and-i, and-l, and-r}
@@ -38,7 +39,7 @@ use Rattle.state.specs.declared.State.{State}
 use Rattle.state.specs.declared.Event.{Event}
 use Rattle.state.specs.declared.Event.the-variants as event
 use Rattle.state.specs.State.{freshOf, eventFor, eventOf, liftedBy, actOf}
-use Rattle.state.specs.Limits.{thousand, highest, isTurn, isPitch, inLimits, isState}
+use Rattle.state.specs.Limits.{thousand, highest, isTurn, isPitch, inLimits, mostActed, isState}
 
 -- a test that passes is true, and the other way
 pub is-true : (b : Bool) → T b → b ≡ true
@@ -101,6 +102,19 @@ module _ (v : State) where
       (and-i (turn && shaped && pitched) loud (and-i (turn && shaped) pitched (and-i turn shaped (k .phase-in) (k .envelope-in)) (k .pitch-in)) (k .velocity-in))
       (k .keys-in))
 
+  -- a state is within the limits, and no more records acted than an entry has room for
+  pub state-in : isState v ≡ true → inLimits v ≡ true
+  unfolding isState
+  state-in e = is-true (inLimits v) (and-l (inLimits v) (leb (v .acted) mostActed) (from-true (isState v) e))
+
+  pub state-few : isState v ≡ true → v .acted ≤ mostActed
+  unfolding isState
+  state-few e = leb→le (v .acted) mostActed (and-r (inLimits v) (leb (v .acted) mostActed) (from-true (isState v) e))
+
+  pub in-state : inLimits v ≡ true → v .acted ≤ mostActed → isState v ≡ true
+  unfolding isState
+  in-state l h = rw (l, le-leb (v .acted) mostActed h) refl
+
 -- ---- no NaN, no infinity
 pub record AllFinite (v : State) : Type 0 where
   pub phase-finite : T (finite (v .phase .0))
@@ -158,8 +172,7 @@ pub fresh-in : (acted : ℕ) → inLimits (freshOf acted) ≡ true
 fresh-in acted = kept-in (freshOf acted) (fresh-keeps Turn naught-turn acted)
 
 pub fresh-is-state : isState (freshOf 0) ≡ true
-unfolding isState
-fresh-is-state = rw (fresh-in 0) refl
+fresh-is-state = in-state (freshOf 0) (fresh-in 0) (omega arith)
 
 -- ---- notes and velocities in their range
 pitch-in-limits : (n : ℕ) → n ≤ 127 → T (isPitch (frequencyOf n))
