@@ -3,5 +3,7 @@
 pub mod Judging
 -- what a render and a continued one leave, case by case
 pub mod Outcomes
+-- an honest shelf is never refused
+pub mod Honest
 -- two outcomes of a public function are equal
 pub mod Unique

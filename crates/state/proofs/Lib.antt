@@ -11,6 +11,8 @@ pub mod ButActed
 pub mod Acted
 -- the floats of a state are values of an f64, through every step
 pub mod Fits
+-- and the keys' arrays are of 16
+pub mod Arrays
 -- the limits of a state, part by part, and that events keep them
 pub mod Limits
 -- how far the phase climbs between two reductions

@@ -50,7 +50,7 @@ pushed-ranged ps p r q = go (ltb (length ps) 16)
     go true = snoc-ranged ps p r q
     go false = r
 
-pushed-few : (ps : List Pair) (p : Pair) → length ps ≤ 16 → length (pushed ps p) ≤ 16
+pub pushed-few : (ps : List Pair) (p : Pair) → length ps ≤ 16 → length (pushed ps p) ≤ 16
 pushed-few ps p h = go (ltb (length ps) 16) refl
   where
     go : (t : Bool) → ltb (length ps) 16 ≡ t → length (cond t (ps ++ p ∷ []) ps) ≤ 16
@@ -66,7 +66,7 @@ others-ranged n (p ∷ ps) r = go (eqb (p .note) n) (others-ranged n ps (r .1))
     go true a = a
     go false a = (r .0, a)
 
-others-few : (n : ℕ) (ps : List Pair) → length (others n ps) ≤ length ps
+pub others-few : (n : ℕ) (ps : List Pair) → length (others n ps) ≤ length ps
 unfolding others
 others-few n [] = omega arith
 others-few n (p ∷ ps) = go (eqb (p .note) n) (others-few n ps)
