@@ -1,5 +1,7 @@
 -- What holds of re-renders beyond the contracts, in the order to read it.
 -- the plan, the run and the call, case by case
 pub mod Cases
+-- demand 3: from the mark on, a re-render is a render of the new score
+pub mod Demand3
 -- two outcomes of a public function are equal
 pub mod Unique
