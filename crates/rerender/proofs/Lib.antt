@@ -3,5 +3,7 @@
 pub mod Cases
 -- demand 3: from the mark on, a re-render is a render of the new score
 pub mod Demand3
+-- any number of edits, each re-rendered, leave what one render of the last score leaves
+pub mod Edits
 -- two outcomes of a public function are equal
 pub mod Unique

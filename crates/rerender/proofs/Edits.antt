@@ -1,0 +1,131 @@
+-- Five edits that lose nothing, and any number. After one render, and then any edits of the score, each re-rendered into the same output and shelf, these hold what one render of the last score from sample zero leaves.
+-- The sustain setting is a value of an f64, which is what owning it tells. Assumes nothing.
+use mathlib.Core.Path.{_≡_, refl, sym, ap, _∙_}
+use mathlib.Core.List.{List, [], _∷_, _++_, append-assoc, append-nil}
+use mathlib.Core.Logic.{⊎-elim}
+use Prim.Native.Nat.{ℕ, _+_, _-_, _*_, _/_, _≤_, _<_}
+use native.Mathlib.Nat.{zero-add}
+use native.Mathlib.Omega.{arith}
+use borrow.Author.Tests.{le-leb, eq-eqb}
+use lib.Dec.{T}
+use lib.ListN.{length, take, drop, take-append-drop}
+use lib.Seq.{take-at}
+use lib.Ieee.{Float, binary64, fits}
+use Rattle.answers.specs.declared.Answer.the-variants.{Done}
+use Rattle.score.specs.declared.Difference.{Difference}
+use Rattle.score.specs.declared.Difference.the-variants.{Equal, At}
+use Rattle.score.specs.declared.Verdict.the-variants.{Accepted}
+use Rattle.score.specs.Score.{verdictOf}
+use Rattle.score.specs.Below.{countBelow}
+use Rattle.score.specs.Apart.{differenceOf}
+use Rattle.score.proofs.Agree.{equal-exactly}
+use Rattle.score.proofs.Cuts.{lt-or-ge}
+use Rattle.shelf.specs.Shelf.{mark, entryWords, entriesFor, wordsFor, entryOf, shelfOf}
+use Rattle.shelf.proofs.Count.{start-there}
+use Rattle.shelf.proofs.Whole.{shelf-append, shelf-length, entry-words}
+use Rattle.state.specs.declared.Settings.{Settings}
+use Rattle.state.specs.declared.State.{State}
+use Rattle.state.specs.Settings.{settingsOk}
+use Rattle.state.specs.State.{freshOf}
+use Rattle.state.specs.Heart.{stateFrom, samplesFrom, entriesFrom}
+use Rattle.state.proofs.RunsOn.{samples-on, samples-length}
+use Rattle.state.proofs.Entries.{entries-on, entries-length, entry-at}
+use Rattle.state.proofs.Depends.{Shared, samples-shared, entries-shared, differing-shared}
+use Rattle.render.specs.Order.{judgedOf}
+use Rattle.rerender.specs.declared.Plan.the-variants.{Nothing}
+use Rattle.rerender.specs.Rerender.{Outcome, leaves, checkedOf, planOf, entryAt, rerenderOf}
+use Rattle.rerender.proofs.Cases.{plan-equal, plan-late}
+use Rattle.rerender.proofs.Demand3.{soundOf, shelvedOf, atMark, Edit, Lent, demand-3}
+
+-- ---- the front of a render
+module _ (g : Settings) (s : List ℕ) (n : ℕ) where
+  -- its first k samples
+  pub sound-front : (k : ℕ) → k ≤ n → take k (soundOf g s n) ≡ soundOf g s k
+  sound-front k h =
+      let d : n ≡ k + (n - k) = omega arith in
+      ap (λ (i : ℕ). take k (soundOf g s i)) d ∙ ap (take k) (samples-on g s 0 (freshOf 0) k (n - k))
+      ∙ take-at (soundOf g s k) (samplesFrom g s (0 + k) (stateFrom g s 0 (freshOf 0) k) (n - k)) k (samples-length g s 0 (freshOf 0) k)
+
+  -- its first m entries
+  pub shelf-front : (m : ℕ) → m ≤ entriesFor n → take (m * entryWords) (shelvedOf g s n) ≡ shelfOf (entriesFrom g s 0 (freshOf 0) m)
+  shelf-front m h =
+      let k = entriesFor n - m in
+      let d : entriesFor n ≡ m + k = omega arith in
+      let front = entriesFrom g s 0 (freshOf 0) m in
+      let back = entriesFrom g s (0 + m) (atMark g s m) k in
+      ap (λ (i : ℕ). take (m * entryWords) (shelfOf (entriesFrom g s 0 (freshOf 0) i))) d
+      ∙ ap (λ (vs : List State). take (m * entryWords) (shelfOf vs)) (entries-on g s 0 (freshOf 0) m k)
+      ∙ ap (take (m * entryWords)) (shelf-append front back)
+      ∙ take-at (shelfOf front) (shelfOf back) (m * entryWords) (shelf-length front ∙ ap (λ (i : ℕ). i * entryWords) (entries-length g s 0 (freshOf 0) m))
+
+  -- entry m is the state there
+  pub entry-front : (m : ℕ) → m < entriesFor n → entryAt (shelvedOf g s n) m ≡ entryOf (atMark g s m)
+  entry-front m h =
+      entry-words (entriesFrom g s 0 (freshOf 0) (entriesFor n)) m (freshOf 0) (rw (entries-length g s 0 (freshOf 0) (entriesFor n)) h)
+      ∙ ap entryOf (entry-at g s 0 (freshOf 0) (entriesFor n) m (freshOf 0) h)
+
+-- ---- one edit of a whole render
+-- the outcome holds what a render of s leaves, of n samples
+pub record Whole (g : Settings) (s : List ℕ) (n : ℕ) (o : Outcome) : Type 0 where
+  pub heard-is : o .heard ≡ soundOf g s n
+  pub stored-is : o .stored ≡ shelvedOf g s n
+
+module _ (g : Settings) (old new : List ℕ) (x : Edit g old new) (n : ℕ) (short : n ≤ 16777216) where
+  abbrev out : List Float
+  out = soundOf g old n
+
+  abbrev shelf : List ℕ
+  shelf = shelvedOf g old n
+
+  long : length out ≡ n
+  long = samples-length g old 0 (freshOf 0) n
+
+  lent : Lent out shelf
+  lent =
+      record {
+        short = omega (arith, long);
+        fits = shelf-length (entriesFrom g old 0 (freshOf 0) (entriesFor n)) ∙ ap (λ (i : ℕ). i * entryWords) (entries-length g old 0 (freshOf 0) (entriesFor n)) ∙ ap wordsFor (sym long);
+      }
+
+  checked : checkedOf g old new (length out) (length shelf) ≡ Done 0
+  unfolding judgedOf
+  checked = rw (x .settings, le-leb (length out) 16777216 (lent .short), eq-eqb (length shelf) (wordsFor (length out)) (lent .fits), x .old-accepted, x .new-accepted) refl
+
+  -- where nothing is made, nothing that is heard has changed
+  unchanged : Nothing ≡ planOf old new (length out) → soundOf g old n ≡ soundOf g new n → shelvedOf g old n ≡ shelvedOf g new n → Whole g new n (rerenderOf g old new out shelf)
+  unfolding rerenderOf
+  unchanged q a b = rw (checked, ← q) (record { heard-is = a; stored-is = b })
+
+  shared-to : (p q : ℕ) → differenceOf old new ≡ At p → q ≤ p → Shared old new q (countBelow old q)
+  shared-to p q e h = differing-shared old new (x .old-records) (x .new-records) p q (x .old-accepted) (x .new-accepted) e h
+
+  late : (p : ℕ) → differenceOf old new ≡ At p → n ≤ p → Whole g new n (rerenderOf g old new out shelf)
+  late p e h =
+      let s : Shared old new n (countBelow old n) = shared-to p n e h in
+      unchanged (plan-late old new (length out) p e (omega (arith, long)))
+      (samples-shared old new n (countBelow old n) s g 0 (freshOf 0) n (omega arith))
+      (ap shelfOf (entries-shared old new n (countBelow old n) s g 0 (freshOf 0) (entriesFor n) (λ i l. omega arith)))
+
+  early : (p : ℕ) → differenceOf old new ≡ At p → p < n → Whole g new n (rerenderOf g old new out shelf)
+  early p e h =
+      let m = p / mark in
+      let there : m < entriesFor n = start-there n p h in
+      let s : Shared old new (m * mark) (countBelow old (m * mark)) = shared-to p (m * mark) e (omega arith) in
+      let front : take (m * mark) out ≡ take (m * mark) (soundOf g new n) =
+      sound-front g old n (m * mark) (omega arith) ∙ samples-shared old new (m * mark) (countBelow old (m * mark)) s g 0 (freshOf 0) (m * mark) (omega arith) ∙ sym (sound-front g new n (m * mark) (omega arith)) in
+      let front-shelf : take (m * entryWords) shelf ≡ take (m * entryWords) (shelvedOf g new n) =
+      shelf-front g old n m (omega arith) ∙ ap shelfOf (entries-shared old new (m * mark) (countBelow old (m * mark)) s g 0 (freshOf 0) m (λ i l. omega arith)) ∙ sym (shelf-front g new n m (omega arith)) in
+      let d = demand-3 g old new x p e out shelf lent (omega (arith, long)) (entry-front g old n m there) in
+      record {
+        heard-is = ap (λ (o : Outcome). o .heard) d ∙ rw (long, front) (take-append-drop (m * mark) (soundOf g new n));
+        stored-is = ap (λ (o : Outcome). o .stored) d ∙ rw (long, front-shelf) (take-append-drop (m * entryWords) (shelvedOf g new n));
+      }
+
+  pub one-edit : Whole g new n (rerenderOf g old new out shelf)
+  one-edit = go (differenceOf old new) refl
+    where
+      go : (d : Difference) → differenceOf old new ≡ d → Whole g new n (rerenderOf g old new out shelf)
+      go Equal e =
+          let same : old ≡ new = equal-exactly old new (x .old-records) (x .new-records) (x .old-accepted) (x .new-accepted) .no-other e in
+          unchanged (plan-equal old new (length out) e) (ap (λ (s : List ℕ). soundOf g s n) same) (ap (λ (s : List ℕ). shelvedOf g s n) same)
+      go (At p) e = ⊎-elim (λ l. early p e l) (λ h. late p e h) (lt-or-ge p n)
