@@ -1,0 +1,79 @@
+-- A chain of continuing calls. 01, "Making sample n": "So a render continued from the fresh state at 0 over consecutive parts of one output buffer, cut anywhere, under the same settings and one score or one that grows only at
+-- its end and is accepted each time, gives the samples and end state of one render of the last score"; "What a call says", 10: "the score's records below its position differ in number from those acted". So the premise is that
+-- every call answers 0: a record that is added below the position already reached leaves the score accepted, and the call is 10. Definitions only.
+use mathlib.Core.Path.{_≡_}
+use mathlib.Core.List.{List, [], _∷_, _++_}
+use Prim.Native.Nat.{ℕ, _+_, _≤_, _<_}
+use lib.ListN.{length}
+use lib.Ieee.{Float}
+use Rattle.answers.specs.declared.Answer.{Answer}
+use Rattle.answers.specs.declared.Answer.the-variants.{Done}
+use Rattle.score.specs.declared.Verdict.the-variants.{Accepted}
+use Rattle.score.specs.Record.{countOf, positionAt}
+use Rattle.score.specs.Score.{verdictOf}
+use Rattle.state.specs.declared.Settings.{Settings}
+use Rattle.state.specs.declared.State.{State}
+use Rattle.render.specs.Calls.{PartOutcome, continueOf}
+
+-- a call: its score, and the part of the output that it is lent
+pub record Step : Type 0 where
+  pub score : List ℕ
+  pub part : List Float
+
+-- what a chain leaves: what each call answered, the parts one after the other, the end state
+pub record ChainOutcome : Type 0 where
+  pub answers : List Answer
+  pub heard : List Float
+  pub state : State
+
+-- a call, and the rest after it
+abbrev pub andThen : PartOutcome → ChainOutcome → ChainOutcome
+andThen c rest = record { answers = c .result .answer ∷ rest .answers; heard = c .heard ++ rest .heard; state = rest .state }
+
+-- from a state v at position p: a call on its part, then the rest from the state that it answers, at the end of that part
+unfoldable pub chainFrom : Settings → State → ℕ → List Step → ChainOutcome
+chainFrom g v p [] = record { answers = []; heard = []; state = v }
+chainFrom g v p (x ∷ xs) = let c = continueOf g (x .score) v p (x .part) in andThen c (chainFrom g (c .result .state) (p + length (x .part)) xs)
+
+-- the length of the output that was cut into the parts
+abbrev pub samplesOf : List Step → ℕ
+samplesOf [] = 0
+samplesOf (x ∷ xs) = length (x .part) + samplesOf xs
+
+-- the last score, after a score s
+abbrev pub lastOf : List ℕ → List Step → List ℕ
+lastOf s [] = s
+lastOf s (x ∷ xs) = lastOf (x .score) xs
+
+-- ---- what is asked of a chain
+-- 0, with as many samples written as the part has, from every call
+abbrev pub doneAll : List Step → List Answer
+doneAll [] = []
+doneAll (x ∷ xs) = Done (length (x .part)) ∷ doneAll xs
+
+abbrev pub AllDone : Settings → State → ℕ → List Step → Type 0
+AllDone g v p xs = chainFrom g v p xs .answers ≡ doneAll xs
+
+-- t is s and some bytes after it, or none
+pub record Grown (s t : List ℕ) : Type 0 where
+  pub added : List ℕ
+  pub grown : t ≡ s ++ added
+
+-- each score is the one before it, grown; s stands before the first
+abbrev pub Grows : List ℕ → List Step → Type 0
+Grows s [] = Unit
+Grows s (x ∷ xs) = Grown s (x .score) × Grows (x .score) xs
+
+-- each score is accepted
+abbrev pub AllAccepted : List Step → Type 0
+AllAccepted [] = Unit
+AllAccepted (x ∷ xs) = ((n : ℕ) × (verdictOf (x .score) ≡ Accepted n)) × AllAccepted xs
+
+-- no record that t has after those of s has a position below p
+abbrev pub NoneBelow : List ℕ → List ℕ → ℕ → Type 0
+NoneBelow s t p = (i : ℕ) → countOf s ≤ i → i < countOf t → p ≤ positionAt t i
+
+-- at each call, of the position p that is reached before it
+abbrev pub NoneAddedBelow : List ℕ → ℕ → List Step → Type 0
+NoneAddedBelow s p [] = Unit
+NoneAddedBelow s p (x ∷ xs) = NoneBelow s (x .score) p × NoneAddedBelow (x .score) (p + length (x .part)) xs
