@@ -25,17 +25,19 @@ use Rattle.score.proofs.Cuts.{accepted-few}
 use Rattle.shelf.specs.declared.Entry.{Entry}
 use Rattle.shelf.specs.Shelf.{mark, entryWords, entriesFor, wordsFor, entryOf, stateOf, isEntry, decodedOf, shelfOf}
 use Rattle.shelf.proofs.Count.{start-there}
-use Rattle.shelf.proofs.Whole.{shelf-append, shelf-length}
+use Rattle.shelf.proofs.Whole.{shelf-append, shelf-length, entry-words}
 use Rattle.state.specs.declared.Settings.{Settings}
 use Rattle.state.specs.declared.State.{State}
 use Rattle.state.specs.Settings.{settingsOk}
 use Rattle.state.specs.State.{freshOf}
 use Rattle.state.specs.Heart.{stateFrom, samplesFrom, entriesFrom}
 use Rattle.state.proofs.RunsOn.{samples-on, samples-length}
-use Rattle.state.proofs.Entries.{entries-on, entries-length}
+use Rattle.state.proofs.Entries.{entries-on, entries-length, entry-at}
 use Rattle.state.proofs.Depends.{Shared, state-shared, differing-shared}
 use Rattle.state.proofs.Acted.{acted-fresh}
 use Rattle.render.specs.Order.{judgedOf}
+use Rattle.render.specs.Calls as render
+use Rattle.render.specs.Calls.{renderOf}
 use Rattle.render.proofs.Honest.{honest}
 use Rattle.rerender.specs.declared.Plan.the-variants.{From}
 use Rattle.rerender.specs.Rerender.{Outcome, leaves, checkedOf, planOf, entryAt, startOf, isStart, madeFrom, fromOf, rerenderOf}
@@ -52,19 +54,34 @@ shelvedOf g s n = shelfOf (entriesFrom g s 0 (freshOf 0) (entriesFor n))
 abbrev pub atMark : Settings → List ℕ → ℕ → State
 atMark g s m = stateFrom g s 0 (freshOf 0) (m * mark)
 
--- two accepted scores, and what goes with them
+-- an accepted score
+pub record Taken (s : List ℕ) : Type 0 where
+  pub records : ℕ
+  pub accepted : verdictOf s ≡ Accepted records
+
+-- two of them, and what goes with them
 pub record Edit (g : Settings) (old new : List ℕ) : Type 0 where
   pub settings : settingsOk g ≡ true
   pub sustain-fits : T (fits binary64 (g .adsr .sustain))
-  pub old-records : ℕ
-  pub old-accepted : verdictOf old ≡ Accepted old-records
-  pub new-records : ℕ
-  pub new-accepted : verdictOf new ≡ Accepted new-records
+  pub old-taken : Taken old
+  pub new-taken : Taken new
 
 -- an output and a shelf of sizes that go together
 pub record Lent (out : List Float) (shelf : List ℕ) : Type 0 where
   pub short : length out ≤ 16777216
   pub fits : length shelf ≡ wordsFor (length out)
+
+-- entry i of a render's shelf is the state there
+pub entry-left : (g : Settings) (s : List ℕ) (n i : ℕ) → i < entriesFor n → entryAt (shelvedOf g s n) i ≡ entryOf (atMark g s i)
+entry-left g s n i h =
+    entry-words (entriesFrom g s 0 (freshOf 0) (entriesFor n)) i (freshOf 0) (rw (entries-length g s 0 (freshOf 0) (entriesFor n)) h)
+    ∙ ap entryOf (entry-at g s 0 (freshOf 0) (entriesFor n) i (freshOf 0) h)
+
+-- a render of an accepted score is done, and leaves these
+pub rendered : (g : Settings) → settingsOk g ≡ true → (s : List ℕ) → Taken s → (out : List Float) (shelf : List ℕ) → Lent out shelf
+    → renderOf g s out shelf ≡ render.leaves (render.says (Done (length out)) (stateFrom g s 0 (freshOf 0) (length out))) (soundOf g s (length out)) (shelvedOf g s (length out))
+unfolding renderOf judgedOf
+rendered g ok s a out shelf z = rw (ok, le-leb (length out) 16777216 (z .short), eq-eqb (length shelf) (wordsFor (length out)) (z .fits), a .accepted) refl
 
 module _ (g : Settings) (old new : List ℕ) (x : Edit g old new) (p : ℕ) (differs : differenceOf old new ≡ At p) where
   abbrev pub m : ℕ
@@ -75,7 +92,7 @@ module _ (g : Settings) (old new : List ℕ) (x : Edit g old new) (p : ℕ) (dif
   before = omega arith
 
   shared : Shared old new (m * mark) (countBelow old (m * mark))
-  shared = differing-shared old new (x .old-records) (x .new-records) p (m * mark) (x .old-accepted) (x .new-accepted) differs before
+  shared = differing-shared old new (x .old-taken .records) (x .new-taken .records) p (m * mark) (x .old-taken .accepted) (x .new-taken .accepted) differs before
 
   -- so both scores lead to one state there
   pub same-mark : atMark g old m ≡ atMark g new m
@@ -111,13 +128,13 @@ module _ (g : Settings) (old new : List ℕ) (x : Edit g old new) (p : ℕ) (dif
     checked : checkedOf g old new (length out) (length shelf) ≡ Done 0
     unfolding judgedOf
     checked =
-        rw (x .settings, le-leb (length out) 16777216 (z .short), eq-eqb (length shelf) (wordsFor (length out)) (z .fits), x .old-accepted, x .new-accepted) refl
+        rw (x .settings, le-leb (length out) 16777216 (z .short), eq-eqb (length shelf) (wordsFor (length out)) (z .fits), x .old-taken .accepted, x .new-taken .accepted) refl
 
     -- the start entry is what a render of the old score left
     module _ (honestly : entryAt shelf m ≡ entryOf (atMark g old m)) where
       decoded : decodedOf (entryAt shelf m) ≡ record { holds = true; state = atMark g new m }
       decoded =
-          ap decodedOf honestly ∙ honest g (x .settings) (x .sustain-fits) old (x .old-records) (x .old-accepted) (m * mark)
+          ap decodedOf honestly ∙ honest g (x .settings) (x .sustain-fits) old (x .old-taken .records) (x .old-taken .accepted) (m * mark)
           ∙ ap (λ (v : State). record { holds = true; state = v }) same-mark
 
       pub start-is : startOf shelf m ≡ atMark g new m
@@ -126,7 +143,7 @@ module _ (g : Settings) (old new : List ℕ) (x : Edit g old new) (p : ℕ) (dif
       -- an honest shelf is never refused
       pub never-8 : isStart new m shelf ≡ true
       never-8 =
-          let few = accepted-few new (x .new-records) (x .new-accepted) in
+          let few = accepted-few new (x .new-taken .records) (x .new-taken .accepted) in
           let acted : startOf shelf m .acted ≡ countBelow new (m * mark) = ap (λ (v : State). v .acted) start-is ∙ acted-fresh g new few (m * mark) in
           rw (ap (λ (e : Entry). e .holds) decoded, eq-eqb (startOf shelf m .acted) (countBelow new (m * mark)) acted) refl
 
@@ -137,3 +154,19 @@ module _ (g : Settings) (old new : List ℕ) (x : Edit g old new) (p : ℕ) (dif
       demand-3 =
           let there : m < entriesFor (length out) = start-there (length out) p heard in
           rw (checked, ← plan-from old new (length out) p differs heard, never-8, start-is, sound-after (length out) (omega arith), shelf-after (length out) (omega arith)) refl
+
+    -- the same in terms of renders of as many samples: one of the old score left the start entry, and one of the new score is what is heard from the mark on
+    module _ (out₁ out₂ : List Float) (shelf₁ shelf₂ : List ℕ) (z₁ : Lent out₁ shelf₁) (z₂ : Lent out₂ shelf₂) (long₁ : length out₁ ≡ length out) (long₂ : length out₂ ≡ length out)
+        (left : entryAt shelf m ≡ entryAt (renderOf g old out₁ shelf₁ .stored) m) where
+      pub demand-3-of-renders : rerenderOf g old new out shelf
+          ≡ leaves
+          (Done (length out - m * mark))
+          (take (m * mark) out ++ drop (m * mark) (renderOf g new out₂ shelf₂ .heard))
+          (take (m * entryWords) shelf ++ drop (m * entryWords) (renderOf g new out₂ shelf₂ .stored))
+      demand-3-of-renders =
+          let there : m < entriesFor (length out) = start-there (length out) p heard in
+          let first : renderOf g old out₁ shelf₁ .stored ≡ shelvedOf g old (length out) = ap (λ (o : render.Outcome). o .stored) (rendered g (x .settings) old (x .old-taken) out₁ shelf₁ z₁) ∙ ap (shelvedOf g old) long₁ in
+          let second = rendered g (x .settings) new (x .new-taken) out₂ shelf₂ z₂ in
+          let a : renderOf g new out₂ shelf₂ .heard ≡ soundOf g new (length out) = ap (λ (o : render.Outcome). o .heard) second ∙ ap (soundOf g new) long₂ in
+          let b : renderOf g new out₂ shelf₂ .stored ≡ shelvedOf g new (length out) = ap (λ (o : render.Outcome). o .stored) second ∙ ap (shelvedOf g new) long₂ in
+          rw (a, b) (demand-3 (left ∙ ap (λ (ws : List ℕ). entryAt ws m) first ∙ entry-left g old (length out) m there))

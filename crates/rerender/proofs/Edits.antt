@@ -2,6 +2,7 @@
 -- The sustain setting is a value of an f64, which is what owning it tells. Assumes nothing.
 use mathlib.Core.Path.{_≡_, refl, sym, ap, _∙_}
 use mathlib.Core.List.{List, [], _∷_, _++_, append-assoc, append-nil}
+use mathlib.Core.Bool.{true}
 use mathlib.Core.Logic.{⊎-elim}
 use Prim.Native.Nat.{ℕ, _+_, _-_, _*_, _/_, _≤_, _<_}
 use native.Mathlib.Nat.{zero-add}
@@ -22,20 +23,26 @@ use Rattle.score.proofs.Agree.{equal-exactly}
 use Rattle.score.proofs.Cuts.{lt-or-ge}
 use Rattle.shelf.specs.Shelf.{mark, entryWords, entriesFor, wordsFor, entryOf, shelfOf}
 use Rattle.shelf.proofs.Count.{start-there}
-use Rattle.shelf.proofs.Whole.{shelf-append, shelf-length, entry-words}
+use Rattle.shelf.proofs.Whole.{shelf-append, shelf-length}
 use Rattle.state.specs.declared.Settings.{Settings}
 use Rattle.state.specs.declared.State.{State}
 use Rattle.state.specs.Settings.{settingsOk}
 use Rattle.state.specs.State.{freshOf}
 use Rattle.state.specs.Heart.{stateFrom, samplesFrom, entriesFrom}
 use Rattle.state.proofs.RunsOn.{samples-on, samples-length}
-use Rattle.state.proofs.Entries.{entries-on, entries-length, entry-at}
+use Rattle.state.proofs.Entries.{entries-on, entries-length}
 use Rattle.state.proofs.Depends.{Shared, samples-shared, entries-shared, differing-shared}
 use Rattle.render.specs.Order.{judgedOf}
+use Rattle.render.specs.Calls as render
+use Rattle.render.specs.Calls.{renderOf}
 use Rattle.rerender.specs.declared.Plan.the-variants.{Nothing}
 use Rattle.rerender.specs.Rerender.{Outcome, leaves, checkedOf, planOf, entryAt, rerenderOf}
+use Rattle.rerender.specs.Edits.{editsFrom, lastScore}
 use Rattle.rerender.proofs.Cases.{plan-equal, plan-late}
-use Rattle.rerender.proofs.Demand3.{soundOf, shelvedOf, atMark, Edit, Lent, demand-3}
+use Rattle.rerender.proofs.Demand3.{soundOf, shelvedOf, atMark, Taken, Edit, Lent, entry-left, rendered, demand-3}
+
+abbrev Rendering : Type 0
+Rendering = render.Outcome
 
 -- ---- the front of a render
 module _ (g : Settings) (s : List ℕ) (n : ℕ) where
@@ -57,12 +64,6 @@ module _ (g : Settings) (s : List ℕ) (n : ℕ) where
       ∙ ap (λ (vs : List State). take (m * entryWords) (shelfOf vs)) (entries-on g s 0 (freshOf 0) m k)
       ∙ ap (take (m * entryWords)) (shelf-append front back)
       ∙ take-at (shelfOf front) (shelfOf back) (m * entryWords) (shelf-length front ∙ ap (λ (i : ℕ). i * entryWords) (entries-length g s 0 (freshOf 0) m))
-
-  -- entry m is the state there
-  pub entry-front : (m : ℕ) → m < entriesFor n → entryAt (shelvedOf g s n) m ≡ entryOf (atMark g s m)
-  entry-front m h =
-      entry-words (entriesFrom g s 0 (freshOf 0) (entriesFor n)) m (freshOf 0) (rw (entries-length g s 0 (freshOf 0) (entriesFor n)) h)
-      ∙ ap entryOf (entry-at g s 0 (freshOf 0) (entriesFor n) m (freshOf 0) h)
 
 -- ---- one edit of a whole render
 -- the outcome holds what a render of s leaves, of n samples
@@ -89,7 +90,7 @@ module _ (g : Settings) (old new : List ℕ) (x : Edit g old new) (n : ℕ) (sho
 
   checked : checkedOf g old new (length out) (length shelf) ≡ Done 0
   unfolding judgedOf
-  checked = rw (x .settings, le-leb (length out) 16777216 (lent .short), eq-eqb (length shelf) (wordsFor (length out)) (lent .fits), x .old-accepted, x .new-accepted) refl
+  checked = rw (x .settings, le-leb (length out) 16777216 (lent .short), eq-eqb (length shelf) (wordsFor (length out)) (lent .fits), x .old-taken .accepted, x .new-taken .accepted) refl
 
   -- where nothing is made, nothing that is heard has changed
   unchanged : Nothing ≡ planOf old new (length out) → soundOf g old n ≡ soundOf g new n → shelvedOf g old n ≡ shelvedOf g new n → Whole g new n (rerenderOf g old new out shelf)
@@ -97,7 +98,7 @@ module _ (g : Settings) (old new : List ℕ) (x : Edit g old new) (n : ℕ) (sho
   unchanged q a b = rw (checked, ← q) (record { heard-is = a; stored-is = b })
 
   shared-to : (p q : ℕ) → differenceOf old new ≡ At p → q ≤ p → Shared old new q (countBelow old q)
-  shared-to p q e h = differing-shared old new (x .old-records) (x .new-records) p q (x .old-accepted) (x .new-accepted) e h
+  shared-to p q e h = differing-shared old new (x .old-taken .records) (x .new-taken .records) p q (x .old-taken .accepted) (x .new-taken .accepted) e h
 
   late : (p : ℕ) → differenceOf old new ≡ At p → n ≤ p → Whole g new n (rerenderOf g old new out shelf)
   late p e h =
@@ -115,7 +116,7 @@ module _ (g : Settings) (old new : List ℕ) (x : Edit g old new) (n : ℕ) (sho
       sound-front g old n (m * mark) (omega arith) ∙ samples-shared old new (m * mark) (countBelow old (m * mark)) s g 0 (freshOf 0) (m * mark) (omega arith) ∙ sym (sound-front g new n (m * mark) (omega arith)) in
       let front-shelf : take (m * entryWords) shelf ≡ take (m * entryWords) (shelvedOf g new n) =
       shelf-front g old n m (omega arith) ∙ ap shelfOf (entries-shared old new (m * mark) (countBelow old (m * mark)) s g 0 (freshOf 0) m (λ i l. omega arith)) ∙ sym (shelf-front g new n m (omega arith)) in
-      let d = demand-3 g old new x p e out shelf lent (omega (arith, long)) (entry-front g old n m there) in
+      let d = demand-3 g old new x p e out shelf lent (omega (arith, long)) (entry-left g old n m there) in
       record {
         heard-is = ap (λ (o : Outcome). o .heard) d ∙ rw (long, front) (take-append-drop (m * mark) (soundOf g new n));
         stored-is = ap (λ (o : Outcome). o .stored) d ∙ rw (long, front-shelf) (take-append-drop (m * entryWords) (shelvedOf g new n));
@@ -126,6 +127,41 @@ module _ (g : Settings) (old new : List ℕ) (x : Edit g old new) (n : ℕ) (sho
     where
       go : (d : Difference) → differenceOf old new ≡ d → Whole g new n (rerenderOf g old new out shelf)
       go Equal e =
-          let same : old ≡ new = equal-exactly old new (x .old-records) (x .new-records) (x .old-accepted) (x .new-accepted) .no-other e in
+          let same : old ≡ new = equal-exactly old new (x .old-taken .records) (x .new-taken .records) (x .old-taken .accepted) (x .new-taken .accepted) .no-other e in
           unchanged (plan-equal old new (length out) e) (ap (λ (s : List ℕ). soundOf g s n) same) (ap (λ (s : List ℕ). shelvedOf g s n) same)
       go (At p) e = ⊎-elim (λ l. early p e l) (λ h. late p e h) (lt-or-ge p n)
+
+-- ---- any number of edits
+-- every score is accepted
+abbrev pub AllTaken : List (List ℕ) → Type 0
+AllTaken [] = Unit
+AllTaken (s ∷ rest) = Taken s × AllTaken rest
+
+pub last-taken : (old : List ℕ) (news : List (List ℕ)) → Taken old → AllTaken news → Taken (lastScore old news)
+unfolding lastScore
+last-taken old [] a b = a
+last-taken old (new ∷ rest) a b = last-taken new rest (b .0) (b .1)
+
+module _ (g : Settings) (ok : settingsOk g ≡ true) (w : T (fits binary64 (g .adsr .sustain))) (n : ℕ) (short : n ≤ 16777216) where
+  pub all-edits : (old : List ℕ) (news : List (List ℕ)) → Taken old → AllTaken news → (o : Outcome) → Whole g old n o → Whole g (lastScore old news) n (editsFrom g old news o)
+  unfolding editsFrom lastScore
+  all-edits old [] a b o h = h
+  all-edits old (new ∷ rest) a b o h =
+      let x : Edit g old new = record { settings = ok; sustain-fits = w; old-taken = a; new-taken = b .0 } in
+      let e : Whole g new n (rerenderOf g old new (o .heard) (o .stored)) = rw (h .heard-is, h .stored-is) (one-edit g old new x n short) in
+      all-edits new rest (b .0) (b .1) (rerenderOf g old new (o .heard) (o .stored)) e
+
+  -- the same in terms of renders: one of the first score, then the edits, and one of the last score, each of n samples
+  module _ (out out′ : List Float) (shelf shelf′ : List ℕ) (z : Lent out shelf) (z′ : Lent out′ shelf′) (long : length out ≡ n) (long′ : length out′ ≡ n) where
+    pub five-edits : (old : List ℕ) (news : List (List ℕ)) → Taken old → AllTaken news →
+        (editsFrom g old news (leaves (Done 0) (renderOf g old out shelf .heard) (renderOf g old out shelf .stored)) .heard ≡ renderOf g (lastScore old news) out′ shelf′ .heard)
+        × (editsFrom g old news (leaves (Done 0) (renderOf g old out shelf .heard) (renderOf g old out shelf .stored)) .stored ≡ renderOf g (lastScore old news) out′ shelf′ .stored)
+    five-edits old news a b =
+        let first = rendered g ok old a out shelf z in
+        let last = rendered g ok (lastScore old news) (last-taken old news a b) out′ shelf′ z′ in
+        let start : Whole g old n (leaves (Done 0) (renderOf g old out shelf .heard) (renderOf g old out shelf .stored)) =
+        record { heard-is = ap (λ (o : Rendering). o .heard) first ∙ ap (soundOf g old) long; stored-is = ap (λ (o : Rendering). o .stored) first ∙ ap (shelvedOf g old) long } in
+        let end = all-edits old news a b (leaves (Done 0) (renderOf g old out shelf .heard) (renderOf g old out shelf .stored)) start in (
+          end .heard-is ∙ sym (ap (λ (o : Rendering). o .heard) last ∙ ap (soundOf g (lastScore old news)) long′),
+          end .stored-is ∙ sym (ap (λ (o : Rendering). o .stored) last ∙ ap (shelvedOf g (lastScore old news)) long′),
+        )

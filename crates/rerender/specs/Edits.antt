@@ -1,0 +1,16 @@
+-- Edits one after the other. Why the voice exists: "A slowly falling pad had lost eleven percent of its level after its fifth edit". A score is rendered once, and then each next one is re-rendered, after the one before
+-- it, into the same output and shelf. Definitions only.
+use mathlib.Core.List.{List, [], _∷_}
+use Prim.Native.Nat.{ℕ}
+use Rattle.state.specs.declared.Settings.{Settings}
+use Rattle.rerender.specs.Rerender.{Outcome, rerenderOf}
+
+-- from what stands in the output and the shelf, and the score that it was made of
+unfoldable pub editsFrom : Settings → List ℕ → List (List ℕ) → Outcome → Outcome
+editsFrom g old [] o = o
+editsFrom g old (new ∷ rest) o = editsFrom g new rest (rerenderOf g old new (o .heard) (o .stored))
+
+-- the last score of all
+unfoldable pub lastScore : List ℕ → List (List ℕ) → List ℕ
+lastScore old [] = old
+lastScore old (new ∷ rest) = lastScore new rest
