@@ -44,11 +44,11 @@ endsAt at = 0x56 ∷ 0x4E ∷ at ∷ 0 ∷ 0 ∷ 0 ∷ 2 ∷ 69 ∷ 0 ∷ 0 ∷ 
 abbrev pub played : ℕ → List Step
 played at = record { score = begins; part = replicate 100 half } ∷ record { score = begins ++ endsAt at; part = replicate 28 half } ∷ []
 
-plain-ok : settingsOk plain ≡ true
+pub plain-ok : settingsOk plain ≡ true
 unfolding isAdsr isRate ofBits isNan
 plain-ok = refl
 
-begins-accepted : verdictOf begins ≡ Accepted 1
+pub begins-accepted : verdictOf begins ≡ Accepted 1
 unfolding positionAt markRight kindRight fieldsRight inOrder verdictAt verdictFrom verdictOf
 begins-accepted = refl
 

@@ -5,6 +5,8 @@ pub mod Cases
 pub mod Alone
 -- demand 3: from the mark on, a re-render is a render of the new score
 pub mod Demand3
+-- an edit that meets demand 3's premises, over rubbish
+pub mod Example
 -- any number of edits, each re-rendered, leave what one render of the last score leaves
 pub mod Edits
 -- two outcomes of a public function are equal
