@@ -13,20 +13,13 @@ use Rattle.answers.specs.declared.Refusal.the-variants.{Setting, Size}
 use Rattle.score.specs.declared.Verdict.{Verdict}
 use Rattle.score.specs.declared.Verdict.the-variants.{Accepted, Faulty}
 use Rattle.score.specs.Score.{verdictOf}
+use Rattle.score.proofs.Parted.{clash}
+use Rattle.score.proofs.Codec.{both}
 use Rattle.shelf.specs.Shelf.{wordsFor}
 use Rattle.state.specs.declared.Settings.{Settings}
 use Rattle.state.specs.Settings.{settingsOk}
 use Rattle.render.specs.Order.{most, unless, scored, judgedOf, isRoom}
 use Rattle.render.specs.Calls.{isStretch}
-
-clash : _≡_ {A = ℕ} 0 1 → ⊥
-clash h = omega arith
-
--- a test of two is a test of each
-pub both : (p q : Bool) → (p && q) ≡ true → (p ≡ true) × (q ≡ true)
-both true true e = (refl, refl)
-both true false e = let z : true ≡ false = sym e in absurd (clash (cc))
-both false q e = let z : true ≡ false = sym e in absurd (clash (cc))
 
 module _ (g : Settings) (room : Bool) (s : List ℕ) (rest : Answer) where
   pub no-settings : settingsOk g ≡ false → Refused Setting ≡ judgedOf g room s rest

@@ -17,6 +17,7 @@ use Rattle.score.specs.declared.Verdict.the-variants.{Accepted}
 use Rattle.score.specs.Record.{countOf, positionAt}
 use Rattle.score.specs.Score.{verdictOf}
 use Rattle.score.specs.Below.{countBelow}
+use Rattle.score.proofs.Codec.{both}
 use Rattle.score.proofs.Cuts.{accepted-length, accepted-few, accepted-sorted}
 use Rattle.score.proofs.Grown.{none-added, as-many}
 use Rattle.state.specs.declared.Settings.{Settings}
@@ -31,7 +32,7 @@ use Rattle.state.proofs.Acted.{acted-fresh}
 use Rattle.render.specs.Order.{most, unless}
 use Rattle.render.specs.Calls.{says, PartOutcome, leavesPart, isStretch, isGiven, continueAnswer, continuedOf, continueOf}
 use Rattle.render.specs.Chain.{Step, ChainOutcome, andThen, chainFrom, AllDone, Grown, NoneBelow}
-use Rattle.render.proofs.Judging.{both, by-score, unless-no, passed, all-passed}
+use Rattle.render.proofs.Judging.{by-score, unless-no, passed, all-passed}
 
 -- ---- one call
 -- what a call has passed that answers 0

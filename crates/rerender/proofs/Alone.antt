@@ -21,11 +21,9 @@ use Rattle.state.specs.declared.Settings.{Settings}
 use Rattle.state.specs.declared.State.{State}
 use Rattle.state.specs.Heart.{stateFrom, samplesFrom, entriesFrom}
 use Rattle.state.proofs.Entries.{entries-length, entry-at}
-use Rattle.render.proofs.Judging.{both}
+use Rattle.score.proofs.Parted.{clash}
+use Rattle.score.proofs.Codec.{both}
 use Rattle.rerender.specs.Rerender.{Outcome, leaves, entryAt, startOf, isStart, madeFrom, fromOf}
-
-clash : _≡_ {A = ℕ} 0 1 → ⊥
-clash h = omega arith
 
 front : {A : Type 0} (k : ℕ) (xs ys : List A) → k ≤ length xs → take k (take k xs ++ ys) ≡ take k xs
 front k xs ys h = take-at (take k xs) ys k (length-take-le k xs h)

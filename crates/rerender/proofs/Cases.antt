@@ -19,6 +19,7 @@ use Rattle.score.specs.declared.Verdict.the-variants.{Accepted, Faulty}
 use Rattle.score.specs.Score.{verdictOf}
 use Rattle.score.specs.Below.{countBelow, Sorted}
 use Rattle.score.specs.Apart.{differenceOf}
+use Rattle.score.proofs.Parted.{clash}
 use Rattle.score.proofs.Cuts.{accepted-sorted, count-cut}
 use Rattle.shelf.specs.Shelf.{mark, entriesFor, wordsFor}
 use Rattle.shelf.proofs.Count.{start-there}
@@ -35,9 +36,6 @@ use Rattle.render.proofs.Judging.{Passed, all-passed, Roomy, roomy}
 use Rattle.rerender.specs.declared.Plan.{Plan}
 use Rattle.rerender.specs.declared.Plan.the-variants.{Nothing, From}
 use Rattle.rerender.specs.Rerender.{leaves, newScored, checkedOf, planFor, planOf, startOf, isStart, madeFrom, fromOf, runOf, rerenderOf}
-
-clash : _≡_ {A = ℕ} 0 1 → ⊥
-clash h = omega arith
 
 -- ---- the plan
 module _ (old new : List ℕ) (n : ℕ) where
