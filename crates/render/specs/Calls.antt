@@ -54,7 +54,7 @@ pub record PartOutcome : Type 0 where
 abbrev pub leavesPart : Rendered → List Float → PartOutcome
 leavesPart r part = record { result = r; heard = part }
 
--- n samples from p on end in time
+-- n samples from p on end at or before sample 16,777,216
 abbrev pub isStretch : ℕ → ℕ → Bool
 isStretch p n = leb (p + n) most
 

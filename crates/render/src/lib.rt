@@ -1,5 +1,6 @@
 // The arranger's render, every sample from sample zero, and the stage player's, part by part from the state in the air.
-// Both are the samples that the score's records give, counted from sample zero; the end of a part reduces nothing.
+// From the fresh state at sample zero both are the samples that the score's records give; from another state, the samples
+// that they give from there. The end of a part reduces nothing.
 ghost use mathlib.Core.Path.{_≡_};
 ghost use Rattle.answers.specs.declared.Answer.the-variants.{Done};
 ghost use Rattle.answers.specs.declared.Refusal.the-variants.{GivenState};
@@ -15,7 +16,8 @@ use state::State;
 // The most samples of an output.
 const MOST: u64 = 16_777_216;
 
-// What a call says, and the state before the sample after its last.
+// What a call says, and the state before the sample after its last. Refused, it is the fresh state of a render, and the given
+// one of a continuing call.
 pub struct Rendered {
     pub answer: Answer,
     pub state: State,

@@ -20,7 +20,7 @@ use Rattle.score.specs.declared.Verdict.the-variants.{Accepted}
 use Rattle.score.specs.Score.{verdictOf}
 use Rattle.score.specs.Below.{countBelow}
 use Rattle.score.specs.Apart.{differenceOf}
-use Rattle.score.proofs.Agree.{SameBelow, accepted-below}
+use Rattle.score.proofs.Agree.{equal-exactly}
 use Rattle.score.proofs.Cuts.{accepted-few}
 use Rattle.shelf.specs.declared.Entry.{Entry}
 use Rattle.shelf.specs.Shelf.{mark, entryWords, entriesFor, wordsFor, entryOf, stateOf, isEntry, decodedOf, shelfOf}
@@ -39,9 +39,9 @@ use Rattle.render.specs.Order.{judgedOf}
 use Rattle.render.specs.Calls as render
 use Rattle.render.specs.Calls.{renderOf}
 use Rattle.render.proofs.Honest.{honest}
-use Rattle.rerender.specs.declared.Plan.the-variants.{From}
+use Rattle.rerender.specs.declared.Plan.the-variants.{Nothing, From}
 use Rattle.rerender.specs.Rerender.{Outcome, leaves, checkedOf, planOf, entryAt, startOf, isStart, madeFrom, fromOf, rerenderOf}
-use Rattle.rerender.proofs.Cases.{plan-from}
+use Rattle.rerender.proofs.Cases.{plan-equal, plan-late, plan-from}
 
 -- what a render of s leaves, of n samples
 abbrev pub soundOf : Settings → List ℕ → ℕ → List Float
@@ -82,6 +82,25 @@ pub rendered : (g : Settings) → settingsOk g ≡ true → (s : List ℕ) → T
     → renderOf g s out shelf ≡ render.leaves (render.says (Done (length out)) (stateFrom g s 0 (freshOf 0) (length out))) (soundOf g s (length out)) (shelvedOf g s (length out))
 unfolding renderOf judgedOf
 rendered g ok s a out shelf z = rw (ok, le-leb (length out) 16777216 (z .short), eq-eqb (length shelf) (wordsFor (length out)) (z .fits), a .accepted) refl
+
+-- the checks are passed
+pub checked : (g : Settings) (old new : List ℕ) → Edit g old new → (out : List Float) (shelf : List ℕ) → Lent out shelf → checkedOf g old new (length out) (length shelf) ≡ Done 0
+unfolding judgedOf
+checked g old new x out shelf z =
+    rw (x .settings, le-leb (length out) 16777216 (z .short), eq-eqb (length shelf) (wordsFor (length out)) (z .fits), x .old-taken .accepted, x .new-taken .accepted) refl
+
+-- demand 3, its last sentence: where the scores are equal or the first change lies at or past the end, nothing is written and the count is nought, whatever stands in the output and in the shelf
+module _ (g : Settings) (old new : List ℕ) (x : Edit g old new) (out : List Float) (shelf : List ℕ) (z : Lent out shelf) where
+  pub demand-3-nothing : planOf old new (length out) ≡ Nothing → rerenderOf g old new out shelf ≡ leaves (Done 0) out shelf
+  unfolding rerenderOf
+  demand-3-nothing q = rw (checked g old new x out shelf z, q) refl
+
+  pub nothing-equal : old ≡ new → rerenderOf g old new out shelf ≡ leaves (Done 0) out shelf
+  nothing-equal e =
+      demand-3-nothing (sym (plan-equal old new (length out) (equal-exactly old new (x .old-taken .records) (x .new-taken .records) (x .old-taken .accepted) (x .new-taken .accepted) .no-difference e)))
+
+  pub nothing-late : (p : ℕ) → differenceOf old new ≡ At p → length out ≤ p → rerenderOf g old new out shelf ≡ leaves (Done 0) out shelf
+  nothing-late p e h = demand-3-nothing (sym (plan-late old new (length out) p e h))
 
 module _ (g : Settings) (old new : List ℕ) (x : Edit g old new) (p : ℕ) (differs : differenceOf old new ≡ At p) where
   abbrev pub m : ℕ
@@ -125,11 +144,6 @@ module _ (g : Settings) (old new : List ℕ) (x : Edit g old new) (p : ℕ) (dif
       ∙ ap (λ (i : ℕ). shelfOf (entriesFrom g new i (atMark g new m) k)) (zero-add m)
 
   module _ (out : List Float) (shelf : List ℕ) (z : Lent out shelf) (heard : p < length out) where
-    checked : checkedOf g old new (length out) (length shelf) ≡ Done 0
-    unfolding judgedOf
-    checked =
-        rw (x .settings, le-leb (length out) 16777216 (z .short), eq-eqb (length shelf) (wordsFor (length out)) (z .fits), x .old-taken .accepted, x .new-taken .accepted) refl
-
     -- the start entry is what a render of the old score left
     module _ (honestly : entryAt shelf m ≡ entryOf (atMark g old m)) where
       decoded : decodedOf (entryAt shelf m) ≡ record { holds = true; state = atMark g new m }
@@ -153,7 +167,7 @@ module _ (g : Settings) (old new : List ℕ) (x : Edit g old new) (p : ℕ) (dif
       unfolding rerenderOf fromOf
       demand-3 =
           let there : m < entriesFor (length out) = start-there (length out) p heard in
-          rw (checked, ← plan-from old new (length out) p differs heard, never-8, start-is, sound-after (length out) (omega arith), shelf-after (length out) (omega arith)) refl
+          rw (checked g old new x out shelf z, ← plan-from old new (length out) p differs heard, never-8, start-is, sound-after (length out) (omega arith), shelf-after (length out) (omega arith)) refl
 
     -- the same in terms of renders of as many samples: one of the old score left the start entry, and one of the new score is what is heard from the mark on
     module _ (out₁ out₂ : List Float) (shelf₁ shelf₂ : List ℕ) (z₁ : Lent out₁ shelf₁) (z₂ : Lent out₂ shelf₂) (long₁ : length out₁ ≡ length out) (long₂ : length out₂ ≡ length out)

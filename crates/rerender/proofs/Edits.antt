@@ -12,6 +12,7 @@ use lib.Dec.{T}
 use lib.ListN.{length, take, drop, take-append-drop}
 use lib.Seq.{take-at}
 use lib.Ieee.{Float, binary64, fits}
+use Rattle.answers.specs.declared.Answer.{Answer}
 use Rattle.answers.specs.declared.Answer.the-variants.{Done}
 use Rattle.score.specs.declared.Difference.{Difference}
 use Rattle.score.specs.declared.Difference.the-variants.{Equal, At}
@@ -36,10 +37,10 @@ use Rattle.render.specs.Order.{judgedOf}
 use Rattle.render.specs.Calls as render
 use Rattle.render.specs.Calls.{renderOf}
 use Rattle.rerender.specs.declared.Plan.the-variants.{Nothing}
-use Rattle.rerender.specs.Rerender.{Outcome, leaves, checkedOf, planOf, entryAt, rerenderOf}
-use Rattle.rerender.specs.Edits.{editsFrom, lastScore}
-use Rattle.rerender.proofs.Cases.{plan-equal, plan-late}
-use Rattle.rerender.proofs.Demand3.{soundOf, shelvedOf, atMark, Taken, Edit, Lent, entry-left, rendered, demand-3}
+use Rattle.rerender.specs.Rerender.{Outcome, leaves, checkedOf, planOf, countFor, rerenderOf}
+use Rattle.rerender.specs.Edits.{editsFrom, lastScore, answersFrom, allCounted}
+use Rattle.rerender.proofs.Cases.{plan-equal, plan-late, plan-from}
+use Rattle.rerender.proofs.Demand3.{soundOf, shelvedOf, atMark, Taken, Edit, Lent, entry-left, rendered, checked, demand-3}
 
 abbrev Rendering : Type 0
 Rendering = render.Outcome
@@ -66,7 +67,7 @@ module _ (g : Settings) (s : List ℕ) (n : ℕ) where
       ∙ take-at (shelfOf front) (shelfOf back) (m * entryWords) (shelf-length front ∙ ap (λ (i : ℕ). i * entryWords) (entries-length g s 0 (freshOf 0) m))
 
 -- ---- one edit of a whole render
--- the outcome holds what a render of s leaves, of n samples
+-- the output and the shelf hold what a render of s leaves, of n samples
 pub record Whole (g : Settings) (s : List ℕ) (n : ℕ) (o : Outcome) : Type 0 where
   pub heard-is : o .heard ≡ soundOf g s n
   pub stored-is : o .stored ≡ shelvedOf g s n
@@ -88,26 +89,27 @@ module _ (g : Settings) (old new : List ℕ) (x : Edit g old new) (n : ℕ) (sho
         fits = shelf-length (entriesFrom g old 0 (freshOf 0) (entriesFor n)) ∙ ap (λ (i : ℕ). i * entryWords) (entries-length g old 0 (freshOf 0) (entriesFor n)) ∙ ap wordsFor (sym long);
       }
 
-  checked : checkedOf g old new (length out) (length shelf) ≡ Done 0
-  unfolding judgedOf
-  checked = rw (x .settings, le-leb (length out) 16777216 (lent .short), eq-eqb (length shelf) (wordsFor (length out)) (lent .fits), x .old-taken .accepted, x .new-taken .accepted) refl
+  -- it is done with the samples of its plan, and holds what a render of the new score leaves
+  pub record Edited (o : Outcome) : Type 0 where
+    pub whole : Whole g new n o
+    pub counted : o .answer ≡ Done (countFor (planOf old new n) n)
 
   -- where nothing is made, nothing that is heard has changed
-  unchanged : Nothing ≡ planOf old new (length out) → soundOf g old n ≡ soundOf g new n → shelvedOf g old n ≡ shelvedOf g new n → Whole g new n (rerenderOf g old new out shelf)
+  unchanged : Nothing ≡ planOf old new (length out) → soundOf g old n ≡ soundOf g new n → shelvedOf g old n ≡ shelvedOf g new n → Edited (rerenderOf g old new out shelf)
   unfolding rerenderOf
-  unchanged q a b = rw (checked, ← q) (record { heard-is = a; stored-is = b })
+  unchanged q a b = rw (checked g old new x out shelf lent, ← q) (record { whole = record { heard-is = a; stored-is = b }; counted = rw (← ap (planOf old new) long, ← q) refl })
 
   shared-to : (p q : ℕ) → differenceOf old new ≡ At p → q ≤ p → Shared old new q (countBelow old q)
   shared-to p q e h = differing-shared old new (x .old-taken .records) (x .new-taken .records) p q (x .old-taken .accepted) (x .new-taken .accepted) e h
 
-  late : (p : ℕ) → differenceOf old new ≡ At p → n ≤ p → Whole g new n (rerenderOf g old new out shelf)
+  late : (p : ℕ) → differenceOf old new ≡ At p → n ≤ p → Edited (rerenderOf g old new out shelf)
   late p e h =
       let s : Shared old new n (countBelow old n) = shared-to p n e h in
       unchanged (plan-late old new (length out) p e (omega (arith, long)))
       (samples-shared old new n (countBelow old n) s g 0 (freshOf 0) n (omega arith))
       (ap shelfOf (entries-shared old new n (countBelow old n) s g 0 (freshOf 0) (entriesFor n) (λ i l. omega arith)))
 
-  early : (p : ℕ) → differenceOf old new ≡ At p → p < n → Whole g new n (rerenderOf g old new out shelf)
+  early : (p : ℕ) → differenceOf old new ≡ At p → p < n → Edited (rerenderOf g old new out shelf)
   early p e h =
       let m = p / mark in
       let there : m < entriesFor n = start-there n p h in
@@ -118,14 +120,17 @@ module _ (g : Settings) (old new : List ℕ) (x : Edit g old new) (n : ℕ) (sho
       shelf-front g old n m (omega arith) ∙ ap shelfOf (entries-shared old new (m * mark) (countBelow old (m * mark)) s g 0 (freshOf 0) m (λ i l. omega arith)) ∙ sym (shelf-front g new n m (omega arith)) in
       let d = demand-3 g old new x p e out shelf lent (omega (arith, long)) (entry-left g old n m there) in
       record {
-        heard-is = ap (λ (o : Outcome). o .heard) d ∙ rw (long, front) (take-append-drop (m * mark) (soundOf g new n));
-        stored-is = ap (λ (o : Outcome). o .stored) d ∙ rw (long, front-shelf) (take-append-drop (m * entryWords) (shelvedOf g new n));
+        whole = record {
+          heard-is = ap (λ (o : Outcome). o .heard) d ∙ rw (long, front) (take-append-drop (m * mark) (soundOf g new n));
+          stored-is = ap (λ (o : Outcome). o .stored) d ∙ rw (long, front-shelf) (take-append-drop (m * entryWords) (shelvedOf g new n));
+        };
+        counted = ap (λ (o : Outcome). o .answer) d ∙ rw (long, ← plan-from old new n p e h) refl;
       }
 
-  pub one-edit : Whole g new n (rerenderOf g old new out shelf)
+  pub one-edit : Edited (rerenderOf g old new out shelf)
   one-edit = go (differenceOf old new) refl
     where
-      go : (d : Difference) → differenceOf old new ≡ d → Whole g new n (rerenderOf g old new out shelf)
+      go : (d : Difference) → differenceOf old new ≡ d → Edited (rerenderOf g old new out shelf)
       go Equal e =
           let same : old ≡ new = equal-exactly old new (x .old-taken .records) (x .new-taken .records) (x .old-taken .accepted) (x .new-taken .accepted) .no-other e in
           unchanged (plan-equal old new (length out) e) (ap (λ (s : List ℕ). soundOf g s n) same) (ap (λ (s : List ℕ). shelvedOf g s n) same)
@@ -148,8 +153,17 @@ module _ (g : Settings) (ok : settingsOk g ≡ true) (w : T (fits binary64 (g .a
   all-edits old [] a b o h = h
   all-edits old (new ∷ rest) a b o h =
       let x : Edit g old new = record { settings = ok; sustain-fits = w; old-taken = a; new-taken = b .0 } in
-      let e : Whole g new n (rerenderOf g old new (o .heard) (o .stored)) = rw (h .heard-is, h .stored-is) (one-edit g old new x n short) in
+      let e : Whole g new n (rerenderOf g old new (o .heard) (o .stored)) = rw (h .heard-is, h .stored-is) (one-edit g old new x n short .whole) in
       all-edits new rest (b .0) (b .1) (rerenderOf g old new (o .heard) (o .stored)) e
+
+  -- every call is done, with the samples of its plan
+  pub all-answers : (old : List ℕ) (news : List (List ℕ)) → Taken old → AllTaken news → (o : Outcome) → Whole g old n o → answersFrom g old news o ≡ allCounted old news n
+  unfolding answersFrom allCounted
+  all-answers old [] a b o h = refl
+  all-answers old (new ∷ rest) a b o h =
+      let x : Edit g old new = record { settings = ok; sustain-fits = w; old-taken = a; new-taken = b .0 } in
+      let r = one-edit g old new x n short in
+      rw (h .heard-is, h .stored-is, r .counted) (ap (λ (l : List Answer). Done (countFor (planOf old new n) n) ∷ l) (all-answers new rest (b .0) (b .1) (rerenderOf g old new (soundOf g old n) (shelvedOf g old n)) (r .whole)))
 
   -- the same in terms of renders: one of the first score, then the edits, and one of the last score, each of n samples
   module _ (out out′ : List Float) (shelf shelf′ : List ℕ) (z : Lent out shelf) (z′ : Lent out′ shelf′) (long : length out ≡ n) (long′ : length out′ ≡ n) where

@@ -2,8 +2,10 @@
 -- it, into the same output and shelf. Definitions only.
 use mathlib.Core.List.{List, [], _∷_}
 use Prim.Native.Nat.{ℕ}
+use Rattle.answers.specs.declared.Answer.{Answer}
+use Rattle.answers.specs.declared.Answer.the-variants.{Done}
 use Rattle.state.specs.declared.Settings.{Settings}
-use Rattle.rerender.specs.Rerender.{Outcome, rerenderOf}
+use Rattle.rerender.specs.Rerender.{Outcome, planOf, countFor, rerenderOf}
 
 -- from what stands in the output and the shelf, and the score that it was made of
 unfoldable pub editsFrom : Settings → List ℕ → List (List ℕ) → Outcome → Outcome
@@ -14,3 +16,13 @@ editsFrom g old (new ∷ rest) o = editsFrom g new rest (rerenderOf g old new (o
 unfoldable pub lastScore : List ℕ → List (List ℕ) → List ℕ
 lastScore old [] = old
 lastScore old (new ∷ rest) = lastScore new rest
+
+-- what each call answers
+unfoldable pub answersFrom : Settings → List ℕ → List (List ℕ) → Outcome → List Answer
+answersFrom g old [] o = []
+answersFrom g old (new ∷ rest) o = let r = rerenderOf g old new (o .heard) (o .stored) in r .answer ∷ answersFrom g new rest r
+
+-- each done, with the samples of its plan, in an output of n
+unfoldable pub allCounted : List ℕ → List (List ℕ) → ℕ → List Answer
+allCounted old [] n = []
+allCounted old (new ∷ rest) n = Done (countFor (planOf old new n) n) ∷ allCounted new rest n

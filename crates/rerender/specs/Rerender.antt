@@ -35,7 +35,7 @@ pub record Outcome : Type 0 where
 abbrev pub leaves : Answer → List Float → List ℕ → Outcome
 leaves answer out shelf = record { answer = answer; heard = out; stored = shelf }
 
--- ---- the checks: 6, 7, the old score, the new one
+-- ---- the checks: 6, 7, the old score, the new one; done with 0 means that all are passed
 abbrev pub newScored : Verdict → Answer → Answer
 newScored (Accepted n) rest = rest
 newScored (Faulty fault) rest = Refused (NewScore fault)
@@ -91,3 +91,8 @@ afterChecks (Refused why) g new plan out shelf = leaves (Refused why) out shelf
 
 unfoldable pub rerenderOf : Settings → List ℕ → List ℕ → List Float → List ℕ → Outcome
 rerenderOf g old new out shelf = afterChecks (checkedOf g old new (length out) (length shelf)) g new (planOf old new (length out)) out shelf
+
+-- how many samples a plan makes, of an output of n
+abbrev pub countFor : Plan → ℕ → ℕ
+countFor Nothing n = 0
+countFor (From m) n = endOf n - m * mark

@@ -17,7 +17,8 @@ use shelf::MARK;
 use spans::Place;
 use state::Settings;
 
-// Where a re-render starts: nowhere, where nothing that is heard has changed, or at a mark.
+// Where a re-render starts: nowhere, where the scores are equal or first differ at or past the end, or at the mark of a
+// number, whose sample is 4,096 times that.
 pub enum Plan {
     Nothing,
     From(usize),

@@ -11,7 +11,8 @@ use spans::Place;
 use state::Settings;
 use state::State;
 
-// Plays the samples from a mark on, and keeps the entries from that mark on.
+// Plays the samples from a mark on, and keeps the entries from that mark on. A mark is given by its number; its sample is
+// 4,096 times that. Nothing is left to do at a mark at or past the end.
 pub fn play_on(
     settings: Settings,
     score: &[u8],

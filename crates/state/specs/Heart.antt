@@ -43,7 +43,7 @@ unfolding stateFrom
 samplesFrom g s n v zero = []
 samplesFrom g s n v (suc k) = samplesFrom g s n v k ++ (sampleOf g (begun s (n + k) (stateFrom g s n v k)) ∷ [])
 
--- the states at marks m to m + k - 1, each before its sample 4096 * m is begun, from a state v at mark m: what the shelf keeps
+-- the states at marks m to m + k - 1, from a state v at mark m: what the shelf keeps. The state at mark i is the one before sample 4096 * i is begun
 unfoldable pub entriesFrom : Settings → List ℕ → ℕ → State → ℕ → List State
 unfolding stateFrom
 entriesFrom g s m v zero = []
