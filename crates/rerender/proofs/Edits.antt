@@ -163,7 +163,10 @@ module _ (g : Settings) (ok : settingsOk g ≡ true) (w : T (fits binary64 (g .a
   all-answers old (new ∷ rest) a b o h =
       let x : Edit g old new = record { settings = ok; sustain-fits = w; old-taken = a; new-taken = b .0 } in
       let r = one-edit g old new x n short in
-      rw (h .heard-is, h .stored-is, r .counted) (ap (λ (l : List Answer). Done (countFor (planOf old new n) n) ∷ l) (all-answers new rest (b .0) (b .1) (rerenderOf g old new (soundOf g old n) (shelvedOf g old n)) (r .whole)))
+      let next = rerenderOf g old new (soundOf g old n) (shelvedOf g old n) in
+      rw (h .heard-is, h .stored-is)
+      (ap (λ (q : Answer). q ∷ answersFrom g new rest next) (r .counted)
+      ∙ ap (λ (l : List Answer). Done (countFor (planOf old new n) n) ∷ l) (all-answers new rest (b .0) (b .1) next (r .whole)))
 
   -- the same in terms of renders: one of the first score, then the edits, and one of the last score, each of n samples
   module _ (out out′ : List Float) (shelf shelf′ : List ℕ) (z : Lent out shelf) (z′ : Lent out′ shelf′) (long : length out ≡ n) (long′ : length out′ ≡ n) where
