@@ -41,10 +41,10 @@ const STAGES: [EnvelopeStage; 5] = [Idle, Attack, Decay, Sustain, Release];
 pub const RATES: [u64; 5] = [8000, 16384, 44100, 48000, 192000];
 
 /// Attack, decay, sustain, release.
-type Settings = [f64; 4];
+pub type Settings = [f64; 4];
 
 /// Stage, level, stage_time, release_level.
-type State = (EnvelopeStage, f64, f64, f64);
+pub type State = (EnvelopeStage, f64, f64, f64);
 
 const FRESH: State = (Idle, 0.0, 0.0, 0.0);
 
@@ -58,7 +58,7 @@ fn given(op: u64, settings: Settings, rate: u64, length: u64, state: State) -> V
     row
 }
 
-fn state_words((stage, level, stage_time, release_level): State) -> [u64; 4] {
+pub fn state_words((stage, level, stage_time, release_level): State) -> [u64; 4] {
     let place = STAGES.iter().position(|&one| one == stage).unwrap();
     [place as u64, state_bits(level), state_bits(stage_time), state_bits(release_level)]
 }
@@ -76,15 +76,16 @@ fn settings_of(row: &[u64]) -> Settings {
     [1, 2, 3, 4].map(|at| f64::from_bits(row[at]))
 }
 
-fn state_of(row: &[u64]) -> State {
-    let [level, stage_time, release_level] = [8, 9, 10].map(|at| f64::from_bits(row[at]));
-    (STAGES[row[7] as usize], level, stage_time, release_level)
+/// The state that four words are.
+pub fn state_of(words: &[u64]) -> State {
+    let [level, stage_time, release_level] = [1, 2, 3].map(|at| f64::from_bits(words[at]));
+    (STAGES[words[0] as usize], level, stage_time, release_level)
 }
 
 /// 01's refusals: settings and rate, which only `process` reads, then the state.
 fn refusal(row: &[u64]) -> Option<u64> {
     let usable = settings_of(row).iter().all(|x| !x.is_nan()) && (8000..=192000).contains(&row[5]);
-    let (_, level, stage_time, release_level) = state_of(row);
+    let (_, level, stage_time, release_level) = state_of(&row[7..11]);
     let unit = 0.0..=1.0;
     let sound = unit.contains(&level) && unit.contains(&release_level) && (0.0..=11.0).contains(&stage_time);
     match row[0] {
@@ -111,7 +112,7 @@ fn answer(row: &[u64]) -> Vec<u64> {
 /// The opened copy from the given state, which the untouched one reaches along runs only.
 fn ask(row: &[u64], output: &mut [f64]) -> [u64; 4] {
     let mut block = opened_block(settings_of(row));
-    let (stage, level, stage_time, release_level) = state_of(row);
+    let (stage, level, stage_time, release_level) = state_of(&row[7..11]);
     block.set_fields(stage, level, stage_time, release_level);
     match row[0] {
         NOTE_ON => block.note_on(),
@@ -126,7 +127,7 @@ fn ask(row: &[u64], output: &mut [f64]) -> [u64; 4] {
     state_words(block.fields())
 }
 
-fn opened_block([attack, decay, sustain, release]: Settings) -> opened::envelope::EnvelopeBlock<f64> {
+pub fn opened_block([attack, decay, sustain, release]: Settings) -> opened::envelope::EnvelopeBlock<f64> {
     opened::envelope::EnvelopeBlock::new(attack, decay, sustain, release)
 }
 
@@ -372,7 +373,7 @@ fn refused(chance: &mut Chance) -> Vec<u64> {
     }
 }
 
-fn random_settings(chance: &mut Chance) -> Settings {
+pub fn random_settings(chance: &mut Chance) -> Settings {
     let sustain = match chance.below(4) {
         0 => chance.pick(&sustains()),
         1 => chance.pick(&[0.0, -0.0, 0.1, 0.3, near(1.0, -1), 1.0]),

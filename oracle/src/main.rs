@@ -19,6 +19,10 @@ mod patterns;
 mod phase_rows;
 mod pitch_rows;
 mod polyblep_rows;
+mod render;
+mod render_edges;
+mod render_random;
+mod render_rows;
 mod rows;
 mod sine_rows;
 mod voice_rows;
@@ -27,7 +31,7 @@ mod waveform_rows;
 use std::process::exit;
 
 /// One entry a part of the voice; a later part is a module and a line here.
-const PARTS: [rows::Part; 8] = [
+const PARTS: [rows::Part; 9] = [
     phase_rows::PART,
     polyblep_rows::PART,
     pitch_rows::PART,
@@ -36,6 +40,7 @@ const PARTS: [rows::Part; 8] = [
     waveform_rows::PART,
     voice_rows::PART,
     block_rows::PART,
+    render_rows::PART,
 ];
 
 const USAGE: &str = "\

@@ -9,7 +9,8 @@ use crate::chance::Chance;
 pub struct Part {
     pub name: &'static str,
     /// Bytes in a word (4 or 8), words in a row, which word says how many more there are, if any, and which holds the
-    /// answer's number, if any. The first word is the op, unless there is only one.
+    /// answer's number, if any: the first word of the answer. Given words that are more than stand before it come after
+    /// the row's first words. The first word is the op, unless there is only one.
     pub word: usize,
     pub words: usize,
     pub more_at: Option<usize>,
@@ -50,7 +51,9 @@ fn put(part: &Part, given: &[u64], out: &mut impl Write) {
     let answer = (part.answer)(given);
     let more = part.more_at.map_or(0, |at| given[at] as usize);
     assert_eq!(given.len() + answer.len(), part.words + more);
-    for word in given.iter().chain(&answer) {
+    let (head, score) = given.split_at(part.number_at.unwrap_or(given.len()));
+    let (numbers, rest) = answer.split_at(part.words - head.len());
+    for word in [head, numbers, score, rest].into_iter().flatten() {
         assert!(part.word == 8 || *word <= u32::MAX as u64);
         out.write_all(&word.to_le_bytes()[..part.word]).expect("standard output took not all");
     }

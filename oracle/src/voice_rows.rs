@@ -24,9 +24,9 @@ pub const PART: Part = Part {
     answer,
 };
 
-const NOTE_ON: u64 = 0;
-const NOTE_OFF: u64 = 1;
-const RESET: u64 = 2;
+pub const NOTE_ON: u64 = 0;
+pub const NOTE_OFF: u64 = 1;
+pub const RESET: u64 = 2;
 const IS_ACTIVE: u64 = 3;
 const HELD_NOTE_COUNT: u64 = 4;
 const NEW: u64 = 5;
@@ -34,19 +34,19 @@ const NEW: u64 = 5;
 /// The ops that take a state.
 const ON_A_STATE: [u64; 5] = [NOTE_ON, NOTE_OFF, RESET, IS_ACTIVE, HELD_NOTE_COUNT];
 
-const NONE: u32 = 256;
+pub const NONE: u32 = 256;
 const TINY: f32 = f32::from_bits(1);
 const HIGHEST: f32 = 12544.0;
 
 #[derive(Clone, Copy)]
-struct State {
-    active: u32,
-    gate: bool,
-    count: u32,
-    notes: [u8; 16],
-    velocities: [u8; 16],
-    velocity: f32,
-    frequency: f32,
+pub struct State {
+    pub active: u32,
+    pub gate: bool,
+    pub count: u32,
+    pub notes: [u8; 16],
+    pub velocities: [u8; 16],
+    pub velocity: f32,
+    pub frequency: f32,
 }
 
 /// Silent and new.
@@ -122,18 +122,18 @@ fn answer(row: &[u64]) -> Vec<u64> {
 }
 
 /// The untouched copy and the opened one: the same calls of both.
-struct Pair {
+pub struct Pair {
     plain: VoiceState,
     open: opened::voice::VoiceState,
 }
 
 impl Pair {
-    fn new() -> Self {
+    pub fn new() -> Self {
         Self { plain: VoiceState::new(), open: opened::voice::VoiceState::new() }
     }
 
     /// From a state within the limits; the untouched copy gets its held keys by striking them.
-    fn at(state: State) -> Self {
+    pub fn at(state: State) -> Self {
         let mut pair = Self::new();
         let held: Vec<(u8, u8)> = state.notes.into_iter().zip(state.velocities).take(state.count as usize).collect();
         held.iter().for_each(|&(note, velocity)| pair.plain.note_on(note, velocity));
@@ -148,7 +148,7 @@ impl Pair {
     }
 
     /// What both answer to a call, 0 where it answers nothing.
-    fn call(&mut self, op: u64, note: u8, velocity: u8) -> u64 {
+    pub fn call(&mut self, op: u64, note: u8, velocity: u8) -> u64 {
         let Self { plain, open } = self;
         match op {
             NOTE_ON => (plain.note_on(note, velocity), open.note_on(note, velocity)),
@@ -166,7 +166,7 @@ impl Pair {
         value
     }
 
-    fn state(&self) -> State {
+    pub fn state(&self) -> State {
         let held = self.open.held();
         holding(held, self.open.active_note, self.open.gate, self.open.velocity, self.open.frequency)
     }

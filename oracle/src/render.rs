@@ -1,0 +1,269 @@
+//! The original driven span by span, as 01 says under "Making sample n": its voice, its envelope, and its oscillator.
+//!
+//! `Player` goes on from any state within the limits and shows its states: it has the opened copies, and makes a span's
+//! values one by one, since the original's block has one duty only. `untouched` has the untouched copies alone, from
+//! sample 0 on, and calls whole blocks. Where both can be asked they are compared.
+
+use crate::block::Block;
+use crate::blocks::generators::oscillator::OscillatorBlock;
+use crate::blocks::modulators::envelope::EnvelopeBlock;
+use crate::check_copies::run;
+use crate::envelope_rows::{self, opened_block};
+use crate::math::Real;
+use crate::opened;
+use crate::random::XorShiftRng;
+use crate::voice::VoiceState;
+use crate::voice_rows::{self, Pair, NOTE_OFF, NOTE_ON, RESET};
+use crate::waveform::{generate_waveform_sample, DEFAULT_DUTY_CYCLE};
+use crate::waveform_rows::{waveform, PULSE, TAU};
+
+/// The samples from one reduction to the next where no record stands, and from one shelf entry to the next.
+const BLOCK: u64 = 64;
+pub const MARK: u64 = 4096;
+
+/// A record's kinds.
+const KIND_ON: u8 = 1;
+const KIND_OFF: u8 = 2;
+pub const KIND_RESET: u8 = 3;
+
+/// A shape and its duty.
+pub type Wave = (u64, f64);
+
+#[derive(Clone, Copy)]
+pub struct Settings {
+    pub rate: u64,
+    pub wave: Wave,
+    /// Attack, decay, sustain, release.
+    pub adsr: [f64; 4],
+}
+
+impl Settings {
+    /// Whether the original's block has this waveform.
+    fn is_a_block(self) -> bool {
+        self.wave.0 != PULSE || self.wave.1 == DEFAULT_DUTY_CYCLE
+    }
+}
+
+#[derive(Clone, Copy)]
+pub struct Record {
+    pub position: u64,
+    pub kind: u8,
+    pub note: u8,
+    pub velocity: u8,
+}
+
+pub fn on(position: u64, note: u8, velocity: u8) -> Record {
+    Record { position, kind: KIND_ON, note, velocity }
+}
+
+/// How fast the key went up is in the record, and nobody hears it.
+pub fn off(position: u64, note: u8) -> Record {
+    Record { position, kind: KIND_OFF, note, velocity: 64 }
+}
+
+pub fn reset(position: u64) -> Record {
+    Record { position, kind: KIND_RESET, note: 0, velocity: 0 }
+}
+
+/// The twelve words of a state, in a shelf entry's order.
+pub type Words = [u64; 12];
+
+/// What was played: each sample's bits, the bits of level times velocity, and the entries passed.
+#[derive(Default)]
+pub struct Played {
+    pub samples: Vec<u64>,
+    pub scales: Vec<u64>,
+    pub shelf: Vec<u64>,
+}
+
+pub struct Player {
+    settings: Settings,
+    phase: f64,
+    envelope: opened::envelope::EnvelopeBlock<f64>,
+    voice: Pair,
+    /// As the state has them; the voice's own from its first note on.
+    frequency: f64,
+    velocity: f64,
+    acted: u64,
+}
+
+impl Player {
+    pub fn fresh(settings: Settings) -> Self {
+        let envelope = opened_block(settings.adsr);
+        let mut player =
+            Self { settings, phase: 0.0, envelope, voice: Pair::new(), frequency: 0.0, velocity: 0.0, acted: 0 };
+        player.hear();
+        player
+    }
+
+    /// From a state within the limits.
+    pub fn at(settings: Settings, words: &Words) -> Self {
+        let [phase, frequency, velocity] = [0, 6, 7].map(|at| f64::from_bits(words[at]));
+        let mut envelope = opened_block(settings.adsr);
+        let (stage, level, stage_time, release_level) = envelope_rows::state_of(&words[1..5]);
+        envelope.set_fields(stage, level, stage_time, release_level);
+        let voice = Pair::at(keys_of(words));
+        Self { settings, phase, envelope, voice, frequency, velocity, acted: words[5] >> 16 }
+    }
+
+    pub fn words(&self) -> Words {
+        let keys = self.voice.state();
+        let [stage, level, stage_time, release_level] = envelope_rows::state_words(self.envelope.fields());
+        let [phase, frequency, velocity] = [self.phase, self.frequency, self.velocity].map(f64::to_bits);
+        let [a, b, c, d] = [0, 4, 8, 12].map(|at| four_pairs(&keys, at));
+        let packed = packed_word(&keys, self.acted);
+        [phase, stage, level, stage_time, release_level, packed, frequency, velocity, a, b, c, d]
+    }
+
+    /// The samples from a position on. Nothing is reduced at their end.
+    pub fn play(&mut self, score: &[Record], position: u64, length: u64) -> Played {
+        let (mut played, mut n) = (Played::default(), position);
+        while n < position + length {
+            if n % MARK == 0 {
+                played.shelf.extend(self.words());
+            }
+            if n % BLOCK == 0 || self.next(score).is_some_and(|record| record.position == n) {
+                self.phase = Real::rem_euclid(self.phase, TAU);
+            }
+            while let Some(record) = self.next(score).filter(|record| record.position == n) {
+                self.act(record);
+            }
+            let end = span_end(n, self.next(score), position + length);
+            self.sound((end - n) as usize, &mut played);
+            n = end;
+        }
+        played
+    }
+
+    /// The first record that has not acted.
+    fn next(&self, score: &[Record]) -> Option<Record> {
+        score.get(self.acted as usize).copied()
+    }
+
+    fn act(&mut self, record: Record) {
+        self.acted += 1;
+        match record.kind {
+            KIND_ON => {
+                self.voice.call(NOTE_ON, record.note, record.velocity);
+                self.envelope.note_on();
+                self.hear();
+            }
+            KIND_OFF => {
+                let sounded = self.voice.state().active == record.note as u32;
+                if self.voice.call(NOTE_OFF, record.note, 0) == 1 {
+                    self.envelope.note_off();
+                } else if sounded {
+                    self.hear();
+                }
+            }
+            _ => {
+                self.voice.call(RESET, 0, 0);
+                self.envelope.reset();
+                self.phase = 0.0;
+                self.hear();
+            }
+        }
+    }
+
+    /// The voice's frequency and velocity, widened.
+    fn hear(&mut self) {
+        let keys = self.voice.state();
+        (self.frequency, self.velocity) = (keys.frequency as f64, keys.velocity as f64);
+    }
+
+    /// A span, or the part of one that is asked for.
+    fn sound(&mut self, length: usize, played: &mut Played) {
+        let rate = self.settings.rate as f64;
+        let values = self.values(length);
+        let levels = run(&mut self.envelope, rate, length).into_iter().map(f64::from_bits);
+        for (value, level) in values.into_iter().zip(levels) {
+            played.samples.push((value * level * self.velocity).to_bits());
+            played.scales.push((level * self.velocity).to_bits());
+        }
+    }
+
+    /// The oscillator's values one by one; the block agrees, but reduces the phase after them.
+    fn values(&mut self, length: usize) -> Vec<f64> {
+        let Settings { rate, wave: (shape, duty), .. } = self.settings;
+        let (rate, shape) = (rate as f64, waveform(shape));
+        let mut block = opened::oscillator::OscillatorBlock::<f64>::new(self.frequency, shape, None);
+        block.set_opened_phase(self.phase);
+        let (increment, rng) = (self.frequency / rate * TAU, &mut XorShiftRng::new(0));
+        let mut values = Vec::new();
+        for _ in 0..length {
+            values.push(generate_waveform_sample(shape, self.phase, increment, duty, rng));
+            self.phase += increment;
+        }
+        if self.settings.is_a_block() {
+            let same = run(&mut block, rate, length);
+            assert!(same.into_iter().eq(values.iter().map(|value| value.to_bits())), "the block parts ways");
+            assert_eq!(block.opened_phase().to_bits(), Real::rem_euclid(self.phase, TAU).to_bits());
+        }
+        values
+    }
+}
+
+/// Where the span ends that n is in: at the next multiple of 64, at the next record, or where no more is asked for.
+fn span_end(n: u64, next: Option<Record>, asked: u64) -> u64 {
+    let block = (n / BLOCK + 1) * BLOCK;
+    next.map_or(block, |record| record.position.min(block)).min(asked)
+}
+
+/// The bits of the first samples of a score, by whole blocks of the untouched copies; none for a waveform that their
+/// block does not have.
+pub fn untouched(settings: Settings, score: &[Record], length: u64) -> Option<Vec<u64>> {
+    if !settings.is_a_block() {
+        return None;
+    }
+    let [attack, decay, sustain, release] = settings.adsr;
+    let (rate, mut voice) = (settings.rate as f64, VoiceState::new());
+    let mut envelope = EnvelopeBlock::<f64>::new(attack, decay, sustain, release);
+    let mut oscillator = OscillatorBlock::<f64>::new(440.0, waveform(settings.wave.0), None);
+    let (mut samples, mut rest) = (Vec::new(), score);
+    while (samples.len() as u64) < length {
+        let n = samples.len() as u64;
+        while let Some((record, after)) = rest.split_first().filter(|(record, _)| record.position == n) {
+            match record.kind {
+                KIND_ON => (voice.note_on(record.note, record.velocity), envelope.note_on()).1,
+                KIND_OFF if voice.note_off(record.note) => envelope.note_off(),
+                KIND_OFF => {}
+                _ => (voice.reset(), envelope.reset(), oscillator.reset()).2,
+            }
+            rest = after;
+        }
+        let span = (span_end(n, rest.first().copied(), length) - n) as usize;
+        oscillator.set_midi_frequency(voice.frequency as f64);
+        let values = run(&mut oscillator, rate, span).into_iter().map(f64::from_bits);
+        let levels = run(&mut envelope, rate, span).into_iter().map(f64::from_bits);
+        samples.extend(values.zip(levels).map(|(value, level)| (value * level * voice.velocity as f64).to_bits()));
+    }
+    Some(samples)
+}
+
+// A state's keys as words.
+
+fn packed_word(keys: &voice_rows::State, acted: u64) -> u64 {
+    let active = keys.active.min(255) as u64;
+    active + 256 * keys.gate as u64 + 512 * keys.count as u64 + 65536 * acted
+}
+
+fn four_pairs(keys: &voice_rows::State, at: usize) -> u64 {
+    let bytes = std::array::from_fn(|i| if i % 2 == 0 { keys.notes[at + i / 2] } else { keys.velocities[at + i / 2] });
+    u64::from_le_bytes(bytes)
+}
+
+/// The keys of a state within the limits, with the frequency and velocity that the voice has room for.
+fn keys_of(words: &Words) -> voice_rows::State {
+    let active = words[5] as u32 & 255;
+    let byte = |at: usize| words[8 + at / 8].to_le_bytes()[at % 8];
+    let [frequency, velocity] = [6, 7].map(|at| f64::from_bits(words[at]) as f32);
+    voice_rows::State {
+        active: if active == 255 { voice_rows::NONE } else { active },
+        gate: words[5] >> 8 & 1 == 1,
+        count: words[5] as u32 >> 9 & 127,
+        notes: std::array::from_fn(|i| byte(2 * i)),
+        velocities: std::array::from_fn(|i| byte(2 * i + 1)),
+        velocity,
+        frequency,
+    }
+}
