@@ -1,2 +1,1 @@
 pub mod Rerender
-pub mod Edits

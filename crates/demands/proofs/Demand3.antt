@@ -38,10 +38,10 @@ use Rattle.state.proofs.Acted.{acted-fresh}
 use Rattle.render.specs.Order.{judgedOf}
 use Rattle.render.specs.Calls as render
 use Rattle.render.specs.Calls.{renderOf}
-use Rattle.render.proofs.Honest.{honest}
+use Rattle.demands.proofs.Honest.{honest}
 use Rattle.rerender.specs.declared.Plan.the-variants.{Nothing, From}
 use Rattle.rerender.specs.Rerender.{Outcome, leaves, checkedOf, planOf, entryAt, startOf, isStart, madeFrom, fromOf, rerenderOf}
 use Rattle.rerender.proofs.Cases.{plan-equal, plan-late, plan-from}
 
 -- what a render of s leaves, of n samples
 abbrev pub soundOf : Settings → List ℕ → ℕ → List Float

@@ -17,9 +17,9 @@ use Rattle.score.specs.Score.{markRight, kindRight, fieldsRight, inOrder, verdi
 use Rattle.score.specs.Apart.{sameTo, firstFrom, differenceOf}
 use Rattle.shelf.specs.Shelf.{wordsFor, entryOf}
 use Rattle.shelf.proofs.There.{entry-length}
-use Rattle.render.proofs.ChainExamples.{plain, plain-ok, begins, begins-accepted}
+use Rattle.demands.proofs.ChainExamples.{plain, plain-ok, begins, begins-accepted}
 use Rattle.rerender.specs.Rerender.{leaves, entryAt, rerenderOf}
-use Rattle.rerender.proofs.Demand3.{soundOf, shelvedOf, atMark, Taken, Edit, Lent, demand-3}
+use Rattle.demands.proofs.Demand3.{soundOf, shelvedOf, atMark, Taken, Edit, Lent, demand-3}
 
 -- the off at 5,000
 abbrev pub edited : List ℕ

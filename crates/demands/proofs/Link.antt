@@ -29,10 +29,10 @@ use Rattle.state.specs.Heart.{stateFrom, samplesFrom}
 use Rattle.state.proofs.RunsOn.{state-on}
 use Rattle.state.proofs.Depends.{Shared, state-shared, samples-shared, grown-shared}
 use Rattle.state.proofs.Acted.{acted-fresh}
 use Rattle.render.specs.Order.{most, unless}
 use Rattle.render.specs.Calls.{says, PartOutcome, leavesPart, isStretch, isGiven, continueAnswer, continuedOf, continueOf}
-use Rattle.render.specs.Chain.{Step, ChainOutcome, andThen, chainFrom, AllDone, Grown, NoneBelow}
+use Rattle.demands.specs.Chain.{Step, ChainOutcome, andThen, chainFrom, AllDone, Grown, NoneBelow}
 use Rattle.render.proofs.Judging.{by-score, unless-no, passed, all-passed}
 
 -- ---- one call
 -- what a call has passed that answers 0

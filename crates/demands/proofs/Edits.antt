@@ -36,11 +36,11 @@ use Rattle.state.proofs.Depends.{Shared, samples-shared, entries-shared, differ
 use Rattle.render.specs.Order.{judgedOf}
 use Rattle.render.specs.Calls as render
 use Rattle.render.specs.Calls.{renderOf}
 use Rattle.rerender.specs.declared.Plan.the-variants.{Nothing}
 use Rattle.rerender.specs.Rerender.{Outcome, leaves, checkedOf, planOf, countFor, rerenderOf}
-use Rattle.rerender.specs.Edits.{editsFrom, lastScore, answersFrom, allCounted}
+use Rattle.demands.specs.Edits.{editsFrom, lastScore, answersFrom, allCounted}
 use Rattle.rerender.proofs.Cases.{plan-equal, plan-late, plan-from}
-use Rattle.rerender.proofs.Demand3.{soundOf, shelvedOf, atMark, Taken, Edit, Lent, entry-left, rendered, checked, demand-3}
+use Rattle.demands.proofs.Demand3.{soundOf, shelvedOf, atMark, Taken, Edit, Lent, entry-left, rendered, checked, demand-3}
 
 abbrev Rendering : Type 0
 Rendering = render.Outcome

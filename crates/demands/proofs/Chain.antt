@@ -28,11 +28,11 @@ use Rattle.state.specs.Heart.{stateFrom, samplesFrom}
 use Rattle.state.proofs.RunsOn.{state-on, samples-on}
 use Rattle.state.proofs.Acted.{acted-fresh, below-all}
 use Rattle.state.proofs.Stays.{fresh-kept}
 use Rattle.render.specs.Order.{most, isRoom}
 use Rattle.render.specs.Calls.{says, renderAnswer, renderedOf, renderOf, leavesPart}
-use Rattle.render.specs.Chain.{Step, ChainOutcome, andThen, chainFrom, samplesOf, lastOf, AllDone, Grows, AllAccepted, NoneBelow, NoneAddedBelow}
+use Rattle.demands.specs.Chain.{Step, ChainOutcome, andThen, chainFrom, samplesOf, lastOf, AllDone, Grows, AllAccepted, NoneBelow, NoneAddedBelow}
 use Rattle.render.proofs.Judging.{by-score}
-use Rattle.render.proofs.Link.{PassedCall, call-passed, call-done, Agrees, Reached, acted-is, same-count, none-below, agrees, goes-on, after, onward, chain-step, first-done, rest-done, all-done}
+use Rattle.demands.proofs.Link.{PassedCall, call-passed, call-done, Agrees, Reached, acted-is, same-count, none-below, agrees, goes-on, after, onward, chain-step, first-done, rest-done, all-done}
 
 -- ---- a chain, from where a render of s has come to
 -- it ends as a render of l would that goes on from v at p, and l makes the same as s up to there
