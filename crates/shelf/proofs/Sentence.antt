@@ -18,7 +18,7 @@ use Rattle.envelope.proofs.Inside.{is-inside, accepted}
 use Rattle.voice.specs.declared.keys.ActiveNote.the-variants.{Silent, Note}
 use Rattle.voice.specs.Keys.{isFilled, isSound, isKeys}
 use Rattle.voice.proofs.Limits.{keys-sound, keys-few}
-use Rattle.state.specs.Limits.{isTurn, isPitch, isState}
+use Rattle.state.specs.Limits.{isRadians, isPitch, isState}
 use Rattle.state.proofs.Limits.{from-true, in-kept, kept-in, state-in, in-state}
 use Rattle.shelf.specs.Shelf.{entryWords, word, float, activeOf, notesOf, velocitiesOf, keysIn, stateOf, isEntry}
 use Rattle.shelf.proofs.Digits.{beyond}
@@ -33,7 +33,7 @@ pub record Sounding (b g : ℕ) : Type 0 where
 
 pub record Sentence (ws : List ℕ) : Type 0 where
   pub twelve-words : length ws ≡ 12
-  pub phase-in : T (isTurn (float ws 0))
+  pub phase-in : T (isRadians (float ws 0))
   pub stage-in : word ws 1 ≤ 4
   pub level-in : T (within naught one (float ws 2))
   pub time-in : T (within naught eleven (float ws 3))

@@ -70,7 +70,7 @@ lift-sixteen v k NoChange h = h
 pub act-sixteen : (v : State) (e : Event) → Sixteen (v .keys) → Sixteen (actOf v e .keys)
 unfolding actOf
 act-sixteen v (event.Strike n l) h = pressed-sixteen (v .keys) n h l
-act-sixteen v (event.Release n) h = let l = liftedOf (v .keys) n in lift-sixteen v (l .keys) (l .off) (lifted-sixteen (v .keys) n h)
+act-sixteen v (event.Lift n) h = let l = liftedOf (v .keys) n in lift-sixteen v (l .keys) (l .off) (lifted-sixteen (v .keys) n h)
 act-sixteen v event.Reset h = fresh-sixteen
 
 pub advance-sixteen : (g : Settings) (v : State) → Sixteen (v .keys) → Sixteen (advanceOf g v .keys)

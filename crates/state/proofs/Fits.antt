@@ -66,7 +66,7 @@ lifted-fits v k NoChange f = record { phase-fits = f .phase-fits; frequency-fits
 pub act-fits : (v : State) (e : Event) → Fitting v → Fitting (actOf v e)
 unfolding actOf
 act-fits v (event.Strike n l) f = record { phase-fits = f .phase-fits; frequency-fits = pitch-fits n; velocity-fits = loudness-fits l; envelope-held = triggered-holds (v .envelope) (f .envelope-held) }
-act-fits v (event.Release n) f = let l = liftedOf (v .keys) n in lifted-fits v (l .keys) (l .off) f
+act-fits v (event.Lift n) f = let l = liftedOf (v .keys) n in lifted-fits v (l .keys) (l .off) f
 act-fits v event.Reset f = fresh-fits _
 
 pub advance-fits : (g : Settings) (v : State) → T (fits binary64 (g .adsr .sustain)) → Fitting v → Fitting (advanceOf g v)

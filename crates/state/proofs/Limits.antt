@@ -39,7 +39,7 @@ use Rattle.state.specs.declared.State.{State}
 use Rattle.state.specs.declared.Event.{Event}
 use Rattle.state.specs.declared.Event.the-variants as event
 use Rattle.state.specs.State.{freshOf, eventFor, eventOf, liftedBy, actOf}
-use Rattle.state.specs.Limits.{thousand, highest, isTurn, isPitch, inLimits, mostActed, isState}
+use Rattle.state.specs.Limits.{thousand, highest, isRadians, isPitch, inLimits, mostActed, isState}
 
 -- a test that passes is true, and the other way
 pub is-true : (b : Bool) → T b → b ≡ true
@@ -56,15 +56,16 @@ pub record Kept (P : Float → Type 0) (v : State) : Type 0 where
   pub velocity-in : T (within naught one (v .velocity))
   pub keys-in : T (isKeys (v .keys))
 
-abbrev pub Turn : Float → Type 0
-Turn x = T (isTurn x)
+-- a phase within its limits
+abbrev pub PhaseIn : Float → Type 0
+PhaseIn x = T (isRadians x)
 
 pub weaken : (P Q : Float → Type 0) (v : State) → (P (v .phase .0) → Q (v .phase .0)) → Kept P v → Kept Q v
 weaken P Q v f k = record { phase-in = f (k .phase-in); envelope-in = k .envelope-in; pitch-in = k .pitch-in; velocity-in = k .velocity-in; keys-in = k .keys-in }
 
 module _ (v : State) where
-  abbrev turn : Bool
-  turn = isTurn (v .phase .0)
+  abbrev phased : Bool
+  phased = isRadians (v .phase .0)
 
   abbrev shaped : Bool
   shaped = isEnvelope (v .envelope)
@@ -79,27 +80,27 @@ module _ (v : State) where
   keyed = isKeys (v .keys)
 
   -- the limits are these parts
-  pub in-kept : inLimits v ≡ true → Kept Turn v
+  pub in-kept : inLimits v ≡ true → Kept PhaseIn v
   unfolding inLimits
   in-kept e =
       let h = from-true (inLimits v) e in
-      let h4 = and-l (turn && shaped && pitched && loud) keyed h in
-      let h3 = and-l (turn && shaped && pitched) loud h4 in
-      let h2 = and-l (turn && shaped) pitched h3 in
+      let h4 = and-l (phased && shaped && pitched && loud) keyed h in
+      let h3 = and-l (phased && shaped && pitched) loud h4 in
+      let h2 = and-l (phased && shaped) pitched h3 in
       record {
-        phase-in = and-l turn shaped h2;
-        envelope-in = and-r turn shaped h2;
-        pitch-in = and-r (turn && shaped) pitched h3;
-        velocity-in = and-r (turn && shaped && pitched) loud h4;
-        keys-in = and-r (turn && shaped && pitched && loud) keyed h;
+        phase-in = and-l phased shaped h2;
+        envelope-in = and-r phased shaped h2;
+        pitch-in = and-r (phased && shaped) pitched h3;
+        velocity-in = and-r (phased && shaped && pitched) loud h4;
+        keys-in = and-r (phased && shaped && pitched && loud) keyed h;
       }
 
-  pub kept-in : Kept Turn v → inLimits v ≡ true
+  pub kept-in : Kept PhaseIn v → inLimits v ≡ true
   unfolding inLimits
   kept-in k =
       is-true (inLimits v)
-      (and-i (turn && shaped && pitched && loud) keyed
-      (and-i (turn && shaped && pitched) loud (and-i (turn && shaped) pitched (and-i turn shaped (k .phase-in) (k .envelope-in)) (k .pitch-in)) (k .velocity-in))
+      (and-i (phased && shaped && pitched && loud) keyed
+      (and-i (phased && shaped && pitched) loud (and-i (phased && shaped) pitched (and-i phased shaped (k .phase-in) (k .envelope-in)) (k .pitch-in)) (k .velocity-in))
       (k .keys-in))
 
   -- a state is within the limits, and no more records acted than an entry has room for
@@ -132,8 +133,8 @@ no-nan (fin s m e) h = tt
 from-literal : (x : Float) → T (le naught x) → T (le nought x)
 from-literal x h = rw lit0-is at h
 
-pub turn-nonneg : (x : Float) → Turn x → T (nonneg x)
-turn-nonneg x h = under x thousand (le→ge0 x (from-literal x (and-l (le naught x) (lt x thousand) h))) (unfold ofBits in tt) (lt-le x thousand (and-r (le naught x) (lt x thousand) h))
+pub phase-nonneg : (x : Float) → PhaseIn x → T (nonneg x)
+phase-nonneg x h = under x thousand (le→ge0 x (from-literal x (and-l (le naught x) (lt x thousand) h))) (unfold ofBits in tt) (lt-le x thousand (and-r (le naught x) (lt x thousand) h))
 
 pub pitch-nonneg : (x : Float) → T (isPitch x) → T (nonneg x)
 pitch-nonneg x h = under x highest (le→ge0 x (from-literal x (lt-le naught x (and-l (lt naught x) (le x highest) h)))) (unfold ofBits in tt) (and-r (lt naught x) (le x highest) h)
@@ -151,7 +152,7 @@ kept-finite P v f k =
     }
 
 pub in-finite : (v : State) → inLimits v ≡ true → AllFinite v
-in-finite v e = kept-finite Turn v (turn-nonneg (v .phase .0)) (in-kept v e)
+in-finite v e = kept-finite PhaseIn v (phase-nonneg (v .phase .0)) (in-kept v e)
 
 -- ---- the fresh state
 module _ (P : Float → Type 0) (p : P naught) where
@@ -165,11 +166,11 @@ module _ (P : Float → Type 0) (p : P naught) where
         keys-in = holds-limits Silent false [] tt (omega arith) (unfold AllRanged in tt);
       }
 
-naught-turn : Turn naught
-naught-turn = unfold ofBits in unfold lt in unfold le in tt
+naught-phase : PhaseIn naught
+naught-phase = unfold ofBits in unfold lt in unfold le in tt
 
 pub fresh-in : (acted : ℕ) → inLimits (freshOf acted) ≡ true
-fresh-in acted = kept-in (freshOf acted) (fresh-keeps Turn naught-turn acted)
+fresh-in acted = kept-in (freshOf acted) (fresh-keeps PhaseIn naught-phase acted)
 
 pub fresh-is-state : isState (freshOf 0) ≡ true
 fresh-is-state = in-state (freshOf 0) (fresh-in 0) (omega arith)
@@ -188,7 +189,7 @@ loudness-in v h = go (loudness.velocity-in v h)
 -- what an event may be: a note and a velocity to 127
 abbrev pub EventIn : Event → Type 0
 EventIn (event.Strike n v) = (n ≤ 127) × (v ≤ 127)
-EventIn (event.Release n) = Unit
+EventIn (event.Lift n) = Unit
 EventIn event.Reset = Unit
 
 event-in : (k : Kind) (n v : ℕ) → n ≤ 127 → v ≤ 127 → EventIn (eventFor k n v)
@@ -231,9 +232,9 @@ module _ (P : Float → Type 0) (p : P naught) (v : State) (k : Kept P v) where
         velocity-in = loudness-in w (h .1);
         keys-in = pressed-keeps (v .keys) n w (k .keys-in) (h .0) (h .1);
       }
-  act-keeps (event.Release n) h = let l = lifted-keeps (v .keys) n (k .keys-in) in lift-keeps (liftedOf (v .keys) n .keys) (liftedOf (v .keys) n .off) (l .within) (l .back)
+  act-keeps (event.Lift n) h = let l = lifted-keeps (v .keys) n (k .keys-in) in lift-keeps (liftedOf (v .keys) n .keys) (liftedOf (v .keys) n .off) (l .within) (l .back)
   act-keeps event.Reset h = fresh-keeps P p _
 
 -- so it keeps the limits of a state
 pub act-in : (v : State) (e : Event) → EventIn e → inLimits v ≡ true → inLimits (actOf v e) ≡ true
-act-in v e h i = kept-in (actOf v e) (act-keeps Turn naught-turn v (in-kept v i) e h)
+act-in v e h i = kept-in (actOf v e) (act-keeps PhaseIn naught-phase v (in-kept v i) e h)

@@ -29,7 +29,7 @@ use Rattle.state.specs.Settings.{settingsOk}
 use Rattle.state.specs.State.{freshOf, reducedOf}
 use Rattle.state.specs.Limits.{thousand, inLimits}
 use Rattle.state.specs.Heart.{begun, stateFrom}
-use Rattle.state.proofs.Limits.{Kept, Turn, AllFinite, weaken, in-kept, kept-in, kept-finite, turn-nonneg, fresh-in}
+use Rattle.state.proofs.Limits.{Kept, PhaseIn, AllFinite, weaken, in-kept, kept-in, kept-finite, phase-nonneg, fresh-in}
 use Rattle.state.proofs.Ladder.{ladder, rung-below, naught-on, reduced-on, reduced-nonneg, next-rung, next-nonneg}
 use Rattle.state.proofs.Through.{Carried, reduced-keeps, run-keeps, run-begins}
 
@@ -45,23 +45,23 @@ Since m x = On (m % 64) x
 
 -- before it is begun: anywhere below 1,000 where it is about to be reduced, and else it climbed
 pub record Before (m : ℕ) (x : Float) : Type 0 where
-  pub turn : Turn x
+  pub phase : PhaseIn x
   pub climbed : (m % 64 ≡ 0 → ⊥) → T (le x (ladder (m % 64)))
 
-on-turn : (j : ℕ) (x : Float) → j ≤ 64 → On j x → Turn x
-on-turn j x h o =
+on-phase : (j : ℕ) (x : Float) → j ≤ 64 → On j x → PhaseIn x
+on-phase j x h o =
     and-i (le naught x) (lt x thousand) (rw (lit0-is binary64) (ge0→le x (nonneg→ge0 x (o .not-negative)))) (rung-below j x h (nonneg→finite x (o .not-negative)) (o .not-above))
 
-reduced-at : (j : ℕ) (x : Float) → Turn x → On j (reduceOf x)
-reduced-at j x t = record { not-negative = reduced-nonneg x (turn-nonneg x t); not-above = reduced-on x (turn-nonneg x t) j }
+reduced-at : (j : ℕ) (x : Float) → PhaseIn x → On j (reduceOf x)
+reduced-at j x t = record { not-negative = reduced-nonneg x (phase-nonneg x t); not-above = reduced-on x (phase-nonneg x t) j }
 
 -- one sample is one rung, and the 64th is the last
 climbs : Carried Before Since
 climbs =
     record {
       zeroed = λ m. record { not-negative = unfold ofBits in tt; not-above = naught-on (m % 64) };
-      reduced = λ m x b. reduced-at (m % 64) x (b .turn);
-      left = λ m x e b. record { not-negative = turn-nonneg x (b .turn); not-above = b .climbed (eqb-false (m % 64) 0 e) };
+      reduced = λ m x b. reduced-at (m % 64) x (b .phase);
+      left = λ m x e b. record { not-negative = phase-nonneg x (b .phase); not-above = b .climbed (eqb-false (m % 64) 0 e) };
       grown = λ m x step s t o. after m x step s t o;
     }
   where
@@ -72,13 +72,13 @@ climbs =
     after m x step s t o =
         let n = up (m % 64) x step s t o in
         record {
-          turn = on-turn (suc (m % 64)) (x ⊕ step) (omega arith) n;
+          phase = on-phase (suc (m % 64)) (x ⊕ step) (omega arith) n;
           climbed = λ h. (let e : suc m % 64 ≡ suc (m % 64) = omega arith in rw e (n .not-above));
         }
 
 -- a reduction keeps the limits
 pub reduce-in : (v : State) → inLimits v ≡ true → inLimits (reducedOf v) ≡ true
-reduce-in v l = kept-in (reducedOf v) (reduced-keeps Turn Turn v (λ t. on-turn 0 (reduceOf (v .phase .0)) (omega arith) (reduced-at 0 (v .phase .0) t)) (in-kept v l))
+reduce-in v l = kept-in (reducedOf v) (reduced-keeps PhaseIn PhaseIn v (λ t. on-phase 0 (reduceOf (v .phase .0)) (omega arith) (reduced-at 0 (v .phase .0) t)) (in-kept v l))
 
 -- ---- anywhere: to 2^60, where a step no longer moves it
 pub record Far (x : Float) : Type 0 where
@@ -88,8 +88,8 @@ pub record Far (x : Float) : Type 0 where
 abbrev pub Anywhere : ℕ → Float → Type 0
 Anywhere m x = Far x
 
-turn-far : (x : Float) → Turn x → Far x
-turn-far x t = record { not-negative = turn-nonneg x t; not-far = fle-trans x thousand far (lt-le x thousand (and-r (le naught x) (lt x thousand) t)) (unfold ofBits in unfold le in tt) }
+phase-far : (x : Float) → PhaseIn x → Far x
+phase-far x t = record { not-negative = phase-nonneg x t; not-far = fle-trans x thousand far (lt-le x thousand (and-r (le naught x) (lt x thousand) t)) (unfold ofBits in unfold le in tt) }
 
 drifts : Carried Anywhere Anywhere
 drifts =
@@ -111,17 +111,17 @@ module _ (g : Settings) (ok : settingsOk g ≡ true) (w : T (fits binary64 (g .a
   -- from any state within the limits at a multiple of 64
   module _ (n : ℕ) (at : n % 64 ≡ 0) (v : State) (l : inLimits v ≡ true) where
     start : Kept (Before n) v
-    start = weaken Turn (Before n) v (λ t. record { turn = t; climbed = λ h. absurd (h at) }) (in-kept v l)
+    start = weaken PhaseIn (Before n) v (λ t. record { phase = t; climbed = λ h. absurd (h at) }) (in-kept v l)
 
     -- the state before a sample is begun
     pub limits-kept : (k : ℕ) → inLimits (stateFrom g s n v k) ≡ true
-    limits-kept k = let u = stateFrom g s n v k in kept-in u (weaken (Before (n + k)) Turn u (λ b. b .turn) (run-keeps Before Since climbs g ok w s m a n v start k))
+    limits-kept k = let u = stateFrom g s n v k in kept-in u (weaken (Before (n + k)) PhaseIn u (λ b. b .phase) (run-keeps Before Since climbs g ok w s m a n v start k))
 
     -- and the state that makes the sample
     pub begun-kept : (k : ℕ) → inLimits (begun s (n + k) (stateFrom g s n v k)) ≡ true
     begun-kept k =
         let u = begun s (n + k) (stateFrom g s n v k) in
-        kept-in u (weaken (Since (n + k)) Turn u (on-turn ((n + k) % 64) (u .phase .0) (omega arith)) (run-begins Before Since climbs g ok w s m a n v start k))
+        kept-in u (weaken (Since (n + k)) PhaseIn u (on-phase ((n + k) % 64) (u .phase .0) (omega arith)) (run-begins Before Since climbs g ok w s m a n v start k))
 
   -- from a mark
   pub mark-kept : (mark : ℕ) (v : State) → inLimits v ≡ true → (k : ℕ) → inLimits (stateFrom g s (mark * 4096) v k) ≡ true
@@ -137,7 +137,7 @@ module _ (g : Settings) (ok : settingsOk g ≡ true) (w : T (fits binary64 (g .a
   -- from any state within the limits, at any position
   module _ (n : ℕ) (v : State) (l : inLimits v ≡ true) where
     begins : Kept Far v
-    begins = weaken Turn Far v (turn-far (v .phase .0)) (in-kept v l)
+    begins = weaken PhaseIn Far v (phase-far (v .phase .0)) (in-kept v l)
 
     pub others-kept : (k : ℕ) → Kept Far (stateFrom g s n v k)
     others-kept k = run-keeps Anywhere Anywhere drifts g ok w s m a n v begins k

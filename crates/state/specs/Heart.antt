@@ -1,6 +1,7 @@
--- Making samples, one after the other. 01, "Making sample n": "If n is a multiple of 64 or a record has position n, phase is reduced by TAU. Then the records at n act." "equal positions act in record
--- order". The rule that serves both users: the state at a sample is what the records before it give, counted from sample zero. All is counted from a state v before sample n is begun: a render is n = 0
--- and the fresh state, a continuing call a given state and its position, a re-render a mark and the state that its entry holds. It does not lean on the records' order. Definitions only.
+-- Making samples, one after the other. 01, "Making sample n": "If n is a multiple of 64 or a record has position n, phase is reduced by TAU. Then the records at n act." "The end of a caller's buffer reduces
+-- nothing." "equal positions act in record order". Here n is the number of the sample in the whole output, not in a part of it. The rule that serves the stage player and the arranger: the state at a sample
+-- is what the records before it give, counted from sample zero. All is said from a state v before sample n is begun: a render is n = 0 and the fresh state, a continuing call a given state and its position,
+-- a re-render a mark and the state that its entry holds. It does not lean on the records' order. Definitions only.
 use mathlib.Core.Bool.{Bool, true, false, cond, _||_}
 use mathlib.Core.List.{List, [], _∷_, _++_}
 use Prim.Native.Nat.{ℕ, zero, suc, _+_, _*_, _%_}

@@ -1,4 +1,5 @@
 pub mod Settings
 pub mod State
 pub mod Limits
+pub mod ButActed
 pub mod Heart

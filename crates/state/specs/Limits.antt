@@ -1,8 +1,8 @@
 -- The limits of a state. 01, "The shelf": "An entry is a state if phase is at least 0 and below 1,000, stage_time 0 to 11, levels and velocity 0 to 1, frequency above 0 and at most 12,544, active note 0 to 127
 -- or 255, gate 1 exactly when it is not 255, held count at most 16, pairs in range, and the rest of these words zero." Ranges are comparisons of floats: a NaN is outside, and -0 counts as 0, so that a frequency of
--- -0 is refused. No agreement of stage, level, note and keys is asked. Stricter than 01's words by one clause: the records acted fit in the 48 bits that an entry has for them. Definitions only.
+-- -0 is refused. No agreement of stage, level, note and keys is asked. Stricter than 01's words by one clause: the records acted fit in the 48 bits that
+-- an entry has for them. That is harmless: a score has at most 4,096 records, so that a state with more acted differs from the score, and 8 or 10 is given anyway. Definitions only.
 use mathlib.Core.Bool.{Bool, _&&_}
-use mathlib.Core.Path.{_≡_}
 use Prim.Native.Nat.{ℕ}
 use lib.Dec.{leb}
 use lib.Ieee.{Float, binary64, ofBits, lt, le}
@@ -19,9 +19,9 @@ thousand = ofBits binary64 0x408f_4000_0000_0000
 abbrev pub highest : Float
 highest = ofBits binary64 0x40c8_8000_0000_0000
 
--- at least 0 and below 1,000
-abbrev pub isTurn : Float → Bool
-isTurn x = le naught x && lt x thousand
+-- a phase in radians: at least 0 and below 1,000
+abbrev pub isRadians : Float → Bool
+isRadians x = le naught x && lt x thousand
 
 -- above 0 and at most 12,544
 abbrev pub isPitch : Float → Bool
@@ -29,7 +29,7 @@ isPitch x = lt naught x && le x highest
 
 -- what sounds is within its limits
 unfoldable pub inLimits : State → Bool
-inLimits v = isTurn (v .phase .0) && isEnvelope (v .envelope) && isPitch (v .frequency) && within naught one (v .velocity) && isKeys (v .keys)
+inLimits v = isRadians (v .phase .0) && isEnvelope (v .envelope) && isPitch (v .frequency) && within naught one (v .velocity) && isKeys (v .keys)
 
 -- 2^48 - 1
 abbrev pub mostActed : ℕ
@@ -37,11 +37,3 @@ mostActed = 281474976710655
 
 unfoldable pub isState : State → Bool
 isState v = inLimits v && leb (v .acted) mostActed
-
--- ---- apart from the number of records acted
--- the same state, with n records acted
-abbrev pub withActed : State → ℕ → State
-withActed v n = record { phase = v .phase; envelope = v .envelope; frequency = v .frequency; velocity = v .velocity; keys = v .keys; acted = n }
-
-abbrev pub SameButActed : State → State → Type 0
-SameButActed v w = withActed v 0 ≡ withActed w 0

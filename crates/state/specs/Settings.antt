@@ -5,4 +5,4 @@ use Rattle.waveform.specs.Waveform.{isWaveform}
 use Rattle.state.specs.declared.Settings.{Settings}
 
 abbrev pub settingsOk : Settings → Bool
-settingsOk s = isRate (s .rate) && isWaveform (s .waveform) && isAdsr (s .adsr)
+settingsOk g = isRate (g .rate) && isWaveform (g .waveform) && isAdsr (g .adsr)

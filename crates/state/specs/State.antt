@@ -1,6 +1,6 @@
 -- The state, and the four steps of a sample. 01, "Making sample n": "phase is reduced by TAU. Then the records at n act. On: voice and envelope `note_on`. Off: voice `note_off`, and the envelope's where it
 -- returned true. Reset: voice, envelope and phase to their fresh state. Then the sample is oscillator value * envelope level * velocity, left to right, and both advance. Frequency is always the voice's own
--- (440 when fresh)." A reset leaves the number of records acted going. Definitions only.
+-- (440 when fresh)." A reset goes on counting the records acted, itself included. Definitions only.
 use mathlib.Core.Bool.{cond}
 use Prim.Native.Nat.{ℕ, _+_}
 use lib.Dec.{ltb}
@@ -32,7 +32,7 @@ concert = ofBits binary64 0x407b_8000_0000_0000
 
 -- one record more has acted, as far as a u64 counts; a score has 4,096 at most
 abbrev pub counted : ℕ → ℕ
-counted n = cond (ltb n 18446744073709551615) (n + 1) n
+counted acted = cond (ltb acted 18446744073709551615) (acted + 1) acted
 
 -- the fresh state, with the number of records that have acted
 abbrev pub freshOf : ℕ → State
@@ -43,41 +43,42 @@ abbrev pub reducedOf : State → State
 reducedOf v = record { phase = radians (reduceOf (v .phase .0)); envelope = v .envelope; frequency = v .frequency; velocity = v .velocity; keys = v .keys; acted = v .acted }
 
 -- ---- act
--- what a record does: on strikes, off releases, reset resets
+-- what a record of a note and a velocity does: an on strikes a key, an off lifts a key, a reset resets
 abbrev pub eventFor : Kind → ℕ → ℕ → Event
-eventFor On n v = event.Strike n v
-eventFor Off n v = event.Release n
-eventFor Reset n v = event.Reset
+eventFor On note velocity = event.Strike note velocity
+eventFor Off note velocity = event.Lift note
+eventFor Reset note velocity = event.Reset
 
 abbrev pub eventOf : Record → Event
 eventOf r = eventFor (r .kind) (r .note) (r .velocity)
 
--- the note n sounds, struck with v; the envelope is triggered
+-- the note sounds, struck with this velocity; the envelope is triggered
 abbrev pub struckOf : State → ℕ → ℕ → State
-struckOf s n v = record { phase = s .phase; envelope = triggeredOf (s .envelope); frequency = frequencyOf n; velocity = velocityOf v; keys = pressedOf (s .keys) n v; acted = counted (s .acted) }
+struckOf v note velocity =
+    record { phase = v .phase; envelope = triggeredOf (v .envelope); frequency = frequencyOf note; velocity = velocityOf velocity; keys = pressedOf (v .keys) note velocity; acted = counted (v .acted) }
 
--- a key went up, with the keys k left: the voice is released, falls back to a held note, or goes on as it was
+-- a key went up, and these keys are left: the voice is released, and with it the envelope; or it falls back to a held note, or goes on as it was
 abbrev pub liftedBy : State → Keys → NoteOff → State
-liftedBy s k Released = record { phase = s .phase; envelope = releasedOf (s .envelope); frequency = s .frequency; velocity = s .velocity; keys = k; acted = counted (s .acted) }
-liftedBy s k (FellBack n v) = record { phase = s .phase; envelope = s .envelope; frequency = frequencyOf n; velocity = velocityOf v; keys = k; acted = counted (s .acted) }
-liftedBy s k NoChange = record { phase = s .phase; envelope = s .envelope; frequency = s .frequency; velocity = s .velocity; keys = k; acted = counted (s .acted) }
+liftedBy v keys Released = record { phase = v .phase; envelope = releasedOf (v .envelope); frequency = v .frequency; velocity = v .velocity; keys = keys; acted = counted (v .acted) }
+liftedBy v keys (FellBack note velocity) = record { phase = v .phase; envelope = v .envelope; frequency = frequencyOf note; velocity = velocityOf velocity; keys = keys; acted = counted (v .acted) }
+liftedBy v keys NoChange = record { phase = v .phase; envelope = v .envelope; frequency = v .frequency; velocity = v .velocity; keys = keys; acted = counted (v .acted) }
 
 unfoldable pub actOf : State → Event → State
-actOf s (event.Strike n v) = struckOf s n v
-actOf s (event.Release n) = let l = liftedOf (s .keys) n in liftedBy s (l .keys) (l .off)
-actOf s event.Reset = freshOf (counted (s .acted))
+actOf v (event.Strike note velocity) = struckOf v note velocity
+actOf v (event.Lift note) = let l = liftedOf (v .keys) note in liftedBy v (l .keys) (l .off)
+actOf v event.Reset = freshOf (counted (v .acted))
 
 -- ---- the sample, and the advance
 -- the envelope one sample on; its level is the sample's
 abbrev pub steppedOf : Settings → State → Envelope
-steppedOf k v = stepOf (clampedOf (k .adsr)) (sampleTimeOf (k .rate)) (v .envelope)
+steppedOf g v = stepOf (clampedOf (g .adsr)) (sampleTimeOf (g .rate)) (v .envelope)
 
 -- radians a sample
 abbrev pub paceOf : Settings → State → Float
-paceOf k v = incrementOf (v .frequency) (k .rate)
+paceOf g v = incrementOf (v .frequency) (g .rate)
 
 unfoldable pub sampleOf : Settings → State → Float
-sampleOf k v = valueAt (k .waveform) (paceOf k v) (v .phase .0) ⊗ steppedOf k v .level ⊗ v .velocity
+sampleOf g v = valueAt (g .waveform) (paceOf g v) (v .phase .0) ⊗ steppedOf g v .level ⊗ v .velocity
 
 unfoldable pub advanceOf : Settings → State → State
-advanceOf k v = record { phase = radians (v .phase .0 ⊕ paceOf k v); envelope = steppedOf k v; frequency = v .frequency; velocity = v .velocity; keys = v .keys; acted = v .acted }
+advanceOf g v = record { phase = radians (v .phase .0 ⊕ paceOf g v); envelope = steppedOf g v; frequency = v .frequency; velocity = v .velocity; keys = v .keys; acted = v .acted }

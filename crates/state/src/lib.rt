@@ -33,14 +33,15 @@ pub struct State {
     pub acted: u64,
 }
 
-// What a record does to the voice.
+// What a record does: it strikes a key (note, velocity), lifts a key (note), or sets all that sounds back to its fresh state.
+// Whether a lift releases the envelope is for the voice to say.
 pub enum Event {
     Strike(u8, u8),
-    Release(u8),
+    Lift(u8),
     Reset,
 }
 
-// Settings that a render takes.
+// Whether a render takes these settings.
 pub fn is_settings(settings: Settings) -> bool
     ensures { λ r. ⌜ r ≡ settingsOk settings ⌝ }
 {
@@ -64,7 +65,7 @@ pub fn fresh() -> State
     at_rest(0)
 }
 
-// The phase less its whole cycles.
+// The phase less its whole cycles; TAU itself for a negative phase too small to move it.
 pub fn reduce(state: State) -> State
     ensures { λ r. ⌜ r ≡ reducedOf state ⌝ }
 {
@@ -81,13 +82,14 @@ pub fn reduce(state: State) -> State
     }
 }
 
+// What a record of a score does: an on strikes its note's key, an off lifts it, a reset resets.
 pub fn event_of(given: Record) -> Event
     ensures { λ r. ⌜ r ≡ eventOf given ⌝ }
 {
     let kind = given.kind;
     match kind {
         Kind::On => Event::Strike(given.note, given.velocity),
-        Kind::Off => Event::Release(given.note),
+        Kind::Off => Event::Lift(given.note),
         Kind::Reset => Event::Reset,
     }
 }
@@ -98,7 +100,7 @@ pub fn act(state: State, event: Event) -> State
 {
     match event {
         Event::Strike(note, velocity) => strike(state, note, velocity),
-        Event::Release(note) => release(state, note),
+        Event::Lift(note) => lift(state, note),
         Event::Reset => at_rest(one_more(state.acted)),
     }
 }
@@ -173,12 +175,12 @@ fn strike(state: State, note: u8, velocity: u8) -> State
     }
 }
 
-fn release(state: State, note: u8) -> State
+fn lift(state: State, note: u8) -> State
     ensures { λ r. ⌜ r ≡ liftedBy state (liftedOf (state .keys) note .keys) (liftedOf (state .keys) note .off) ⌝ }
 {
-    let lift = keys::lifted(state.keys, note);
-    let keys = lift.keys;
-    let off = lift.off;
+    let after = keys::lifted(state.keys, note);
+    let keys = after.keys;
+    let off = after.off;
     left(state, keys, off)
 }
 
