@@ -63,7 +63,7 @@ module _ (s : List ℕ) (i n a k e : ℕ) (b : BlockEnd n a k e) where
 
   -- no record lies between
   whole-block : ((m : ℕ) → a < m → m < e → standsAt s i (n + m) ≡ false) → SpanEnd s i n a k e
-  whole-block f = record { after = b .after; within = b .within; ends = λ x. rw (b .ends x) refl; silent = λ m x y. begins-not m x y (f m x y) }
+  whole-block f = record { after = b .after; within = b .within; ends = λ x. rw (b .ends x) refl; unbroken = λ m x y. begins-not m x y (f m x y) }
 
   pub end-none : countOf s ≤ i → SpanEnd s i n a k e
   end-none h = whole-block (λ m x y. stands-none s i n m h)
@@ -87,5 +87,5 @@ module _ (s : List ℕ) (i n a k e : ℕ) (b : BlockEnd n a k e) where
         after = x;
         within = omega (arith, b .within);
         ends = λ z. rw here (or-true (eqb ((n + (positionAt s i - n)) % 64) 0));
-        silent = λ m u w. begins-not m u (omega arith) (stands-not s i n m (λ z. omega arith));
+        unbroken = λ m u w. begins-not m u (omega arith) (stands-not s i n m (λ z. omega arith));
       }

@@ -63,18 +63,18 @@ module _ (g : Settings) (s : List ℕ) (n : ℕ) (p : Place) (i : ℕ) where
     whole : i + suc (e - i - 1) ≡ e
     whole = omega (arith, z .after)
 
-    silent : (m : ℕ) → i < m → m < i + suc (e - i - 1) → beginsAt s (begun .next) (n + m) ≡ false
-    silent m x y = z .silent m x (omega (arith, whole))
+    unbroken : (m : ℕ) → i < m → m < i + suc (e - i - 1) → beginsAt s (begun .next) (n + m) ≡ false
+    unbroken m x y = z .unbroken m x (omega (arith, whole))
 
     pub turn-place : placeFrom g s n p e ≡ placeOf (advances g (begun .state) (e - i)) (begun .next)
     turn-place =
         let d : suc (e - i - 1) ≡ e - i = omega (arith, z .after) in
-        ap (placeFrom g s n p) (sym whole) ∙ span-place (e - i - 1) silent ∙ ap (λ (k : ℕ). placeOf (advances g (begun .state) k) (begun .next)) d
+        ap (placeFrom g s n p) (sym whole) ∙ span-place (e - i - 1) unbroken ∙ ap (λ (k : ℕ). placeOf (advances g (begun .state) k) (begun .next)) d
 
     pub turn-samples : playedFrom g s n p e ≡ playedFrom g s n p i ++ plain g (begun .state) (e - i)
     turn-samples =
         let d : suc (e - i - 1) ≡ e - i = omega (arith, z .after) in
-        ap (playedFrom g s n p) (sym whole) ∙ span-samples (e - i - 1) silent ∙ ap (λ (k : ℕ). playedFrom g s n p i ++ plain g (begun .state) k) d
+        ap (playedFrom g s n p) (sym whole) ∙ span-samples (e - i - 1) unbroken ∙ ap (λ (k : ℕ). playedFrom g s n p i ++ plain g (begun .state) k) d
 
     -- a turn: the span is lent, and comes back as ys with the state u
     module _ (part ys : List Float) (u : State) (long : length part ≡ l) (heard : take i part ≡ playedFrom g s n p i) (x : Sounded g (begun .state) (midOf i (e - i) part) ys u) where

@@ -29,12 +29,13 @@ pub record Sounded (g : Settings) (v : State) (before after : List Float) (r : S
   pub samples : after ≡ plain g v (length before)
   pub state : r ≡ advances g v (length before)
 
--- ---- the second pass: oscillator values that stand in a part already, times level times velocity
--- the first n of them
+-- ---- the second pass: oscillator values that stand in a part already, times level times velocity. These two serve a private function, `shape`; no public statement cites them.
+-- the first k of them
 unfoldable pub shapedTo : Adsr → Float → Envelope → Float → List Float → ℕ → List Float
-shapedTo k t e velocity xs zero = []
-shapedTo k t e velocity xs (suc n) = shapedTo k t e velocity xs n ++ (getD xs n nan ⊗ envelopeFrom k t e (suc n) .level ⊗ velocity ∷ [])
+shapedTo adsr t e velocity xs zero = []
+shapedTo adsr t e velocity xs (suc k) = shapedTo adsr t e velocity xs k ++ (getD xs k nan ⊗ envelopeFrom adsr t e (suc k) .level ⊗ velocity ∷ [])
 
-pub record Shaped (k : Adsr) (t : Float) (e : Envelope) (velocity : Float) (before after : List Float) (r : Envelope) : Type 0 where
-  pub samples : after ≡ shapedTo k t e velocity before (length before)
-  pub envelope : r ≡ envelopeFrom k t e (length before)
+-- a lent part holds them, and r is the envelope after them
+pub record Shaped (adsr : Adsr) (t : Float) (e : Envelope) (velocity : Float) (before after : List Float) (r : Envelope) : Type 0 where
+  pub samples : after ≡ shapedTo adsr t e velocity before (length before)
+  pub envelope : r ≡ envelopeFrom adsr t e (length before)

@@ -64,7 +64,7 @@ pub record SpanEnd (s : List ℕ) (i n a k r : ℕ) : Type 0 where
   pub after : a < r
   pub within : r ≤ k
   pub ends : r < k → beginsAt s i (n + r) ≡ true
-  pub silent : (m : ℕ) → a < m → m < r → beginsAt s i (n + m) ≡ false
+  pub unbroken : (m : ℕ) → a < m → m < r → beginsAt s i (n + m) ≡ false
 
 -- r is the first offset after a at a multiple of 64, or the part's end
 pub record BlockEnd (n a k r : ℕ) : Type 0 where

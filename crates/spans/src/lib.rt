@@ -14,7 +14,7 @@ use envelope::Envelope;
 use state::Settings;
 use state::State;
 
-// The samples between two reductions where no record stands.
+// How many samples between two reductions where no record stands.
 const BLOCK: u64 = 64;
 
 // The state before a sample is begun, and the first record that has not acted.
