@@ -15,6 +15,8 @@ pub mod Fits
 pub mod Arrays
 -- the limits of a state, part by part, and that events keep them
 pub mod Limits
+-- an event does what the calls of 01 do
+pub mod Calls
 -- how far the phase climbs between two reductions
 pub mod Ladder
 -- what holds of the phase through every sample, all else being in its limits

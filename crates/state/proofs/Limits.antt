@@ -189,12 +189,12 @@ loudness-in v h = go (loudness.velocity-in v h)
 -- what an event may be: a note and a velocity to 127
 abbrev pub EventIn : Event → Type 0
 EventIn (event.Strike n v) = (n ≤ 127) × (v ≤ 127)
-EventIn (event.Lift n) = Unit
+EventIn (event.Lift n) = n ≤ 127
 EventIn event.Reset = Unit
 
 event-in : (k : Kind) (n v : ℕ) → n ≤ 127 → v ≤ 127 → EventIn (eventFor k n v)
 event-in On n v hn hv = (hn, hv)
-event-in Off n v hn hv = tt
+event-in Off n v hn hv = hn
 event-in Reset n v hn hv = tt
 
 most-in : (b : ℕ) → mostOf b ≤ 127

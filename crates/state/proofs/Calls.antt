@@ -1,0 +1,158 @@
+-- An event does what the calls of 01 do: of a voice and an envelope block that have what the state has, the voice's call and the envelope's, where they are done, leave what the state has after the event. The voice's
+-- `note_off` alone decides whether the envelope is released. The phase is left by an on and an off and set to 0 by a reset. On a state within its limits, whatever its phase, and with a note and a velocity to 127
+-- both calls are done; and a fresh state has what a new voice and a new block have. Assumes nothing.
+use mathlib.Core.Path.{_≡_, refl, sym, ap, _∙_}
+use mathlib.Core.Bool.{Bool, true, false, cond, _&&_}
+use Prim.Native.Nat.{ℕ}
+use native.Mathlib.Omega.{arith}
+use lib.Ieee.{Float, binary32, binary64, ofBits}
+use lib.Ieee.Fits.{and-i}
+use borrow.Author.Tests.{le-leb}
+use Rattle.floats.specs.Range.{lit0, lit1}
+use Rattle.floats.specs.Double.{naught, one}
+use Rattle.floats.proofs.Literals.{lit0-is, lit1-is}
+use Rattle.answers.specs.declared.Answer.the-variants.{Done}
+use Rattle.voice.specs.Keys.{pressedOf, liftedOf, isKeys}
+use Rattle.voice.specs.Voice.{isLoud, isPitched, isVoice, isMidi, isReleased, changedIf, offIf, struck, heardOf}
+use Rattle.voice.specs.Voice as voice
+use Rattle.voice.specs.declared.VoiceState.{VoiceState}
+use Rattle.voice.specs.declared.keys.Keys.{Keys}
+use Rattle.voice.specs.declared.keys.NoteOff.{NoteOff}
+use Rattle.voice.specs.declared.keys.NoteOff.the-variants.{Released, FellBack, NoChange}
+use Rattle.envelope.specs.Limits.{isEnvelope}
+use Rattle.envelope.specs.Stages as stages
+use Rattle.envelope.specs.Stages.{triggeredOf, releasedOf}
+use Rattle.envelope.specs.Calls.{judgedOf, handedOf, changedOf}
+use Rattle.envelope.specs.Calls as envelope
+use Rattle.envelope.specs.declared.Envelope.{Envelope}
+use Rattle.envelope.specs.declared.EnvelopeBlock.{EnvelopeBlock}
+use Rattle.state.specs.declared.State.{State}
+use Rattle.state.specs.declared.Event.{Event}
+use Rattle.state.specs.declared.Event.the-variants as event
+use Rattle.state.specs.State.{concert, freshOf, liftedBy, actOf}
+use Rattle.state.specs.Limits.{highest}
+use Rattle.state.specs.Calls.{Alike, voiceCall, envelopeCall, phaseThen}
+use Rattle.state.proofs.Limits.{is-true, Kept, EventIn}
+
+clash : _≡_ {A = ℕ} 0 1 → ⊥
+clash e = omega arith
+
+-- ---- a call that is done leaves what it is to leave
+voice-left : (ok : Bool) (before after : VoiceState) → changedIf ok before after .answer ≡ Done 0 → changedIf ok before after .voice ≡ after
+voice-left true before after d = refl
+voice-left false before after d = absurd (clash (cc))
+
+off-left : (ok r : Bool) (before after : VoiceState) → offIf ok r before after .answer ≡ Done 0 → (offIf ok r before after .voice ≡ after) × (offIf ok r before after .released ≡ r)
+off-left true r before after d = (refl, refl)
+off-left false r before after d = absurd (clash (cc))
+
+block-left : (b : EnvelopeBlock) (e : Envelope) → changedOf b e .answer ≡ Done 0 → changedOf b e .block .envelope ≡ e
+block-left b e = go (isEnvelope (b .envelope))
+  where
+    go : (ok : Bool) → handedOf (judgedOf true ok 0) b e .answer ≡ Done 0 → handedOf (judgedOf true ok 0) b e .block .envelope ≡ e
+    go true d = refl
+    go false d = absurd (clash (cc))
+
+-- ---- the numbers of either width
+same-pitch : concert ≡ voice.concert
+unfolding ofBits
+same-pitch = refl
+
+same-top : highest ≡ voice.highest
+unfolding ofBits
+same-top = refl
+
+same-naught : naught ≡ lit0 binary32
+same-naught = lit0-is binary64 ∙ sym (lit0-is binary32)
+
+same-one : one ≡ lit1 binary32
+same-one = lit1-is binary64 ∙ sym (lit1-is binary32)
+
+-- ---- the events
+module _ (v : State) (w : VoiceState) (b : EnvelopeBlock) (a : Alike v w b) where
+  -- a key was lifted and these keys are left: the block c is b, released where the voice is
+  left-alike : (keys : Keys) (off : NoteOff) (c : EnvelopeBlock) → c .envelope ≡ cond (isReleased off) (releasedOf (b .envelope)) (b .envelope) → Alike (liftedBy v keys off) (heardOf w keys off) c
+  left-alike keys Released c e = record { keys = refl; frequency = a .frequency; velocity = a .velocity; envelope = ap releasedOf (a .envelope) ∙ sym e }
+  left-alike keys (FellBack note velocity) c e = record { keys = refl; frequency = refl; velocity = refl; envelope = a .envelope ∙ sym e }
+  left-alike keys NoChange c e = record { keys = refl; frequency = a .frequency; velocity = a .velocity; envelope = a .envelope ∙ sym e }
+
+  off-block : (r : Bool) → cond r (envelope.noteOffOf b) (record { answer = Done 0; block = b }) .answer ≡ Done 0
+      → cond r (envelope.noteOffOf b) (record { answer = Done 0; block = b }) .block .envelope ≡ cond r (releasedOf (b .envelope)) (b .envelope)
+  off-block true d = block-left b (releasedOf (b .envelope)) d
+  off-block false d = refl
+
+  -- both lift the same keys
+  lift-is : (note : ℕ) → actOf v (event.Lift note) ≡ liftedBy v (liftedOf (w .keys) note .keys) (liftedOf (w .keys) note .off)
+  unfolding actOf
+  lift-is note = ap (λ (keys : Keys). liftedBy v (liftedOf keys note .keys) (liftedOf keys note .off)) (a .keys)
+
+  lift-alike : (note : ℕ) → voiceCall w (event.Lift note) .answer ≡ Done 0 → envelopeCall w b (event.Lift note) .answer ≡ Done 0
+      → Alike (actOf v (event.Lift note)) (voiceCall w (event.Lift note) .voice) (envelopeCall w b (event.Lift note) .block)
+  lift-alike note d f =
+      let l = liftedOf (w .keys) note in
+      let o = off-left (isVoice w && isMidi note) (isReleased (l .off)) w (heardOf w (l .keys) (l .off)) d in
+      rw (lift-is note, o .0) (left-alike (l .keys) (l .off) (envelopeCall w b (event.Lift note) .block) (off-block (voice.noteOffOf w note .released) f ∙ rw (o .1) refl))
+
+  -- where both calls are done, they leave what the event does
+  pub calls-act : (e : Event) → voiceCall w e .answer ≡ Done 0 → envelopeCall w b e .answer ≡ Done 0 → Alike (actOf v e) (voiceCall w e .voice) (envelopeCall w b e .block)
+  unfolding actOf
+  calls-act (event.Strike note velocity) d f =
+      let after = struck (pressedOf (w .keys) note velocity) note velocity in
+      let left = voice-left (isVoice w && isMidi note && isMidi velocity) w after d in
+      record {
+        keys = rw (a .keys, left) refl;
+        frequency = rw left refl;
+        velocity = rw left refl;
+        envelope = rw (a .envelope, block-left b (triggeredOf (b .envelope)) f) refl;
+      }
+  calls-act (event.Lift note) d f = lift-alike note d f
+  calls-act event.Reset d f = let left = voice-left (isVoice w) w voice.newOf d in record { keys = rw left refl; frequency = rw left same-pitch; velocity = rw left same-naught; envelope = rw (block-left b stages.freshOf f) refl }
+
+  -- whether the envelope is released is what the voice's note_off returned
+  pub released-decides : (note : ℕ) → voice.noteOffOf w note .answer ≡ Done 0 → actOf v (event.Lift note) .envelope ≡ cond (voice.noteOffOf w note .released) (releasedOf (v .envelope)) (v .envelope)
+  released-decides note d =
+      let l = liftedOf (w .keys) note in
+      rw (lift-is note, off-left (isVoice w && isMidi note) (isReleased (l .off)) w (heardOf w (l .keys) (l .off)) d .1) (go (l .keys) (l .off))
+    where
+      go : (keys : Keys) (off : NoteOff) → liftedBy v keys off .envelope ≡ cond (isReleased off) (releasedOf (v .envelope)) (v .envelope)
+      go keys Released = refl
+      go keys (FellBack note velocity) = refl
+      go keys NoChange = refl
+
+-- the phase
+pub phase-then : (v : State) (e : Event) → actOf v e .phase ≡ phaseThen (v .phase) e
+unfolding actOf
+phase-then v (event.Strike note velocity) = refl
+phase-then v (event.Lift note) = go (liftedOf (v .keys) note .keys) (liftedOf (v .keys) note .off)
+  where
+    go : (keys : Keys) (off : NoteOff) → liftedBy v keys off .phase ≡ v .phase
+    go keys Released = refl
+    go keys (FellBack note velocity) = refl
+    go keys NoChange = refl
+phase-then v event.Reset = refl
+
+-- a fresh state, a new voice and a new block
+pub fresh-alike : (acted : ℕ) (attack decay sustain release : Float) → Alike (freshOf acted) voice.newOf (envelope.newOf attack decay sustain release)
+fresh-alike acted attack decay sustain release = record { keys = refl; frequency = same-pitch; velocity = same-naught; envelope = refl }
+
+-- ---- the calls are done
+module _ (P : Float → Type 0) (v : State) (k : Kept P v) (w : VoiceState) (b : EnvelopeBlock) (a : Alike v w b) where
+  voice-in : isVoice w ≡ true
+  unfolding isVoice
+  voice-in =
+      is-true (isVoice w)
+      (and-i (isKeys (w .keys) && isLoud (w .velocity)) (isPitched (w .frequency))
+      (and-i (isKeys (w .keys)) (isLoud (w .velocity)) (rw (a .keys) at (k .keys-in)) (rw (a .velocity, same-naught, same-one) at (k .velocity-in)))
+      (rw (a .frequency, same-naught, same-top) at (k .pitch-in)))
+
+  block-in : isEnvelope (b .envelope) ≡ true
+  block-in = is-true (isEnvelope (b .envelope)) (rw (a .envelope) at (k .envelope-in))
+
+  pub calls-done : (e : Event) → EventIn e → (voiceCall w e .answer ≡ Done 0) × (envelopeCall w b e .answer ≡ Done 0)
+  calls-done (event.Strike note velocity) h = (rw (voice-in, le-leb note 127 (h .0), le-leb velocity 127 (h .1)) refl, rw block-in refl)
+  calls-done (event.Lift note) h = (rw (voice-in, le-leb note 127 h) refl, go (voice.noteOffOf w note .released))
+    where
+      go : (r : Bool) → cond r (envelope.noteOffOf b) (record { answer = Done 0; block = b }) .answer ≡ Done 0
+      go true = rw block-in refl
+      go false = refl
+  calls-done event.Reset h = (rw voice-in refl, rw block-in refl)
