@@ -1,10 +1,10 @@
 -- A span's samples are what the waveform's inner loop writes, times level, times velocity; and the state after them is what the two passes leave. Assumes nothing.
 use mathlib.Core.Path.{_≡_, refl, sym, ap, _∙_}
-use mathlib.Core.List.{List, [], _∷_, _++_}
-use Prim.Native.Nat.{ℕ, zero, suc, _<_, _≤_}
+use mathlib.Core.List.{List}
+use Prim.Native.Nat.{ℕ, zero, suc, _≤_}
 use native.Mathlib.Omega.{arith}
-use lib.ListN.{length, getD}
-use lib.Ieee.{Float, binary64, nan}
+use lib.ListN.{length}
+use lib.Ieee.{Float, binary64}
 use Rattle.floats.specs.Double.{_⊗_, one}
 use Rattle.floats.proofs.Literals.{lit1-is}
 use Rattle.floats.proofs.OneWay.{times-one}

@@ -1,7 +1,7 @@
 -- A turn of the loop over the spans: from a place, what a span gives is what the walk gives as far as the span's end. Assumes nothing.
 use mathlib.Core.Path.{_≡_, refl, sym, ap, _∙_}
 use mathlib.Core.Bool.{false}
-use mathlib.Core.List.{List, [], _∷_, _++_, append-assoc, append-nil}
+use mathlib.Core.List.{List, [], _∷_, _++_, append-assoc}
 use Prim.Native.Nat.{ℕ, zero, suc, _+_, _-_, _%_, _<_, _≤_}
 use native.Mathlib.Nat.{add-zero, add-suc}
 use native.Mathlib.Numerals.{add-one}
@@ -14,7 +14,7 @@ use lib.Ieee.{Float}
 use Rattle.score.specs.Record.{countOf}
 use Rattle.state.specs.declared.Settings.{Settings}
 use Rattle.state.specs.declared.State.{State}
-use Rattle.state.specs.State.{sampleOf, advanceOf}
+use Rattle.state.specs.State.{sampleOf}
 use Rattle.spans.specs.declared.Place.{Place}
 use Rattle.spans.specs.Plain.{advances, plain, Sounded}
 use Rattle.spans.specs.Walk.{placeOf, beginsAt, standsAt, begunFrom, placeFrom, playedFrom, SpanEnd}

@@ -1,6 +1,4 @@
 -- `spans::block_end` meets its contract. Assumes nothing.
-use mathlib.Core.Path.{_≡_, refl}
-use native.Mathlib.Omega.{arith}
 use Rattle.spans.proofs.Offsets.{block-to-end, block-to-next}
 use borrow.Author.Needs.{needs}
 use Rattle.spans.proofs.block_end.Statement.{statement}

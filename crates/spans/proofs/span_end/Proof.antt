@@ -1,5 +1,4 @@
 -- `spans::span_end` meets its contract. Assumes nothing.
-use mathlib.Core.Path.{_≡_, refl}
 use Prim.Native.Nat.{_-_}
 use lib.Dec.{ltb}
 use borrow.Author.Tests.{ltb-true}

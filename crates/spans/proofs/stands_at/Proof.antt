@@ -1,5 +1,5 @@
 -- `spans::stands_at` meets its contract. Assumes nothing.
-use mathlib.Core.Path.{_≡_, refl, sym}
+use mathlib.Core.Path.{sym}
 use Prim.Native.Nat.{_<_}
 use native.Mathlib.Omega.{arith}
 use Rattle.spans.proofs.Offsets.{stands-none, stands-not, stands-here}
