@@ -1,9 +1,9 @@
 -- The floats of a state are values of an f64, and every step keeps that, of any score: what reading an entry back from its bits wants. The sustain setting is one, which is what owning it tells.
 -- Assumes nothing.
-use mathlib.Core.Bool.{Bool, true, false, cond}
+use mathlib.Core.Bool.{cond}
 use mathlib.Core.List.{List}
-use Prim.Native.Nat.{ℕ, zero, suc, _+_}
-use lib.Dec.{T, eqb}
+use Prim.Native.Nat.{ℕ}
+use lib.Dec.{T}
 use lib.Ieee.{Float, binary32, binary64, rem, lt, fits}
 use lib.Ieee.Fits.{cond-fits, add-fits, div-fits, rem-fits, fits-widens}
 use lib.Ieee.Bits.{ofBits-fits}
@@ -19,13 +19,13 @@ use Rattle.envelope.specs.Limits.{clampedOf, sampleTimeOf}
 use Rattle.envelope.specs.declared.Adsr.{Adsr}
 use Rattle.envelope.proofs.Holds.{Held, fresh-holds, triggered-holds, released-holds, step-holds}
 use Rattle.waveform.specs.Waveform.{tau, reduceOf}
-use Rattle.score.specs.Record.{countOf, positionAt, recordAt}
 use Rattle.state.specs.declared.Settings.{Settings}
 use Rattle.state.specs.declared.State.{State}
 use Rattle.state.specs.declared.Event.{Event}
 use Rattle.state.specs.declared.Event.the-variants as event
-use Rattle.state.specs.State.{freshOf, reducedOf, liftedBy, eventOf, actOf, paceOf, advanceOf}
-use Rattle.state.specs.Heart.{reducesAt, actTo, begun, stateFrom}
+use Rattle.state.specs.State.{freshOf, reducedOf, liftedBy, actOf, paceOf, advanceOf}
+use Rattle.state.specs.Heart.{stateFrom}
+use Rattle.state.proofs.Lasting.{every-state}
 
 pub record Fitting (v : State) : Type 0 where
   pub phase-fits : T (fits binary64 (v .phase .0))
@@ -55,7 +55,7 @@ clamp-fits k w =
 pub fresh-fits : (acted : ℕ) → Fitting (freshOf acted)
 fresh-fits acted = record { phase-fits = ofBits-fits binary64 0; frequency-fits = ofBits-fits binary64 0x407b_8000_0000_0000; velocity-fits = ofBits-fits binary64 0; envelope-held = fresh-holds }
 
-pub reduced-fits : (v : State) → Fitting v → Fitting (reducedOf v)
+reduced-fits : (v : State) → Fitting v → Fitting (reducedOf v)
 reduced-fits v f = record { phase-fits = reduce-fits (v .phase .0) (f .phase-fits); frequency-fits = f .frequency-fits; velocity-fits = f .velocity-fits; envelope-held = f .envelope-held }
 
 lifted-fits : (v : State) (k : Keys) (off : NoteOff) → Fitting v → Fitting (liftedBy v k off)
@@ -63,15 +63,15 @@ lifted-fits v k Released f = record { phase-fits = f .phase-fits; frequency-fits
 lifted-fits v k (FellBack n l) f = record { phase-fits = f .phase-fits; frequency-fits = pitch-fits n; velocity-fits = loudness-fits l; envelope-held = f .envelope-held }
 lifted-fits v k NoChange f = record { phase-fits = f .phase-fits; frequency-fits = f .frequency-fits; velocity-fits = f .velocity-fits; envelope-held = f .envelope-held }
 
-pub act-fits : (v : State) (e : Event) → Fitting v → Fitting (actOf v e)
+act-fits : (v : State) (e : Event) → Fitting v → Fitting (actOf v e)
 unfolding actOf
 act-fits v (event.Strike n l) f = record { phase-fits = f .phase-fits; frequency-fits = pitch-fits n; velocity-fits = loudness-fits l; envelope-held = triggered-holds (v .envelope) (f .envelope-held) }
 act-fits v (event.Lift n) f = let l = liftedOf (v .keys) n in lifted-fits v (l .keys) (l .off) f
 act-fits v event.Reset f = fresh-fits _
 
-pub advance-fits : (g : Settings) (v : State) → T (fits binary64 (g .adsr .sustain)) → Fitting v → Fitting (advanceOf g v)
+advance-fits : (g : Settings) → T (fits binary64 (g .adsr .sustain)) → (v : State) → Fitting v → Fitting (advanceOf g v)
 unfolding advanceOf
-advance-fits g v w f =
+advance-fits g w v f =
     record {
       phase-fits = add-fits binary64 (v .phase .0) (paceOf g v);
       frequency-fits = f .frequency-fits;
@@ -79,26 +79,6 @@ advance-fits g v w f =
       envelope-held = step-holds (clampedOf (g .adsr)) (sampleTimeOf (g .rate)) (v .envelope) (clamp-fits (g .adsr) w) (f .envelope-held);
     }
 
--- ---- a sample is begun, and any number of them
-to-fits : (s : List ℕ) (n k : ℕ) (v : State) → Fitting v → Fitting (actTo s n k v)
-unfolding actTo
-to-fits s n zero v f = f
-to-fits s n (suc k) v f = go (eqb (positionAt s k) n) (to-fits s n k v f)
-  where
-    go : (b : Bool) → Fitting (actTo s n k v) → Fitting (cond b (actOf (actTo s n k v) (eventOf (recordAt s k))) (actTo s n k v))
-    go true h = act-fits (actTo s n k v) (eventOf (recordAt s k)) h
-    go false h = h
-
-pub begun-fits : (s : List ℕ) (n : ℕ) (v : State) → Fitting v → Fitting (begun s n v)
-unfolding begun
-begun-fits s n v f = to-fits s n (countOf s) (cond (reducesAt s n) (reducedOf v) v) (go (reducesAt s n))
-  where
-    go : (b : Bool) → Fitting (cond b (reducedOf v) v)
-    go true = reduced-fits v f
-    go false = f
-
-module _ (g : Settings) (s : List ℕ) (n : ℕ) (v : State) (w : T (fits binary64 (g .adsr .sustain))) (f : Fitting v) where
-  pub state-fits : (k : ℕ) → Fitting (stateFrom g s n v k)
-  unfolding stateFrom
-  state-fits zero = f
-  state-fits (suc k) = advance-fits g (begun s (n + k) (stateFrom g s n v k)) w (begun-fits s (n + k) (stateFrom g s n v k) (state-fits k))
+-- ---- any number of samples
+pub state-fits : (g : Settings) (s : List ℕ) (n : ℕ) (v : State) → T (fits binary64 (g .adsr .sustain)) → Fitting v → (k : ℕ) → Fitting (stateFrom g s n v k)
+state-fits g s n v w = every-state g s Fitting reduced-fits act-fits (advance-fits g w) n v

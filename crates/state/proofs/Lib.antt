@@ -9,6 +9,8 @@ pub mod Depends
 pub mod ButActed
 -- and is the number of records below the position
 pub mod Acted
+-- what every step keeps holds through every sample
+pub mod Lasting
 -- the floats of a state are values of an f64, through every step
 pub mod Fits
 -- and the keys' arrays are of 16
