@@ -43,7 +43,7 @@ abbrev pub reducedOf : State → State
 reducedOf v = record { phase = radians (reduceOf (v .phase .0)); envelope = v .envelope; frequency = v .frequency; velocity = v .velocity; keys = v .keys; acted = v .acted }
 
 -- ---- act
--- what a record of a note and a velocity does: an on strikes a key, an off lifts a key, a reset resets
+-- what a record does: an on strikes a key (note, velocity), an off lifts a key (note), a reset resets; a lift releases only where the voice says so
 abbrev pub eventFor : Kind → ℕ → ℕ → Event
 eventFor On note velocity = event.Strike note velocity
 eventFor Off note velocity = event.Lift note
