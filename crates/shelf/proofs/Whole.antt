@@ -5,6 +5,7 @@ use Prim.Native.Nat.{ℕ, zero, suc, _+_, _*_, _<_}
 use native.Mathlib.Omega.{arith}
 use lib.ListN.{length, getD, take, drop, length-append}
 use lib.Seq.{take-at, drop-append-add}
+use Rattle.score.proofs.Parted.{none-below}
 use Rattle.state.specs.declared.State.{State}
 use Rattle.shelf.specs.Shelf.{entryWords, entryOf, shelfOf}
 use Rattle.shelf.proofs.There.{entry-length}
@@ -27,10 +28,7 @@ shelf-length (v ∷ vs) = rw (length-append (entryOf v) (shelfOf vs), entry-leng
 -- the words of entry i are those of the i-th state
 pub entry-words : (vs : List State) (i : ℕ) (d : State) → i < length vs → take entryWords (drop (i * entryWords) (shelfOf vs)) ≡ entryOf (getD vs i d)
 unfolding shelfOf
-entry-words [] i d h = absurd (none i h)
-  where
-    none : (i : ℕ) → i < 0 → ⊥
-    none i h = omega arith
+entry-words [] i d h = absurd (none-below i h)
 entry-words (v ∷ vs) zero d h = take-at (entryOf v) (shelfOf vs) entryWords (entry-length v)
 entry-words (v ∷ vs) (suc i) d h =
     let e : suc i * entryWords ≡ length (entryOf v) + i * entryWords = rw (entry-length v) (omega arith) in

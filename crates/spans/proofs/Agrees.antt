@@ -11,6 +11,7 @@ use lib.Dec.{eqb}
 use borrow.Author.Tests.{lt-ltb, le-ltb, eq-eqb, eqb-true, eqb-false}
 use Rattle.score.specs.Record.{countOf, positionAt, recordAt}
 use Rattle.score.specs.Below.{Sorted, Cut}
+use Rattle.score.proofs.Parted.{none-below}
 use Rattle.score.proofs.Cuts.{lt-or-ge, sorted-le}
 use Rattle.state.specs.declared.Settings.{Settings}
 use Rattle.state.specs.declared.State.{State}
@@ -19,7 +20,6 @@ use Rattle.state.specs.Heart.{hasAt, actTo, begun, stateFrom, samplesFrom}
 use Rattle.state.proofs.Depends.{has-none, act-none}
 use Rattle.spans.specs.declared.Place.{Place}
 use Rattle.spans.specs.Walk.{placeOf, standsAt, actFrom, beginsAt, reducedAt, begunFrom, placeFrom, playedFrom}
-use Rattle.spans.proofs.Offsets.{or-true}
 
 -- the records at n have acted, from v, and those that follow are above n
 pub record Acts (s : List ℕ) (n : ℕ) (v : State) (r : Place) : Type 0 where
@@ -71,10 +71,7 @@ module _ (s : List ℕ) (o : Sorted s) (n : ℕ) (v : State) where
 -- ---- where a span begins, and what is begun there
 has-some : (s : List ℕ) (n i k : ℕ) → i < k → positionAt s i ≡ n → hasAt s n k ≡ true
 unfolding hasAt
-has-some s n i zero l e = absurd (none i l)
-  where
-    none : (i : ℕ) → i < 0 → ⊥
-    none i h = omega arith
+has-some s n i zero l e = absurd (none-below i l)
 has-some s n i (suc k) l e =
     ⊎-elim (λ q. rw (eq-eqb (positionAt s k) n (ap (positionAt s) (sym q) ∙ e)) (or-true (hasAt s n k))) (λ q. rw (has-some s n i k q e) refl) (eq-or-lt-of-le (le-of-suc-le-suc l))
 

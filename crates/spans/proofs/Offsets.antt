@@ -1,30 +1,14 @@
 -- Offsets in a part: where a record stands, and where a span ends. Assumes nothing.
 use mathlib.Core.Path.{_≡_, refl, sym}
-use mathlib.Core.Bool.{Bool, true, false, _&&_, _||_}
+use mathlib.Core.Bool.{Bool, true, false, _&&_, _||_, and-false, or-true}
 use mathlib.Core.List.{List}
 use Prim.Native.Nat.{ℕ, _+_, _-_, _%_, _<_, _≤_}
 use native.Mathlib.Omega.{arith}
 use lib.Dec.{ltb, eqb}
 use borrow.Author.Tests.{lt-ltb, le-ltb, eq-eqb, ne-eqb, eqb-true, eqb-false}
 use Rattle.score.specs.Record.{countOf, positionAt}
+use Rattle.score.proofs.Parted.{clash}
 use Rattle.spans.specs.Walk.{standsAt, beginsAt, SpanEnd, BlockEnd}
-
-clash : _≡_ {A = ℕ} 0 1 → ⊥
-clash e = omega arith
-
-and-false : (b : Bool) → (b && false) ≡ false
-and-false true = refl
-and-false false = refl
-
-pub or-true : (b : Bool) → (b || true) ≡ true
-or-true true = refl
-or-true false = refl
-
--- a test of two is a test of each
-pub both : (p q : Bool) → (p && q) ≡ true → (p ≡ true) × (q ≡ true)
-both true true e = (refl, refl)
-both true false e = let z : true ≡ false = sym e in absurd (clash (cc))
-both false q e = let z : true ≡ false = sym e in absurd (clash (cc))
 
 -- where one of two fails, each does
 pub neither : (p q : Bool) → (p || q) ≡ false → (p ≡ false) × (q ≡ false)

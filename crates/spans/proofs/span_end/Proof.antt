@@ -2,7 +2,8 @@
 use Prim.Native.Nat.{_-_}
 use lib.Dec.{ltb}
 use borrow.Author.Tests.{ltb-true}
-use Rattle.spans.proofs.Offsets.{both, end-none, end-passed, end-beyond, end-record}
+use Rattle.score.proofs.Codec.{both}
+use Rattle.spans.proofs.Offsets.{end-none, end-passed, end-beyond, end-record}
 use borrow.Author.Needs.{needs}
 use Rattle.spans.proofs.span_end.Statement.{statement}
 use Rattle.spans.proofs.span_end.Tie as tie
