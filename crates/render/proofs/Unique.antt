@@ -9,7 +9,7 @@ use Rattle.state.specs.declared.Settings.{Settings}
 use Rattle.state.specs.declared.State.{State}
 use Rattle.render.specs.declared.Rendered.{Rendered}
 use Rattle.render.specs.Order.{judgedOf, isRoom}
-use Rattle.render.specs.Calls.{Outcome, leaves, renderOf, PartOutcome, leavesPart, continueOf}
+use Rattle.render.specs.Calls.{Outcome, leaves, renderOf, PartOutcome, leavesPart, isStretch, continueOf}
 
 pub render-unique : (g : Settings) (s : List ℕ) (out a b : List Float) (shelf c d : List ℕ) (r t : Rendered) → leaves r a c ≡ renderOf g s out shelf → leaves t b d ≡ renderOf g s out shelf → (r ≡ t) × (a ≡ b) × (c ≡ d)
 render-unique g s out a b shelf c d r t x y =
@@ -26,3 +26,6 @@ judged-unique g room s rest r t p q = p ∙ sym q
 
 pub is-room-unique : (n words : ℕ) (r t : Bool) → r ≡ isRoom n words → t ≡ isRoom n words → r ≡ t
 is-room-unique n words r t p q = p ∙ sym q
+
+pub is-stretch-unique : (p n : ℕ) (r t : Bool) → r ≡ isStretch p n → t ≡ isStretch p n → r ≡ t
+is-stretch-unique p n r t x y = x ∙ sym y

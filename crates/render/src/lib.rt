@@ -103,7 +103,7 @@ pub fn is_room(samples: usize, words: usize) -> bool
 }
 
 // Whether so many samples from a position on end in time.
-fn is_stretch(position: u64, samples: usize) -> bool
+pub fn is_stretch(position: u64, samples: usize) -> bool
     ensures { λ r. ⌜ r ≡ isStretch position samples ⌝ }
 {
     if position > MOST {

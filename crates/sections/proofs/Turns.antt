@@ -10,8 +10,8 @@ use lib.Seq.{take-all}
 use lib.Ieee.{Float}
 use borrow.Author.Tests.{eq-eqb, ne-eqb}
 use borrow.Rule.Slice.PartMut.{putMid, midOf, mid-len, same-len-mid}
-use Rattle.shelf.specs.Shelf.{mark, entryWords, entriesFor, wordsFor, entryOf}
-use Rattle.shelf.proofs.There.{entry-length}
+use Rattle.shelf.specs.Shelf.{mark, entryWords, entriesFor, wordsFor, entryOf, keptIn}
+use Rattle.shelf.proofs.There.{entry-length, kept-twelve}
 use Rattle.state.specs.declared.Settings.{Settings}
 use Rattle.spans.specs.declared.Place.{Place}
 use Rattle.spans.specs.Walk.{placeFrom, playedFrom, Played}
@@ -57,12 +57,17 @@ module _ (g : Settings) (s : List ℕ) (m : ℕ) (p : Place) (out₀ : List Floa
     room = let e : start ≡ k * mark = w .at-mark (omega (arith, w .len)) in omega (arith, fits, w .len, w .lens)
 
     -- the section is lent from start to e and comes back as ys, the entry's words as zs
-    module _ (e : ℕ) (z : SectionEnd start (length out) e) (ys : List Float) (r : Place) (x : Played g s start at (midOf start (e - start) out) ys r) (zs : List ℕ) (kept : zs ≡ entryOf (at .state)) where
+    module _ (e : ℕ) (z : SectionEnd start (length out) e) (ys : List Float) (r : Place) (x : Played g s start at (midOf start (e - start) out) ys r) (zs : List ℕ) (put : zs ≡ keptIn (midOf (k * entryWords) (k * entryWords + entryWords - k * entryWords) shelf) (at .state)) where
       abbrev out′ : List Float
       out′ = putMid start (e - start) out ys
 
       abbrev shelf′ : List ℕ
       shelf′ = putMid (k * entryWords) entryWords shelf zs
+
+      kept : zs ≡ entryOf (at .state)
+      kept =
+          let d : k * entryWords + entryWords - k * entryWords ≡ entryWords = omega arith in
+          put ∙ kept-twelve (midOf (k * entryWords) (k * entryWords + entryWords - k * entryWords) shelf) (at .state) (mid-len (k * entryWords) (k * entryWords + entryWords) shelf room ∙ d)
 
       many : length (midOf start (e - start) out) ≡ e - start
       many = mid-len start e out (z .within)

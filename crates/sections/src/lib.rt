@@ -3,13 +3,12 @@
 ghost use mathlib.Core.Path.{_≡_};
 ghost use Prim.Native.Nat.{_+_, _-_, _*_, _≤_, _<_};
 ghost use lib.ListN.{length};
-ghost use Rattle.shelf.specs.Shelf.{entryOf, entriesFor, wordsFor};
+ghost use Rattle.shelf.specs.Shelf.{entriesFor, wordsFor};
 ghost use Rattle.sections.specs.Sections.{leaves, played, playOnOf, SectionEnd};
 use shelf::ENTRY_WORDS;
 use shelf::MARK;
 use spans::Place;
 use state::Settings;
-use state::State;
 
 // Plays the samples from a mark on, and keeps the entries from that mark on. A mark is given by its number; its sample is
 // 4,096 times that. Nothing is left to do at a mark at or past the end.
@@ -49,26 +48,13 @@ fn from_mark(
     let mut start = mark * MARK;
     while start < out.len() {
         let word = k * ENTRY_WORDS;
-        keep(&mut shelf[word..word + ENTRY_WORDS], at.state);
+        shelf::keep(&mut shelf[word..word + ENTRY_WORDS], at.state);
         let end = section_end(start, out.len());
         at = spans::play(settings, score, at, start as u64, &mut out[start..end]);
         start = end;
         k += 1;
     }
     at
-}
-
-// A state's words, in the place of an entry.
-fn keep(words: &mut [u64], state: State)
-    requires { ⌜ length (now words) ≡ 12 ⌝ }
-    ensures { λ _. ⌜ now (words .exit) ≡ entryOf state ⌝ }
-{
-    let entry = shelf::encode(state);
-    let mut i = 0;
-    while i < words.len() {
-        words[i] = entry[i];
-        i += 1;
-    }
 }
 
 // 4,096 samples on, or the end of the output.

@@ -4,7 +4,7 @@ use mathlib.Core.Bool.{Bool, true, false}
 use mathlib.Core.List.{List, [], _∷_}
 use Prim.Native.Nat.{ℕ, _+_, _/_, _%_, _≤_, _<_}
 use native.Mathlib.Omega.{arith}
-use borrow.Author.Tests.{ne-eqb}
+use borrow.Author.Tests.{eq-eqb, ne-eqb}
 use lib.Dec.{T, eqb, leb, leb→le, lit<}
 use lib.ListN.{length, getD}
 use lib.Ieee.{binary64, fits}
@@ -21,7 +21,7 @@ use Rattle.voice.proofs.Limits.{keys-sound, keys-few}
 use Rattle.state.specs.declared.State.{State}
 use Rattle.state.specs.Limits.{isState}
 use Rattle.state.proofs.Limits.{in-kept, state-in, state-few}
-use Rattle.shelf.specs.Shelf.{entryWords, stageWord, activeByte, gateBit, packedWord, fourPairs, entryOf, stageOf, activeOf, notesThen, velocitiesThen, notesOf, velocitiesOf, keysIn, stateOf, isEntry, decodedOf}
+use Rattle.shelf.specs.Shelf.{entryWords, stageWord, activeByte, gateBit, packedWord, fourPairs, entryOf, keptIn, stageOf, activeOf, notesThen, velocitiesThen, notesOf, velocitiesOf, keysIn, stateOf, isEntry, decodedOf}
 use Rattle.shelf.proofs.Digits.{Bytes, byte-in, bit-in, count-in, rest-in, bytes-in, sixteen}
 use Rattle.shelf.proofs.Parts.{notes-bytes, velocities-bytes}
 
@@ -145,6 +145,10 @@ state-back v f i =
 pub entry-length : (v : State) → length (entryOf v) ≡ entryWords
 unfolding entryOf
 entry-length v = refl
+
+-- twelve words hold the state that is kept in them
+pub kept-twelve : (ws : List ℕ) (v : State) → length ws ≡ entryWords → keptIn ws v ≡ entryOf v
+kept-twelve ws v e = rw (eq-eqb (length ws) entryWords e) refl
 
 entry-stage : (v : State) → leb (getD (entryOf v) 1 0) 4 ≡ true
 unfolding entryOf

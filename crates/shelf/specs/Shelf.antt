@@ -90,6 +90,10 @@ entryOf v =
     ∷ fourPairs (v .keys) 12
     ∷ []
 
+-- the words of a place that a state is kept in: where there are twelve they are the state's
+abbrev pub keptIn : List ℕ → State → List ℕ
+keptIn ws v = cond (eqb (length ws) entryWords) (entryOf v) ws
+
 -- ---- words as a state: any words are read
 -- word i, or 0 past the end
 abbrev pub word : List ℕ → ℕ → ℕ

@@ -2,7 +2,7 @@
 // read; which words are an entry stands apart.
 ghost use mathlib.Core.Path.{_≡_};
 ghost use Prim.Native.Nat.{_<_, _≤_};
-ghost use Rattle.shelf.specs.Shelf.{entriesFor, wordsFor, stageWord, activeByte, gateBit, packedWord, pairAt, fourPairs, entryOf, word, float, stageOf, activeOf, notesOf, velocitiesOf, keysIn, envelopeIn, stateOf, decodedOf};
+ghost use Rattle.shelf.specs.Shelf.{entriesFor, wordsFor, stageWord, activeByte, gateBit, packedWord, pairAt, fourPairs, entryOf, keptIn, word, float, stageOf, activeOf, notesOf, velocitiesOf, keysIn, envelopeIn, stateOf, decodedOf};
 use envelope::Envelope;
 use envelope::EnvelopeStage;
 use state::State;
@@ -60,6 +60,21 @@ pub fn encode(state: State) -> [u64; ENTRY_WORDS]
         four_pairs(keys, 8),
         four_pairs(keys, 12),
     ]
+}
+
+// A state's words in the place of an entry, where there are twelve; else nothing.
+pub fn keep(words: &mut [u64], state: State)
+    ensures { λ _. ⌜ now (words .exit) ≡ keptIn (now (words .entry)) state ⌝ }
+{
+    let entry = encode(state);
+    if words.len() != ENTRY_WORDS {
+        return;
+    }
+    let mut i = 0;
+    while i < words.len() {
+        words[i] = entry[i];
+        i += 1;
+    }
 }
 
 pub fn decode(words: &[u64]) -> Entry

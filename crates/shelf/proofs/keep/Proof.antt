@@ -1,14 +1,15 @@
--- `sections::keep` meets its contract. The loop's invariant: the first i words are the entry's. Assumes nothing.
+-- `shelf::keep` meets its contract. The loop's invariant: the first i words are the entry's. Assumes nothing.
 use borrow.Author.Needs.{needs}
+use borrow.Author.Tests.{eq-eqb, ne-eqb}
 use mathlib.Core.Path.{_≡_, refl, sym, ap, _∙_}
 use Prim.Native.Nat.{_≤_, _<_, _-_}
 use native.Mathlib.Numerals.{add-one}
 use native.Mathlib.Omega.{arith}
 use lib.ListN.{length, take, getD, length-set}
 use lib.Seq.{take-suc-set, take-suc, take-all}
 use Rattle.shelf.proofs.There.{entry-length}
-use Rattle.sections.proofs.keep.Statement.{statement}
-use Rattle.sections.proofs.keep.Tie as tie
+use Rattle.shelf.proofs.keep.Statement.{statement}
+use Rattle.shelf.proofs.keep.Tie as tie
 
 abbrev Inv-loop : tie.InvT-loop
 Inv-loop words₀ entry i₀ words i = (length words ≡ 12) × (length entry ≡ 12) × (i ≤ 12) × (take i words ≡ take i entry)
@@ -19,8 +20,11 @@ abbrev μ-loop : tie.MeasureT-loop
 encode-requires : tie.Need-encode-requires Inv-loop μ-loop
 encode-requires c κs = search needs
 
+returns : tie.Need-returns Inv-loop μ-loop
+returns c = rw (ne-eqb _ 12 (c .if1 .taken)) refl
+
 loop-holds : tie.Need-loop-holds Inv-loop μ-loop
-loop-holds c = (c .before .before .pre, ap length (c .encode .ensures) ∙ entry-length _, omega arith, refl)
+loop-holds c = (c .if1 .left, ap length (c .before .encode .ensures) ∙ entry-length _, omega arith, refl)
 
 mul-words : tie.Need-mul-words Inv-loop μ-loop
 mul-words c = search needs
@@ -44,7 +48,7 @@ loop-again : tie.Need-loop-again Inv-loop μ-loop
 loop-again c =
     let at = c .before in
     let i = at .loop .i in
-    let entry = at .before .encode .result in
+    let entry = at .before .before .encode .result in
     let h : i < length (at .loop .words) = c .loop-test .taken in
     let l : i < length entry = omega (arith, at .loop .inv .0, at .loop .inv .1) in (
       simp length-set (at .loop .inv .0),
@@ -54,13 +58,14 @@ loop-again c =
     )
 
 same-length : tie.Need-same-length Inv-loop μ-loop
-same-length c = c .before .loop .inv .0 ∙ sym (c .before .before .before .before .pre)
+same-length c = c .before .loop .inv .0 ∙ sym (c .before .before .if1 .left)
 
-returns : tie.Need-returns Inv-loop μ-loop
-returns c =
+returns-2 : tie.Need-returns-2 Inv-loop μ-loop
+returns-2 c =
     let at = c .before in
+    let made = at .before .before in
     let e : at .loop .i ≡ 12 = omega (arith, at .loop .inv .0, at .loop .inv .2) in
-    sym (take-all (at .loop .i) (at .loop .words) (omega (arith, at .loop .inv .0))) ∙ at .loop .inv .3 ∙ take-all (at .loop .i) (at .before .encode .result) (omega (arith, at .loop .inv .1)) ∙ at .before .encode .ensures
+    rw (eq-eqb _ 12 (at .before .if1 .left)) (sym (take-all (at .loop .i) (at .loop .words) (omega (arith, at .loop .inv .0))) ∙ at .loop .inv .3 ∙ take-all (at .loop .i) (made .encode .result) (omega (arith, at .loop .inv .1)) ∙ made .encode .ensures)
 
 pub keep-spec : {M : Type 1} → statement M
 keep-spec =
@@ -69,6 +74,7 @@ keep-spec =
     Inv-loop
     μ-loop
     encode-requires
+    returns
     loop-holds
     mul-words
     array-read-words
@@ -78,4 +84,4 @@ keep-spec =
     loop-less
     loop-again
     same-length
-    returns)
+    returns-2)
