@@ -1,0 +1,46 @@
+-- No listing is empty, and none has 2^32 bytes: of any record a line has at most 69, and a score has at most 4,096 records. Assumes nothing.
+use mathlib.Core.List.{List}
+use Prim.Native.Nat.{ℕ, zero, suc, _*_, _≤_, _<_}
+use native.Mathlib.Omega.{arith}
+use lib.ListN.{length, length-append}
+use mathlib.Core.Path.{_≡_, refl}
+use Rattle.answers.specs.declared.Answer.the-variants.{Refused}
+use Rattle.answers.specs.declared.Refusal.the-variants.{Score}
+use Rattle.answers.specs.Numbers.{numbersOf}
+use Rattle.listing.specs.Listing.{kindWord, lineOf, linesTo, textOf, listingOf}
+use Rattle.listing.proofs.Digits.{twenty-digits}
+use Rattle.score.specs.declared.Kind.{Kind}
+use Rattle.score.specs.declared.Kind.the-variants.{On, Off, Reset}
+use Rattle.score.specs.declared.Record.{Record}
+use Rattle.score.specs.declared.Verdict.{Verdict}
+use Rattle.score.specs.declared.Verdict.the-variants.{Accepted, Faulty}
+use Rattle.score.specs.Record.{recordAt}
+use Rattle.score.specs.Score.{verdictOf}
+use Rattle.score.proofs.Verdicts.{accepted-all}
+
+kind-length : (k : Kind) → length (kindWord k) ≤ 7
+kind-length On = omega arith
+kind-length Off = omega arith
+kind-length Reset = omega arith
+
+line-length : (r : Record) → length (lineOf r) ≤ 69
+line-length r = simp length-append (omega (arith, twenty-digits (r .position), kind-length (r .kind), twenty-digits (r .note), twenty-digits (r .velocity)))
+
+lines-length : (s : List ℕ) (n : ℕ) → length (linesTo s n) ≤ n * 69
+unfolding linesTo
+lines-length s zero = omega arith
+lines-length s (suc n) = rw length-append (omega (arith, lines-length s n, line-length (recordAt s n)))
+
+text-length : (s : List ℕ) (v : Verdict) → verdictOf s ≡ v → length (textOf s v) < 4294967296
+text-length s (Accepted n) e = simp length-append (omega (arith, twenty-digits n, lines-length s n, accepted-all s n e .few))
+text-length s (Faulty f) e = let m = numbersOf (Refused (Score f)) in simp length-append (omega (arith, twenty-digits (m .number), twenty-digits (m .place)))
+
+pub listing-fits : (s : List ℕ) → length (listingOf s) < 4294967296
+listing-fits s = text-length s (verdictOf s) refl
+
+pub listing-starts : (s : List ℕ) → 0 < length (listingOf s)
+listing-starts s = go (verdictOf s)
+  where
+    go : (v : Verdict) → 0 < length (textOf s v)
+    go (Accepted n) = omega arith
+    go (Faulty f) = omega arith

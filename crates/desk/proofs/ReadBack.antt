@@ -1,0 +1,79 @@
+-- What a host reads in a word is what the call answered: number, place and count. Assumes nothing.
+use mathlib.Core.Path.{_≡_, refl}
+use mathlib.Core.Bool.{false}
+use mathlib.Core.List.{List}
+use Prim.Native.Nat.{ℕ, _+_, _*_, _/_, _%_, _<_}
+use native.Mathlib.Omega.{arith}
+use lib.ListN.{length}
+use lib.Ieee.{Float}
+use Rattle.answers.specs.declared.Answer.{Answer}
+use Rattle.answers.specs.declared.Answer.the-variants.{Done, Refused}
+use Rattle.answers.specs.declared.Refusal.the-variants.{Setting, Size, Argument, GivenState}
+use Rattle.answers.specs.Numbers.{numbersOf}
+use Rattle.listing.specs.Listing.{listingOf}
+use Rattle.render.specs.Calls.{renderOf, isStretch, continueOf}
+use Rattle.render.specs.Order.{judgedOf}
+use Rattle.rerender.specs.Rerender.{rerenderOf}
+use Rattle.score.specs.Score.{verdictOf, answerOf}
+use Rattle.state.specs.declared.Settings.{Settings}
+use Rattle.shelf.specs.Shelf.{stateOf}
+use Rattle.desk.specs.Packed.{packedOf, numbersIn}
+use Rattle.desk.specs.Desk.{choiceOf, checkOf, singleOf, rendered, rerendered, continued, continueIn}
+use Rattle.desk.proofs.Lines.{listing-fits}
+use Rattle.desk.proofs.Fits.{Fits, done-fits, refused-fits, judged-fits, check-fits, single-fits, render-fits, rerender-fits, continue-fits}
+
+-- three numbers in one, and each out of it again
+module _ (n p c : ℕ) (a : n < 256) (b : p < 16777216) (d : c < 4294967296) where
+  abbrev w : ℕ
+  w = n + 256 * (p % 16777216) + 4294967296 * (c % 4294967296)
+
+  number-back : w % 256 ≡ n
+  number-back = omega arith
+
+  place-back : w / 256 % 16777216 ≡ p
+  place-back = omega arith
+
+  count-back : w / 4294967296 ≡ c
+  count-back = omega arith
+
+pub read-back : (a : Answer) → Fits a → numbersIn (packedOf a) ≡ numbersOf a
+unfolding packedOf
+read-back a f =
+    let n = numbersOf a .number in
+    let p = numbersOf a .place in
+    let c = numbersOf a .count in
+    let x = f .number-fits in
+    let y = f .place-fits in
+    let z = f .count-fits in
+    rw (number-back n p c x y z, place-back n p c x y z, count-back n p c x y z) refl
+
+-- ---- call by call
+pub check-reads : (s : List ℕ) → numbersIn (checkOf s) ≡ numbersOf (answerOf (verdictOf s))
+check-reads s = read-back (answerOf (verdictOf s)) (check-fits s)
+
+pub sample-reads : (code : ℕ) (phase dt duty : Float) → numbersIn (packedOf (singleOf code phase dt duty .answer)) ≡ numbersOf (singleOf code phase dt duty .answer)
+sample-reads code phase dt duty = read-back (singleOf code phase dt duty .answer) (single-fits (choiceOf code duty) phase dt)
+
+-- a code above 4, whatever else is given
+pub unknown-reads : numbersIn (packedOf (Refused Setting)) ≡ numbersOf (Refused Setting)
+unknown-reads = read-back (Refused Setting) (refused-fits Setting (omega arith))
+
+module _ (g : Settings) where
+  pub render-reads : (s : List ℕ) (out : List Float) (shelf : List ℕ) → numbersIn (rendered (renderOf g s out shelf) .said) ≡ numbersOf (renderOf g s out shelf .result .answer)
+  render-reads s out shelf = read-back (renderOf g s out shelf .result .answer) (render-fits g s out shelf)
+
+  pub rerender-reads : (old new : List ℕ) (out : List Float) (shelf : List ℕ) → numbersIn (rerendered (rerenderOf g old new out shelf) .said) ≡ numbersOf (rerenderOf g old new out shelf .answer)
+  rerender-reads old new out shelf = read-back (rerenderOf g old new out shelf .answer) (rerender-fits g old new out shelf)
+
+  pub continue-reads : (s ws : List ℕ) (p : ℕ) (part : List Float) → numbersIn (continued (continueOf g s (stateOf ws) p part) ws .said) ≡ numbersOf (continueOf g s (stateOf ws) p part .result .answer)
+  continue-reads s ws p part = read-back (continueOf g s (stateOf ws) p part .result .answer) (continue-fits g s (stateOf ws) p part)
+
+  -- from words that are no state
+  pub continue-none-reads : (s ws : List ℕ) (p : ℕ) (part : List Float) → numbersIn (continueIn false g s ws p part .said) ≡ numbersOf (judgedOf g (isStretch p (length part)) s (Refused GivenState))
+  continue-none-reads s ws p part = read-back (judgedOf g (isStretch p (length part)) s (Refused GivenState)) (judged-fits g (isStretch p (length part)) s (Refused GivenState) (λ h. refused-fits GivenState (omega arith)))
+
+pub fresh-reads : (numbersIn (packedOf (Done 0)) ≡ numbersOf (Done 0)) × (numbersIn (packedOf (Refused Argument)) ≡ numbersOf (Refused Argument))
+fresh-reads = (read-back (Done 0) (done-fits 0 (omega arith)), read-back (Refused Argument) (refused-fits Argument (omega arith)))
+
+pub list-reads : (s : List ℕ) → (numbersIn (packedOf (Done (length (listingOf s)))) ≡ numbersOf (Done (length (listingOf s)))) × (numbersIn (packedOf (Refused Size)) ≡ numbersOf (Refused Size))
+list-reads s = (read-back (Done (length (listingOf s))) (done-fits (length (listingOf s)) (listing-fits s)), read-back (Refused Size) (refused-fits Size (omega arith)))

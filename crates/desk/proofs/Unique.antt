@@ -1,0 +1,45 @@
+-- Two outcomes that meet a public function's statement are equal. Assumes nothing.
+use mathlib.Core.Path.{_≡_, sym, ap, _∙_}
+use mathlib.Core.List.{List}
+use Prim.Native.Nat.{ℕ}
+use lib.Ieee.{Float}
+use Rattle.desk.specs.Packed.{packedOf}
+use Rattle.desk.specs.Desk.{Outcome, leaves, Filled, fills, choiceOf, adsrOf, checkOf, singleOf, renderFor, rerenderFor, continueFor, freshFor, listFor}
+
+pub gav-check-score-unique : (s : List ℕ) (r t : ℕ) → r ≡ checkOf s → t ≡ checkOf s → r ≡ t
+gav-check-score-unique s r t p q = p ∙ sym q
+
+pub gav-sample-unique : (code : ℕ) (phase dt duty r t : Float) → r ≡ singleOf code phase dt duty .value → t ≡ singleOf code phase dt duty .value → r ≡ t
+gav-sample-unique code phase dt duty r t p q = p ∙ sym q
+
+pub gav-sample-says-unique : (code : ℕ) (phase dt duty : Float) (r t : ℕ) → r ≡ packedOf (singleOf code phase dt duty .answer) → t ≡ packedOf (singleOf code phase dt duty .answer) → r ≡ t
+gav-sample-says-unique code phase dt duty r t p q = p ∙ sym q
+
+-- ---- calls that are lent buffers: the word, and every number in them
+same-left : (o : Outcome) (r t : ℕ) (a b : List Float) (c d : List ℕ) → leaves r a c ≡ o → leaves t b d ≡ o → (r ≡ t) × (a ≡ b) × (c ≡ d)
+same-left o r t a b c d x y =
+    let e : leaves r a c ≡ leaves t b d = x ∙ sym y in
+    (ap (λ (l : Outcome). l .said) e, ap (λ (l : Outcome). l .heard) e, ap (λ (l : Outcome). l .stored) e)
+
+same-filled : (o : Filled) (r t : ℕ) (a b : List ℕ) → fills r a ≡ o → fills t b ≡ o → (r ≡ t) × (a ≡ b)
+same-filled o r t a b x y =
+    let e : fills r a ≡ fills t b = x ∙ sym y in
+    (ap (λ (l : Filled). l .said) e, ap (λ (l : Filled). l .left) e)
+
+pub gav-render-unique : (rate code : ℕ) (duty attack decay sustain release : Float) (s : List ℕ) (out : List Float) (shelf : List ℕ) (r t : ℕ) (a b : List Float) (c d : List ℕ)
+    → leaves r a c ≡ renderFor (choiceOf code duty) rate (adsrOf attack decay sustain release) s out shelf → leaves t b d ≡ renderFor (choiceOf code duty) rate (adsrOf attack decay sustain release) s out shelf → (r ≡ t) × (a ≡ b) × (c ≡ d)
+gav-render-unique rate code duty attack decay sustain release s out shelf r t a b c d x y = same-left (renderFor (choiceOf code duty) rate (adsrOf attack decay sustain release) s out shelf) r t a b c d x y
+
+pub gav-rerender-unique : (rate code : ℕ) (duty attack decay sustain release : Float) (old new : List ℕ) (out : List Float) (shelf : List ℕ) (r t : ℕ) (a b : List Float) (c d : List ℕ)
+    → leaves r a c ≡ rerenderFor (choiceOf code duty) rate (adsrOf attack decay sustain release) old new out shelf → leaves t b d ≡ rerenderFor (choiceOf code duty) rate (adsrOf attack decay sustain release) old new out shelf → (r ≡ t) × (a ≡ b) × (c ≡ d)
+gav-rerender-unique rate code duty attack decay sustain release old new out shelf r t a b c d x y = same-left (rerenderFor (choiceOf code duty) rate (adsrOf attack decay sustain release) old new out shelf) r t a b c d x y
+
+pub gav-continue-unique : (rate code : ℕ) (duty attack decay sustain release : Float) (s ws : List ℕ) (p : ℕ) (part : List Float) (r t : ℕ) (a b : List Float) (c d : List ℕ)
+    → leaves r a c ≡ continueFor (choiceOf code duty) rate (adsrOf attack decay sustain release) s ws p part → leaves t b d ≡ continueFor (choiceOf code duty) rate (adsrOf attack decay sustain release) s ws p part → (r ≡ t) × (a ≡ b) × (c ≡ d)
+gav-continue-unique rate code duty attack decay sustain release s ws p part r t a b c d x y = same-left (continueFor (choiceOf code duty) rate (adsrOf attack decay sustain release) s ws p part) r t a b c d x y
+
+pub gav-fresh-unique : (ws : List ℕ) (r t : ℕ) (a b : List ℕ) → fills r a ≡ freshFor ws → fills t b ≡ freshFor ws → (r ≡ t) × (a ≡ b)
+gav-fresh-unique ws r t a b x y = same-filled (freshFor ws) r t a b x y
+
+pub gav-list-unique : (s text : List ℕ) (r t : ℕ) (a b : List ℕ) → fills r a ≡ listFor s text → fills t b ≡ listFor s text → (r ≡ t) × (a ≡ b)
+gav-list-unique s text r t a b x y = same-filled (listFor s text) r t a b x y

@@ -1,0 +1,43 @@
+-- `desk::single` meets its contract. Assumes nothing.
+use mathlib.Core.Path.{sym, _∙_}
+use Rattle.desk.proofs.Cases.{single-known, single-unknown}
+use borrow.Author.Needs.{needs}
+use Rattle.desk.proofs.single.Statement.{statement}
+use Rattle.desk.proofs.single.Tie as tie
+
+choice-of-requires : tie.Need-choice-of-requires
+choice-of-requires c κs = search needs
+
+enum-known-choice : tie.Need-enum-known-choice
+enum-known-choice c = search needs
+
+sample-requires : tie.Need-sample-requires
+sample-requires c κs = search needs
+
+enum-told : tie.Need-enum-told
+enum-told c = search needs
+
+value-if-requires : tie.Need-value-if-requires
+value-if-requires c κs = search needs
+
+returns : tie.Need-returns
+returns c =
+    let told = c .before .before in
+    c .sample .ensures ∙ single-known _ _ _ (sym (told .before .before .choice-of .ensures) ∙ told .choice .given .1)
+
+returns-2 : tie.Need-returns-2
+returns-2 c =
+    let told = c .before in
+    c .value-if .ensures ∙ single-unknown _ _ _ (sym (told .before .before .choice-of .ensures) ∙ told .enum-told .given .1)
+
+pub single-spec : {M : Type 1} → statement M
+single-spec =
+    tie.close
+    (tie.spec
+    choice-of-requires
+    enum-known-choice
+    sample-requires
+    enum-told
+    value-if-requires
+    returns
+    returns-2)

@@ -1,0 +1,127 @@
+-- What C sees. 01, "What a call says": "The arranger's desk is a C program: score check and single waveform samples are exported to it, on numbers and byte slices. Sine to Pulse are codes 0 to 4 there, in the Rust's order. A single
+-- sample takes code, normalised phase, dt and a duty that is read and judged for Pulse only; for Sine u is the phase"; number 6: "at the desk also a waveform code above 4". Beyond 01: render, re-render, continuing call, fresh state
+-- and listing, on slices of f64 and u64 too. Each outcome is that of the call below, its answer packed into a word, and what is left in every lent buffer. Definitions only.
+use mathlib.Core.Bool.{Bool, true, false, cond}
+use mathlib.Core.List.{List, _++_}
+use Prim.Native.Nat.{ℕ}
+use lib.Dec.{eqb, ltb}
+use lib.ListN.{length, drop}
+use lib.Ieee.{Float}
+use Rattle.answers.specs.declared.Answer.{Answer}
+use Rattle.answers.specs.declared.Answer.the-variants.{Done, Refused}
+use Rattle.answers.specs.declared.Refusal.the-variants.{Setting, Size, Argument, GivenState}
+use Rattle.answers.specs.declared.Value.{Value}
+use Rattle.answers.specs.Value.{valueIf}
+use Rattle.envelope.specs.declared.Adsr.{Adsr}
+use Rattle.floats.specs.Double.{naught}
+use Rattle.listing.specs.Listing.{listingOf}
+use Rattle.render.specs.Calls as render
+use Rattle.render.specs.Calls.{renderOf, isStretch, continueOf}
+use Rattle.render.specs.Order.{judgedOf}
+use Rattle.rerender.specs.Rerender as rerender
+use Rattle.rerender.specs.Rerender.{rerenderOf}
+use Rattle.score.specs.Score.{verdictOf, answerOf}
+use Rattle.shelf.specs.Shelf.{entryWords, entryOf, stateOf, isEntry}
+use Rattle.state.specs.declared.Settings.{Settings}
+use Rattle.state.specs.declared.State.{State}
+use Rattle.state.specs.State.{freshOf}
+use Rattle.waveform.specs.declared.Waveform.{Waveform}
+use Rattle.waveform.specs.declared.Waveform.the-variants.{Sine, Square, Sawtooth, Triangle, Pulse}
+use Rattle.waveform.specs.Waveform.{sampleOf}
+use Rattle.desk.specs.declared.Choice.{Choice}
+use Rattle.desk.specs.declared.Choice.the-variants.{Known, Unknown}
+use Rattle.desk.specs.Packed.{packedOf}
+
+-- ---- what is left by a call: the word that it answers, and what was lent
+-- a call that is lent samples and words: a shelf's or a state's
+pub record Outcome : Type 0 where
+  pub said : ℕ
+  pub heard : List Float
+  pub stored : List ℕ
+
+abbrev pub leaves : ℕ → List Float → List ℕ → Outcome
+leaves said heard stored = record { said = said; heard = heard; stored = stored }
+
+-- a call that is lent words or bytes alone
+pub record Filled : Type 0 where
+  pub said : ℕ
+  pub left : List ℕ
+
+abbrev pub fills : ℕ → List ℕ → Filled
+fills said left = record { said = said; left = left }
+
+-- ---- the settings
+-- codes 0 to 4 in the Rust's order; the duty is Pulse's alone
+abbrev pub choiceOf : ℕ → Float → Choice
+choiceOf code duty =
+    cond (eqb code 0) (Known Sine)
+    (cond (eqb code 1) (Known Square)
+    (cond (eqb code 2) (Known Sawtooth)
+    (cond (eqb code 3) (Known Triangle)
+    (cond (eqb code 4) (Known (Pulse duty)) Unknown))))
+
+abbrev pub adsrOf : Float → Float → Float → Float → Adsr
+adsrOf attack decay sustain release = record { attack = attack; decay = decay; sustain = sustain; release = release }
+
+abbrev pub settingsOf : ℕ → Waveform → Adsr → Settings
+settingsOf rate w k = record { rate = rate; waveform = w; adsr = k }
+
+-- ---- the score's check
+abbrev pub checkOf : List ℕ → ℕ
+checkOf s = packedOf (answerOf (verdictOf s))
+
+-- ---- a single sample; a code above 4 is 6 and +0
+abbrev pub singleFor : Choice → Float → Float → Value
+singleFor (Known w) phase dt = sampleOf w phase dt
+singleFor Unknown phase dt = valueIf false Setting naught
+
+abbrev pub singleOf : ℕ → Float → Float → Float → Value
+singleOf code phase dt duty = singleFor (choiceOf code duty) phase dt
+
+-- ---- render: a code above 4 is 6, which comes before all else
+abbrev pub rendered : render.Outcome → Outcome
+rendered o = leaves (packedOf (o .result .answer)) (o .heard) (o .stored)
+
+abbrev pub renderFor : Choice → ℕ → Adsr → List ℕ → List Float → List ℕ → Outcome
+renderFor (Known w) rate k s out shelf = rendered (renderOf (settingsOf rate w k) s out shelf)
+renderFor Unknown rate k s out shelf = leaves (packedOf (Refused Setting)) out shelf
+
+-- ---- re-render
+abbrev pub rerendered : rerender.Outcome → Outcome
+rerendered o = leaves (packedOf (o .answer)) (o .heard) (o .stored)
+
+abbrev pub rerenderFor : Choice → ℕ → Adsr → List ℕ → List ℕ → List Float → List ℕ → Outcome
+rerenderFor (Known w) rate k old new out shelf = rerendered (rerenderOf (settingsOf rate w k) old new out shelf)
+rerenderFor Unknown rate k old new out shelf = leaves (packedOf (Refused Setting)) out shelf
+
+-- ---- continue: a state is its twelve words, and comes back in them
+-- the words ws after a call: those of the state v, or refused as they came
+abbrev pub wordsAfter : Answer → State → List ℕ → List ℕ
+wordsAfter (Done n) v ws = entryOf v
+wordsAfter (Refused why) v ws = ws
+
+abbrev pub continued : render.PartOutcome → List ℕ → Outcome
+continued o ws = leaves (packedOf (o .result .answer)) (o .heard) (wordsAfter (o .result .answer) (o .result .state) ws)
+
+-- from words that are a state; words that are none, another number of them too, are 10 in its place in the order
+abbrev pub continueIn : Bool → Settings → List ℕ → List ℕ → ℕ → List Float → Outcome
+continueIn true g s ws p part = continued (continueOf g s (stateOf ws) p part) ws
+continueIn false g s ws p part = leaves (packedOf (judgedOf g (isStretch p (length part)) s (Refused GivenState))) part ws
+
+abbrev pub continueFor : Choice → ℕ → Adsr → List ℕ → List ℕ → ℕ → List Float → Outcome
+continueFor (Known w) rate k s ws p part = continueIn (isEntry ws) (settingsOf rate w k) s ws p part
+continueFor Unknown rate k s ws p part = leaves (packedOf (Refused Setting)) part ws
+
+-- ---- the fresh state in twelve words; another number of them is 9
+abbrev pub freshFor : List ℕ → Filled
+freshFor ws = cond (eqb (length ws) entryWords) (fills (packedOf (Done 0)) (entryOf (freshOf 0))) (fills (packedOf (Refused Argument)) ws)
+
+-- ---- the listing, and how many bytes it has; a room that is too short for any listing is 7
+abbrev pub listRoom : ℕ
+listRoom = 102413
+
+abbrev pub listFor : List ℕ → List ℕ → Filled
+listFor s text =
+    cond (ltb (length text) listRoom)
+    (fills (packedOf (Refused Size)) text)
+    (fills (packedOf (Done (length (listingOf s)))) (listingOf s ++ drop (length (listingOf s)) text))

@@ -1,0 +1,17 @@
+-- An answer in one word, for a host that has no enums. 01, "What a call says": "A refusal returns number, place, count 0". Bits 0 to 7 are the number, 8 to 31 the place, 32 to 63 the count. Every answer has a word: a place or
+-- a count that is too large for its bits is cut to them, so that none spills into the next; of the desk's own answers none is cut (proofs/ReadBack.antt). Definitions only.
+use Prim.Native.Nat.{ℕ, _+_, _*_, _/_, _%_}
+use Rattle.answers.specs.declared.Answer.{Answer}
+use Rattle.answers.specs.declared.Numbers.{Numbers}
+use Rattle.answers.specs.Numbers.{numbersOf}
+
+-- 16777216 is 2^24, 4294967296 is 2^32
+abbrev pub wordOf : Numbers → ℕ
+wordOf n = n .number + 256 * (n .place % 16777216) + 4294967296 * (n .count % 4294967296)
+
+unfoldable pub packedOf : Answer → ℕ
+packedOf answer = wordOf (numbersOf answer)
+
+-- the three numbers that a host reads in a word
+abbrev pub numbersIn : ℕ → Numbers
+numbersIn w = record { number = w % 256; place = w / 256 % 16777216; count = w / 4294967296 }

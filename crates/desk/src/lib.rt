@@ -1,0 +1,228 @@
+// What C sees: the calls of the crates below, on numbers and slices, each with its answer in one word. A slice is a pointer
+// and a length in C; desk/gavberin.h declares every function here, with the caller's duties.
+ghost use mathlib.Core.Path.{_≡_};
+ghost use Rattle.shelf.specs.Shelf.{isEntry};
+ghost use Rattle.desk.specs.Packed.{packedOf};
+ghost use Rattle.desk.specs.Desk.{leaves, fills, choiceOf, adsrOf, settingsOf, checkOf, singleOf, renderFor, rerenderFor, continueIn, continueFor, freshFor, listFor};
+use answers::Answer;
+use answers::Refusal;
+use answers::Value;
+use envelope::Adsr;
+use shelf::ENTRY_WORDS;
+use state::Settings;
+use waveform::Waveform;
+
+// The waveform of a code, where it has one.
+enum Choice {
+    Known(Waveform),
+    Unknown,
+}
+
+// What a score is refused for, or 0.
+#[no_mangle]
+pub extern "C" fn gav_check_score(score: &[u8]) -> u64
+    ensures { λ r. ⌜ r ≡ checkOf (now (score .entry)) ⌝ }
+{
+    packed(score::check(score))
+}
+
+// One sample of a waveform; +0 where it is refused.
+#[no_mangle]
+pub extern "C" fn gav_sample(code: u32, phase: f64, dt: f64, duty: f64) -> f64
+    ensures { λ r. ⌜ r ≡ singleOf code phase dt duty .value ⌝ }
+{
+    let single = single(code, phase, dt, duty);
+    single.value
+}
+
+// The answer to that sample.
+#[no_mangle]
+pub extern "C" fn gav_sample_says(code: u32, phase: f64, dt: f64, duty: f64) -> u64
+    ensures { λ r. ⌜ r ≡ packedOf (singleOf code phase dt duty .answer) ⌝ }
+{
+    let single = single(code, phase, dt, duty);
+    let answer = single.answer;
+    packed(answer)
+}
+
+// Every sample of the output and every entry of the shelf, from sample zero.
+#[no_mangle]
+pub extern "C" fn gav_render(
+    rate: u32,
+    code: u32,
+    duty: f64,
+    attack: f64,
+    decay: f64,
+    sustain: f64,
+    release: f64,
+    score: &[u8],
+    out: &mut [f64],
+    shelf: &mut [u64],
+) -> u64
+    ensures { λ r. ⌜ leaves r (now (out .exit)) (now (shelf .exit)) ≡ renderFor (choiceOf code duty) rate (adsrOf attack decay sustain release) (now (score .entry)) (now (out .entry)) (now (shelf .entry)) ⌝ }
+{
+    let choice = choice_of(code, duty);
+    let Choice::Known(waveform) = choice else {
+        return packed(Answer::Refused(Refusal::Setting));
+    };
+    let settings = settings_of(rate, waveform, attack, decay, sustain, release);
+    let rendered = render::render(settings, score, out, shelf);
+    let answer = rendered.answer;
+    packed(answer)
+}
+
+// The samples and entries from the last mark at or before the first changed record on, as the new score gives them.
+#[no_mangle]
+pub extern "C" fn gav_rerender(
+    rate: u32,
+    code: u32,
+    duty: f64,
+    attack: f64,
+    decay: f64,
+    sustain: f64,
+    release: f64,
+    old: &[u8],
+    new: &[u8],
+    out: &mut [f64],
+    shelf: &mut [u64],
+) -> u64
+    ensures { λ r. ⌜ leaves r (now (out .exit)) (now (shelf .exit)) ≡ rerenderFor (choiceOf code duty) rate (adsrOf attack decay sustain release) (now (old .entry)) (now (new .entry)) (now (out .entry)) (now (shelf .entry)) ⌝ }
+{
+    let choice = choice_of(code, duty);
+    let Choice::Known(waveform) = choice else {
+        return packed(Answer::Refused(Refusal::Setting));
+    };
+    let settings = settings_of(rate, waveform, attack, decay, sustain, release);
+    packed(rerender::rerender(settings, old, new, out, shelf))
+}
+
+// The next part of the output, from the state in twelve words, which are those of the state after it when it is done.
+#[no_mangle]
+pub extern "C" fn gav_continue(
+    rate: u32,
+    code: u32,
+    duty: f64,
+    attack: f64,
+    decay: f64,
+    sustain: f64,
+    release: f64,
+    score: &[u8],
+    state: &mut [u64],
+    position: u64,
+    part: &mut [f64],
+) -> u64
+    ensures { λ r. ⌜ leaves r (now (part .exit)) (now (state .exit)) ≡ continueFor (choiceOf code duty) rate (adsrOf attack decay sustain release) (now (score .entry)) (now (state .entry)) position (now (part .entry)) ⌝ }
+{
+    let choice = choice_of(code, duty);
+    let Choice::Known(waveform) = choice else {
+        return packed(Answer::Refused(Refusal::Setting));
+    };
+    let settings = settings_of(rate, waveform, attack, decay, sustain, release);
+    continue_in(settings, score, state, position, part)
+}
+
+// The state before sample zero, in twelve words.
+#[no_mangle]
+pub extern "C" fn gav_fresh(state: &mut [u64]) -> u64
+    ensures { λ r. ⌜ fills r (now (state .exit)) ≡ freshFor (now (state .entry)) ⌝ }
+{
+    if state.len() != ENTRY_WORDS {
+        return packed(Answer::Refused(Refusal::Argument));
+    }
+    shelf::keep(state, state::fresh());
+    packed(Answer::Done(0))
+}
+
+// What the lister prints for a score, and how many bytes it has. No listing is empty: 0 says that the room was too short.
+#[no_mangle]
+pub extern "C" fn gav_list(score: &[u8], text: &mut [u8]) -> u64
+    ensures { λ r. ⌜ fills r (now (text .exit)) ≡ listFor (now (score .entry)) (now (text .entry)) ⌝ }
+{
+    let bytes = listing::list(score, text);
+    if bytes == 0 {
+        return packed(Answer::Refused(Refusal::Size));
+    }
+    packed(Answer::Done(bytes))
+}
+
+// An answer in one word: 8 bits of number, 24 of place, 32 of count.
+fn packed(answer: Answer) -> u64
+    ensures { λ r. ⌜ r ≡ packedOf answer ⌝ }
+{
+    let numbers = answers::in_numbers(answer);
+    let place = numbers.place as u64 % 0x100_0000;
+    let count = numbers.count as u64 % 0x1_0000_0000;
+    numbers.number as u64 + 256 * place + 0x1_0000_0000 * count
+}
+
+fn choice_of(code: u32, duty: f64) -> Choice
+    ensures { λ r. ⌜ r ≡ choiceOf code duty ⌝ }
+{
+    match code {
+        0 => Choice::Known(Waveform::Sine),
+        1 => Choice::Known(Waveform::Square),
+        2 => Choice::Known(Waveform::Sawtooth),
+        3 => Choice::Known(Waveform::Triangle),
+        4 => Choice::Known(Waveform::Pulse(duty)),
+        _ => Choice::Unknown,
+    }
+}
+
+fn settings_of(
+    rate: u32,
+    waveform: Waveform,
+    attack: f64,
+    decay: f64,
+    sustain: f64,
+    release: f64,
+) -> Settings
+    ensures { λ r. ⌜ r ≡ settingsOf rate waveform (adsrOf attack decay sustain release) ⌝ }
+{
+    Settings {
+        rate,
+        waveform,
+        adsr: Adsr {
+            attack,
+            decay,
+            sustain,
+            release,
+        },
+    }
+}
+
+fn single(code: u32, phase: f64, dt: f64, duty: f64) -> Value
+    ensures { λ r. ⌜ r ≡ singleOf code phase dt duty ⌝ }
+{
+    let choice = choice_of(code, duty);
+    match choice {
+        Choice::Known(waveform) => waveform::sample(waveform, phase, dt),
+        Choice::Unknown => answers::value_if(false, Refusal::Setting, 0.0),
+    }
+}
+
+// A continuing call whose state comes and goes in words. Words that are no state are judged where the state would be.
+fn continue_in(
+    settings: Settings,
+    score: &[u8],
+    words: &mut [u64],
+    position: u64,
+    part: &mut [f64],
+) -> u64
+    ensures { λ r. ⌜ leaves r (now (part .exit)) (now (words .exit)) ≡ continueIn (isEntry (now (words .entry))) settings (now (score .entry)) (now (words .entry)) position (now (part .entry)) ⌝ }
+{
+    let entry = shelf::decode(words);
+    if !entry.holds {
+        let stretch = render::is_stretch(position, part.len());
+        let refused = Answer::Refused(Refusal::GivenState);
+        return packed(render::judged(settings, stretch, score, refused));
+    }
+    let state = entry.state;
+    let rendered = render::continue_render(settings, score, state, position, part);
+    let answer = rendered.answer;
+    if let Answer::Refused(_) = answer {
+        return packed(answer);
+    }
+    let after = rendered.state;
+    shelf::keep(words, after);
+    packed(answer)
+}
