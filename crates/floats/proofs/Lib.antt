@@ -35,6 +35,8 @@ pub mod Literals
 pub mod Roof
 -- what number a bit pattern stands for
 pub mod Pattern
+-- a positive number by its pattern's field and digits
+pub mod Fields
 -- floor by the fraction that a number is
 pub mod Floors
 -- what the tests of `floor_f32` and `floor_f64` show
@@ -45,6 +47,8 @@ pub mod Greatest
 pub mod Fraction
 -- a number is written in one way, and x * 1 is x
 pub mod OneWay
+-- the remainder by whole numbers of one unit
+pub mod Units
 -- a table's rule at each entry, from one computed test
 pub mod Carried
 -- two outcomes of a public function are equal

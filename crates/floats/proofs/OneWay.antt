@@ -10,8 +10,10 @@ use lib.Pow.{pow-add, pow-pos}
 use lib.Ieee.{Float, nan, inf, fin, Format, prec, emax, low, unlike, up, down, round, mul, fits}
 use lib.Ieee.Fits.{and-l, up-pos, down-pos, round-fits}
 use lib.Ieee.Exact.{HasValue}
+use lib.Ieee.Scale.{finite}
+use lib.Ieee.Positive.{num, den}
 use Rattle.floats.specs.Range.{unity}
-use Rattle.floats.proofs.Order.{zero-first}
+use Rattle.floats.proofs.Order.{signed}
 use Rattle.floats.proofs.Held.{ups, downs, up-is, down-is, self-value}
 
 -- ---- odd numbers times powers of two
@@ -105,15 +107,20 @@ value-is-one f (fin t m e) (fin u n g) s a c C p q v w = go m n p q (cross (m * 
         let r = odd-pow (suc m) (suc n) (ups e + downs g) (ups g + downs e) (fits-odd f t m e p) (fits-odd f u n g q) (powers (suc m) (suc n) h) in
         rw (sign, r .0, exponent-one e g (r .1)) refl
 
+-- x of the format is its own fraction, rounded
+pub self-is : (f : Format) (x : Float) → T (fits f x) → T (finite x) → round f (signed x) (num x) (den x) ≡ x
+self-is f nan w p = absurd p
+self-is f (inf s) w p = absurd p
+self-is f (fin s m e) w p =
+    value-is-one f (round f s (m * up e) (down e)) (fin s m e) s (m * up e) (down e) (down-pos e) (round-fits f s (m * up e) (down e)) w (self-value f s m e w) (refl, refl)
+
 -- x * 1 is x
 pub times-one : (f : Format) (x : Float) → T (fits f x) → mul f x unity ≡ x
 unfolding mul
 times-one f nan w = refl
 times-one f (inf true) w = refl
 times-one f (inf false) w = refl
-times-one f (fin s m e) w =
-    rw (nat.mul-one (m * up e), nat.mul-one (down e), same s)
-    (value-is-one f (round f s (m * up e) (down e)) (fin s m e) s (m * up e) (down e) (down-pos e) (round-fits f s (m * up e) (down e)) w (self-value f s m e w) (refl, refl))
+times-one f (fin s m e) w = rw (nat.mul-one (m * up e), nat.mul-one (down e), same s) (self-is f (fin s m e) w tt)
   where
     same : (s : Bool) → unlike s false ≡ s
     same true = refl

@@ -228,7 +228,8 @@ not-lt-le-any (fin s m e) (inf true) p q h = Le→le (inf true) (fin s m e) tt
 not-lt-le-any (fin s m e) (inf false) p q h = absurd h
 not-lt-le-any (fin s m e) (fin t n d) p q h = Le→le (fin t n d) (fin s m e) (not-below s (m * up e * down d) t (n * up d * down e) h)
 
-finite-not-nan : (x : Float) → T (finite x) → T (not (isNan x))
+-- x is finite: it is no NaN
+pub finite-not-nan : (x : Float) → T (finite x) → T (not (isNan x))
 unfolding isNan
 finite-not-nan nan h = h
 finite-not-nan (inf s) h = tt

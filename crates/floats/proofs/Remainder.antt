@@ -18,7 +18,7 @@ use Rattle.floats.proofs.Held.{ups, downs, up-is, down-is, split-pow, e
 
 -- ---- whole numbers
 -- (a * k) % (b * k) is (a % b) * k
-mod-scale : (a b k : ℕ) → 0 < k → a * k % (b * k) ≡ a % b * k
+pub mod-scale : (a b k : ℕ) → 0 < k → a * k % (b * k) ≡ a % b * k
 mod-scale a b k K = nat.mod-def (a * k) (b * k) ∙ rw (nat.mul-div-mul-right a b K, nat.mod-def a b, nat.mul-comm (a - b * (a / b)) k, nat.mul-sub k a (b * (a / b))) (omega arith)
 
 -- ---- the remainder's value

@@ -3,6 +3,8 @@
 pub mod Steps
 -- the ranges of what is made of radians
 pub mod Normal
+-- the remainder of a phase by whole numbers
+pub mod Turns
 -- a value is an f64, and every sample of a block is finite
 pub mod Values
 -- two outcomes of a public function are equal

@@ -25,10 +25,10 @@ use Rattle.waveform.specs.Waveform.{tau, invTau, normalOf, reduceOf, inc
 tau-fits : T (fits binary64 tau)
 tau-fits = unfold ofBits in unfold fits in tt
 
-tau-positive : T (positive tau)
+pub tau-positive : T (positive tau)
 tau-positive = unfold ofBits in tt
 
-tau-nonneg : T (nonneg tau)
+pub tau-nonneg : T (nonneg tau)
 tau-nonneg = unfold ofBits in tt
 
 inv-nonneg : T (nonneg invTau)

@@ -1,8 +1,12 @@
 // waveform.rs of the original: one sample of a waveform, and the inner loop of a block. Phases are radians here; what a
 // single sample takes is a phase and a step of it as parts of a cycle, and `normalised` makes the first of radians.
 ghost use mathlib.Core.Path.{_≡_};
+ghost use Prim.Native.Nat.{_*_, _^_};
+ghost use lib.Dec.{T};
 ghost use lib.ListN.{length};
-ghost use Rattle.waveform.specs.Waveform.{isWaveform, valueOf, sampleOf, normalOf, reduceOf, incrementOf, radians};
+ghost use lib.Ieee.{binary64, ofBits, rem, lt, le};
+ghost use lib.Ieee.Positive.{num, den};
+ghost use Rattle.waveform.specs.Waveform.{isWaveform, valueOf, sampleOf, normalOf, reduceOf, incrementOf, radians, tau};
 ghost use Rattle.waveform.specs.Filled.{Filled, valueAt};
 use answers::Refusal;
 use answers::Value;
@@ -11,6 +15,9 @@ use answers::Value;
 const TAU: f64 = 6.283185307179586;
 
 const INV_TAU: f64 = 0.15915494309189535;
+
+// TAU * 2^50.
+const TAU_UNITS: u64 = 0x19_21fb_5444_2d18;
 
 // A number of radians; a number of cycles is another type.
 pub struct Radians(pub f64);
@@ -75,18 +82,43 @@ pub fn wave_at(waveform: Waveform, phase: Radians, step: Radians) -> f64
 pub fn normalised(phase: Radians) -> f64
     ensures { λ r. ⌜ r ≡ normalOf (phase .0) ⌝ }
 {
-    phase.0 % TAU * INV_TAU
+    turned(phase.0) * INV_TAU
 }
 
 // A phase less its whole cycles; TAU itself for a negative phase too small to move it.
 pub fn reduced(phase: Radians) -> Radians
     ensures { λ r. ⌜ r ≡ radians (reduceOf (phase .0)) ⌝ }
 {
-    let r = phase.0 % TAU;
+    let r = turned(phase.0);
     if r < 0.0 {
         return Radians(r + TAU);
     }
     Radians(r)
+}
+
+// x % TAU, to the bit, with no call of C's function in a phase's usual range: below TAU it is x, and from there both are
+// whole numbers of 2^-50, whose remainder is taken of integers. Nothing is rounded.
+fn turned(x: f64) -> f64
+    ensures { λ r. ⌜ r ≡ rem binary64 x tau ⌝ }
+{
+    if (0.0 <= x) & (x < 16384.0) {
+        if x < TAU {
+            return x;
+        }
+        return (units(x) % TAU_UNITS) as f64 / 1125899906842624.0;
+    }
+    x % TAU
+}
+
+// x * 2^50, from the bits.
+fn units(x: f64) -> u64
+    requires { ⌜ T (le tau x) × T (lt x (ofBits binary64 0x40d0_0000_0000_0000)) ⌝ }
+    ensures { λ r. ⌜ num x * 2 ^ 50 ≡ r * den x ⌝ }
+{
+    let bits = f64::to_bits(x);
+    let field = bits / 0x10_0000_0000_0000;
+    let digits = 0x10_0000_0000_0000 + bits % 0x10_0000_0000_0000;
+    digits << (field - 1025)
 }
 
 // How far the phase moves in one sample, of a frequency in Hz at a rate in Hz.

@@ -1,0 +1,70 @@
+-- The remainder by whole numbers, with the same bits. Below y, x % y is x. And where x and y are whole numbers of one unit, x % y is the remainder of those, in that unit:
+-- the two are one fraction, rounded once. Over the format. Assumes nothing.
+use mathlib.Core.Path.{_≡_, refl, sym, ap, _∙_}
+use Prim.Native.Nat.{ℕ, _*_, _%_, _^_, _≤_, _<_}
+use native.Mathlib.Nat as nat
+use native.Mathlib.Omega.{arith}
+use mathlib.Core.Bool.{Bool, true, false}
+use lib.IntN.{pos}
+use lib.Dec.{T}
+use lib.Ieee.{Float, nan, inf, fin, Format, prec, round, div, rem, ofInt, lt, fits}
+use lib.Ieee.Back.{round-whole}
+use lib.Ieee.Exact.{HasValue}
+use lib.Ieee.Scale.{round-same, finite}
+use lib.Ieee.Positive.{num, den, den-pos, positive, first-pos}
+use Rattle.floats.specs.Range.{nonneg}
+use Rattle.floats.proofs.Order.{cross→le, lt-not-le, nonneg→finite, signed, positive-nonneg, positive-num}
+use Rattle.floats.proofs.Operations.{dens-pos, quot-pos, div-is, rem-is}
+use Rattle.floats.proofs.Remainder.{mod-scale}
+use Rattle.floats.proofs.OneWay.{self-is}
+
+-- ---- below y
+-- 0 ≤ x < y: x % y is x, -0 included
+pub rem-below : (f : Format) (x y : Float) → T (fits f x) → T (nonneg x) → T (positive y) → T (lt x y) → rem f x y ≡ x
+rem-below f x y w p q h =
+    let l : num x * den y < num y * den x = nat.lt-of-not-le (λ g. lt-not-le x y h (cross→le y x (positive-nonneg y q) p g)) in
+    rem-is f x y (nonneg→finite x p) q
+    ∙ rw (nat.mod-eq-of-lt l) (round-same f (signed x) (num x * den y) (den x * den y) (num x) (den x) (dens-pos x y) (den-pos x) (turn (num x) (den x) (den y)))
+    ∙ self-is f x w (nonneg→finite x p)
+  where
+    turn : (a c d : ℕ) → a * d * c ≡ a * (c * d)
+    turn a c d = omega arith
+
+-- ---- whole numbers of a unit
+of-value : (z : Float) (s : Bool) (a c : ℕ) → HasValue z s a c → T (finite z) × (signed z ≡ s) × (num z * c ≡ a * den z)
+of-value nan s a c h = absurd h
+of-value (inf t) s a c h = absurd h
+of-value (fin t m e) s a c h = (tt, h .0, h .1)
+
+-- what is left of x over y is that of the whole numbers a and b, over g: x is n / v, and y is m / d
+left-is : (n v m d a b g : ℕ) → 0 < v → 0 < d → 0 < g → n * g ≡ a * v → m * g ≡ b * d → n * d % (m * v) * g ≡ a % b * (v * d)
+left-is n v m d a b g W D G p q =
+    sym (mod-scale (n * d) (m * v) g G)
+    ∙ rw (top, bottom) (mod-scale a b (v * d) (nat.mul-pos W D))
+  where
+    top : n * d * g ≡ a * (v * d)
+    top = omega (arith, ap (λ (z : ℕ). z * d) p)
+
+    bottom : m * v * g ≡ b * (v * d)
+    bottom = omega (arith, ap (λ (z : ℕ). z * v) q)
+
+-- x is a / g and y is b / g, and u is g: x % y is (a % b) / g
+pub rem-units : (f : Format) (x y u : Float) (a b g : ℕ) → T (positive x) → T (positive y) → T (positive u) → num x * g ≡ a * den x → num y * g ≡ b * den y → num u ≡ g * den u → a % b ≤ 2 ^ prec f
+    → div f (ofInt f (pos (a % b))) u ≡ rem f x y
+unfolding ofInt
+rem-units f x y u a b g p q r ea eb eu few =
+    let z = round f false (a % b) 1 in
+    let v = of-value z false (a % b) 1 (round-whole f false (a % b) few) in
+    let G : 0 < g = first-pos g (den u) (rw eu at (positive-num u r)) in
+    rw (div-is f z u (v .0) r, v .1, rem-is f x y (nonneg→finite x (positive-nonneg x p)) q, plain x p)
+    (round-same f false (num z * den u) (num u * den z) (num x * den y % (num y * den x)) (den x * den y) (quot-pos z u r) (dens-pos x y)
+    (across (a % b) (num x * den y % (num y * den x)) (num z) (den z) (num u) (den u) g (den x * den y) (v .2) eu (left-is (num x) (den x) (num y) (den y) a b g (den-pos x) (den-pos y) G ea eb)))
+  where
+    across : (r l n d m e g c : ℕ) → n * 1 ≡ r * d → m ≡ g * e → l * g ≡ r * c → n * e * c ≡ l * (m * d)
+    across r l n d m e g c p q k = rw q (omega (arith, ap (λ (z : ℕ). z * (e * c)) p, ap (λ (z : ℕ). z * (e * d)) k))
+
+    plain : (x : Float) → T (positive x) → signed x ≡ false
+    plain nan p = absurd p
+    plain (inf s) p = absurd p
+    plain (fin true m e) p = absurd p
+    plain (fin false m e) p = refl

@@ -1,0 +1,14 @@
+-- `waveform::normalised` meets its contract. Assumes nothing.
+use borrow.Author.Needs.{needs}
+use mathlib.Core.Path.{refl}
+use Rattle.waveform.proofs.normalised.Statement.{statement}
+use Rattle.waveform.proofs.normalised.Tie as tie
+
+turned-requires : tie.Need-turned-requires
+turned-requires c κs = search needs
+
+returns : tie.Need-returns
+returns c = rw (c .turned .ensures) refl
+
+pub normalised-spec : {M : Type 1} → statement M
+normalised-spec = tie.close (tie.spec turned-requires returns)

@@ -1,0 +1,37 @@
+-- `waveform::turned` meets its contract. Assumes nothing.
+use borrow.Author.Needs.{needs}
+use Prim.Native.Nat.{ℕ, _%_}
+use native.Mathlib.Omega.{arith}
+use lib.IntN.{pos}
+use lib.Dec.{T, le→leb}
+use lib.Ieee.{binary64, inFloat, fits}
+use Rattle.waveform.proofs.Turns.{below-tau, from-tau, turned-is}
+use Rattle.waveform.proofs.turned.Statement.{statement}
+use Rattle.waveform.proofs.turned.Tie as tie
+
+-- what owning a float tells: its format holds it
+held : (c : tie.Start) → T (fits binary64 (c .args .x))
+held c = search needs
+
+-- what is left of a whole number over TAU's has a float's digits
+kept : (n : ℕ) → T (inFloat binary64 (pos (n % 7074237752028440)))
+unfolding inFloat
+kept n = le→leb (n % 7074237752028440) 9007199254740992 (omega arith)
+
+returns : tie.Need-returns
+returns c = below-tau (c .before .before .args .x) (c .before .if1 .taken) (held (c .before .before)) (c .if2 .taken)
+
+units-requires : tie.Need-units-requires
+units-requires c κs = from-tau (c .before .before .args .x) (c .before .if1 .taken) (c .if2 .left)
+
+int-to-float-result : tie.Need-int-to-float-result
+int-to-float-result c = kept (c .before .units .result)
+
+returns-2 : tie.Need-returns-2
+returns-2 c = let far = c .before .before .before in turned-is (far .before .args .x) (far .if1 .taken) (c .before .units .result) (c .before .before .if2 .left) (c .before .units .ensures)
+
+returns-3 : tie.Need-returns-3
+returns-3 c = search needs
+
+pub turned-spec : {M : Type 1} → statement M
+turned-spec = tie.close (tie.spec returns units-requires int-to-float-result returns-2 returns-3)
