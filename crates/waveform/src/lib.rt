@@ -8,6 +8,7 @@ ghost use lib.Ieee.{binary64, ofBits, rem, lt, le};
 ghost use lib.Ieee.Positive.{num, den};
 ghost use Rattle.waveform.specs.Waveform.{isWaveform, valueOf, sampleOf, normalOf, reduceOf, incrementOf, radians, tau};
 ghost use Rattle.waveform.specs.Filled.{Filled, valueAt};
+ghost use Rattle.waveform.specs.declared.Waveform.the-variants.{Sine};
 use answers::Refusal;
 use answers::Value;
 
@@ -131,6 +132,36 @@ pub fn increment(frequency: f64, rate: u32) -> Radians
 // The inner loop of a block: the value times the scale at each sample, and the phase after the last, which is not
 // reduced: a part of a render is lent to it, and the end of a part reduces nothing.
 pub fn fill(
+    out: &mut [f64],
+    waveform: Waveform,
+    start: Radians,
+    step: Radians,
+    scale: f64,
+) -> Radians
+    ensures { λ r. ⌜ Filled waveform (start .0) (step .0) scale (now (out .entry)) (now (out .exit)) r ⌝ }
+{
+    if let Waveform::Sine = waveform {
+        return fill_sine(out, start, step, scale);
+    }
+    fill_shape(out, waveform, start, step, scale)
+}
+
+// The sine's table is made once.
+fn fill_sine(out: &mut [f64], start: Radians, step: Radians, scale: f64) -> Radians
+    ensures { λ r. ⌜ Filled Sine (start .0) (step .0) scale (now (out .entry)) (now (out .exit)) r ⌝ }
+{
+    let wave = sine::quarter_wave();
+    let mut angle = start.0;
+    let mut i = 0;
+    while i < out.len() {
+        out[i] = sine::reading_in(&wave, normalised(Radians(angle))) * scale;
+        angle = angle + step.0;
+        i += 1;
+    }
+    Radians(angle)
+}
+
+fn fill_shape(
     out: &mut [f64],
     waveform: Waveform,
     start: Radians,

@@ -1,87 +1,37 @@
--- `waveform::fill` meets its contract. The loop's invariant: the first i samples are written, and the phase stands before sample i. Assumes nothing.
+-- `waveform::fill` meets its contract. Assumes nothing.
 use borrow.Author.Needs.{needs}
-use mathlib.Core.Path.{_≡_, refl, sym, ap, _∙_}
-use Prim.Native.Nat.{_≤_, _<_, _-_}
-use native.Mathlib.Numerals.{add-one}
-use native.Mathlib.Omega.{arith}
-use lib.ListN.{length, take, length-set}
-use lib.Seq.{take-suc-set, take-all}
-use lib.Ieee.{Float}
-use Rattle.floats.specs.Double.{_⊕_, _⊗_}
-use Rattle.waveform.specs.Waveform.{radians, invTau}
-use Rattle.waveform.specs.Filled.{phaseFrom, samplesFrom}
-use Rattle.waveform.proofs.Steps.{phase-more, samples-more}
 use Rattle.waveform.proofs.fill.Statement.{statement}
 use Rattle.waveform.proofs.fill.Tie as tie
 
-abbrev Inv-loop : tie.InvT-loop
-Inv-loop out₀ waveform step scale dt phase₀ i₀ out phase i =
-    (length out ≡ length out₀) × (i ≤ length out) × (phase ≡ phaseFrom (step .0) phase₀ i) × (take i out ≡ samplesFrom waveform (step .0) scale phase₀ i) × (dt ≡ step .0 ⊗ invTau)
+enum-told : tie.Need-enum-told
+enum-told c = search needs
 
-abbrev μ-loop : tie.MeasureT-loop
-μ-loop out₀ waveform step scale dt phase₀ i₀ out phase i = length out₀ - i
+fill-sine-requires : tie.Need-fill-sine-requires
+fill-sine-requires c κs = search needs
 
-loop-holds : tie.Need-loop-holds Inv-loop μ-loop
-unfolding phaseFrom samplesFrom
-loop-holds c = (refl, omega arith, refl, refl, refl)
+same-length : tie.Need-same-length
+same-length c = search needs
 
-normalised-requires : tie.Need-normalised-requires Inv-loop μ-loop
-normalised-requires c κs = search needs
+returns : tie.Need-returns
+returns c = rw (c .before .before .before .before .enum-told .given .1) (c .before .before .fill-sine .ensures)
 
-value-at-requires : tie.Need-value-at-requires Inv-loop μ-loop
-value-at-requires c κs = search needs
+fill-shape-requires : tie.Need-fill-shape-requires
+fill-shape-requires c κs = search needs
 
-mul-out : tie.Need-mul-out Inv-loop μ-loop
-mul-out c = search needs
+same-length-2 : tie.Need-same-length-2
+same-length-2 c = search needs
 
-slice-write-out : tie.Need-slice-write-out Inv-loop μ-loop
-slice-write-out c = search needs
-
-add-i : tie.Need-add-i Inv-loop μ-loop
-add-i c = omega arith
-
-loop-less : tie.Need-loop-less Inv-loop μ-loop
-loop-less c = omega arith
-
-loop-again : tie.Need-loop-again Inv-loop μ-loop
-loop-again c =
-    let at = c .before .before .before .before in
-    let a = at .before .before .before .args in
-    let i = at .loop .i in
-    let p = a .start .0 in
-    let h : i < length (at .loop .out) = c .before .before .before .loop-test .taken in (
-      simp length-set (at .loop .inv .0),
-      simp length-set (omega arith),
-      ap (λ (x : Float). x ⊕ a .step .0) (at .loop .inv .2) ∙ sym (phase-more (a .step .0) p i),
-      rw (samples-more (a .waveform) (a .step .0) (a .scale) p i, add-one i, take-suc-set, at .loop .inv .3, c .before .value-at .ensures, c .before .before .normalised .ensures, at .loop .inv .2, at .loop .inv .4) refl,
-      at .loop .inv .4,
-    )
-
-same-length : tie.Need-same-length Inv-loop μ-loop
-same-length c = c .before .loop .inv .0
-
-returns : tie.Need-returns Inv-loop μ-loop
-returns c =
-    let at = c .before in
-    let e : at .loop .i ≡ length (at .loop .out) = omega arith in
-    record {
-      samples = rw (← at .loop .inv .0, ← e) (sym (take-all (at .loop .i) (at .loop .out) (omega arith)) ∙ at .loop .inv .3);
-      phase = rw (← at .loop .inv .0, ← e) (ap radians (at .loop .inv .2));
-    }
+returns-2 : tie.Need-returns-2
+returns-2 c = search needs
 
 pub fill-spec : {M : Type 1} → statement M
 fill-spec =
     tie.close
     (tie.spec
-    Inv-loop
-    μ-loop
-    loop-holds
-    normalised-requires
-    value-at-requires
-    mul-out
-    slice-write-out
-    add-i
-    loop-less
-    loop-again
+    enum-told
+    fill-sine-requires
     same-length
-    returns)
+    returns
+    fill-shape-requires
+    same-length-2
+    returns-2)
