@@ -3,7 +3,7 @@
 use crate::chance::Chance;
 use crate::envelope_rows::{random_rate, random_settings};
 use crate::patterns::near;
-use crate::render::{off, on, reset, Record, Words};
+use crate::render::{off, on, reset, Record, Settings, Wave, Words};
 use crate::render_edges::packed_words;
 use crate::render_rows::{is_state, Asked, CONTINUE, LAST, MOST_SAMPLES, RENDER};
 use crate::waveform_rows::{duties, not_a_unit, TINY};
@@ -23,20 +23,28 @@ pub fn row(chance: &mut Chance) -> Vec<u64> {
 
 fn random_render(chance: &mut Chance) -> Asked {
     let samples = random_length(chance);
+    let wave = random_wave(chance);
+    let mut asked = Asked::whole(random_rate(chance), wave, samples, &random_score(samples, chance));
+    asked.settings.adsr = random_settings(chance);
+    audible(&mut asked.settings);
+    asked
+}
+
+pub fn random_wave(chance: &mut Chance) -> Wave {
     let duty = match chance.below(4) {
         0 => chance.pick(&duties()),
         1 => 0.5,
         _ => chance.dense(),
     };
-    let wave = (chance.pick(&[SINE, SQUARE, SAWTOOTH, TRIANGLE, PULSE, PULSE]), duty);
-    let mut asked = Asked::whole(random_rate(chance), wave, samples, &random_score(samples, chance));
-    asked.settings.adsr = random_settings(chance);
-    // A sine is measured, and a millionth of its level must be a float.
-    let sustain = &mut asked.settings.adsr[2];
-    if wave.0 == SINE && 0.0 < *sustain && *sustain < 1e-9 {
+    (chance.pick(&[SINE, SQUARE, SAWTOOTH, TRIANGLE, PULSE, PULSE]), duty)
+}
+
+/// A sine is measured, and a millionth of its level must be a float.
+pub fn audible(settings: &mut Settings) {
+    let sustain = &mut settings.adsr[2];
+    if settings.wave.0 == SINE && 0.0 < *sustain && *sustain < 1e-9 {
         *sustain = 0.25;
     }
-    asked
 }
 
 /// Mostly short; one in eight of thousands of samples.
@@ -50,7 +58,7 @@ fn random_length(chance: &mut Chance) -> u64 {
 }
 
 /// From no record to 4,096, over the whole output and somewhat more, or all near its begin.
-fn random_score(samples: u64, chance: &mut Chance) -> Vec<Record> {
+pub fn random_score(samples: u64, chance: &mut Chance) -> Vec<Record> {
     let count = match chance.below(32) {
         0 => 0,
         1..=7 => 1 + chance.below(3),

@@ -31,7 +31,7 @@ pub const CONTINUE: u64 = 1;
 const GIVEN: usize = 25;
 
 const RECORD: usize = 10;
-const MOST_RECORDS: usize = 4096;
+pub const MOST_RECORDS: usize = 4096;
 pub const MOST_SAMPLES: u64 = 16_777_216;
 /// The last position that a record can have.
 pub const LAST: u64 = u32::MAX as u64;
@@ -166,7 +166,7 @@ impl Asked {
 }
 
 /// The words of the shelf that 01 asks for.
-fn shelf_words(samples: u64) -> u64 {
+pub fn shelf_words(samples: u64) -> u64 {
     12 * samples.div_ceil(MARK)
 }
 
@@ -186,12 +186,12 @@ fn records(score: &[u8]) -> Vec<Record> {
     score.chunks_exact(RECORD).map(record).collect()
 }
 
-fn bytes_of(record: &Record) -> [u8; RECORD] {
+pub fn bytes_of(record: &Record) -> [u8; RECORD] {
     let [a, b, c, d] = (record.position as u32).to_le_bytes();
     [0x56, 0x4E, a, b, c, d, record.kind, record.note, record.velocity, 0]
 }
 
-fn score_fault(score: &[u8]) -> Option<Refusal> {
+pub fn score_fault(score: &[u8]) -> Option<Refusal> {
     if score.len() % RECORD != 0 || score.len() > RECORD * MOST_RECORDS {
         return Some((1, 0));
     }
