@@ -1,0 +1,37 @@
+/* Numbers in bytes, low byte first; floats as their bits; and a sum that tells damage. */
+#include "desk.h"
+
+#include <string.h>
+
+void put_u32(uint8_t *at, uint32_t value) {
+    for (unsigned i = 0; i < 4; i++) at[i] = (uint8_t)(value >> 8 * i);
+}
+
+void put_u64(uint8_t *at, uint64_t value) {
+    for (unsigned i = 0; i < 8; i++) at[i] = (uint8_t)(value >> 8 * i);
+}
+
+uint32_t get_u16(const uint8_t *at) { return at[0] | (uint32_t)at[1] << 8; }
+
+uint32_t get_u32(const uint8_t *at) { return get_u16(at) | get_u16(at + 2) << 16; }
+
+uint64_t get_u64(const uint8_t *at) { return get_u32(at) | (uint64_t)get_u32(at + 4) << 32; }
+
+uint64_t bits_of(double value) {
+    uint64_t bits;
+    memcpy(&bits, &value, sizeof bits);
+    return bits;
+}
+
+double from_bits(uint64_t bits) {
+    double value;
+    memcpy(&value, &bits, sizeof value);
+    return value;
+}
+
+/* FNV-1a in 64 bits: each step is one to one, so that one changed byte always changes the sum. */
+uint64_t sum_of(const uint8_t *at, size_t len) {
+    uint64_t sum = UINT64_C(0xcbf29ce484222325);
+    for (size_t i = 0; i < len; i++) sum = (sum ^ at[i]) * UINT64_C(0x100000001b3);
+    return sum;
+}
