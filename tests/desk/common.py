@@ -1,0 +1,203 @@
+"""What the tests of the desk share: the programs, scores worked out from document 01's words, and a list of faults.
+
+DESK names another build of the desk to run, as the one under sanitizers.
+"""
+import os
+import re
+import shutil
+import struct
+import subprocess
+import sys
+import tempfile
+from pathlib import Path
+
+ROOT = Path(__file__).resolve().parent.parent.parent
+os.chdir(ROOT)
+
+WORDS = {1: "on", 2: "off", 3: "reset"}
+LAST = 2**32 - 1
+SOUNDS = {"sine": 0, "square": 1, "saw": 2, "triangle": 3, "pulse": 4}
+SHELF_HEAD = struct.Struct("<8sQQQdddddQQ")
+
+faults = []
+runs = 0
+
+
+def needed(*tools):
+    """Ends the test where a tool is not here."""
+    packages = {"gcc": "gcc", "sox": "sox", "sndfile-info": "sndfile-programs", "sndfile-convert": "sndfile-programs"}
+    for tool in tools:
+        if shutil.which(tool) is None:
+            print(f"{tool} is missing: install Debian's package {packages[tool]}, or run: make deps")
+            sys.exit(77)
+
+
+def built(*names):
+    """Builds what a test runs; ends the test where it cannot be built here."""
+    if not Path("build/libgavberin.a").is_file() and shutil.which("rt") is None:
+        print("build/libgavberin.a is not there, and rt, which makes it, is not on the PATH: install the Rattle kit")
+        sys.exit(77)
+    needed("gcc")
+    made = subprocess.run(["make", "--no-print-directory", *(f"build/{name}" for name in names)], capture_output=True)
+    if made.returncode != 0:
+        print((made.stdout + made.stderr).decode(errors="replace"))
+        sys.exit(1)
+
+
+built("desk")
+DESK = str(Path(os.environ.get("DESK", "build/desk")).resolve())
+SANITIZED = "sanitized" in DESK
+
+
+def workplace():
+    """A folder of its own, gone at the end."""
+    return tempfile.TemporaryDirectory(prefix="desk-")
+
+
+def fault(text):
+    faults.append(text)
+    if len(faults) < 30:
+        print(text)
+
+
+def hold(name, holds, more=""):
+    if not holds:
+        fault(f"{name}{': ' if more else ''}{more}")
+
+
+def finish():
+    print(f"{runs} runs of the desk, {len(faults)} faults")
+    sys.exit(1 if faults else 0)
+
+
+class Ran:
+    def __init__(self, status, out, err):
+        self.status, self.out, self.err = status, out, err.decode(errors="replace")
+
+
+def desk(*given, **streams):
+    """Runs the desk. It ends by itself, with status 0, 1 or 2, and in words exactly where it is not 0."""
+    global runs
+    runs += 1
+    streams = {"stdin": subprocess.DEVNULL, "stdout": subprocess.PIPE, "stderr": subprocess.PIPE, **streams}
+    if "input" in streams:
+        del streams["stdin"]
+    try:
+        ran = subprocess.run([DESK, *map(str, given)], timeout=60, check=False, **streams)
+    except subprocess.TimeoutExpired:
+        fault(f"desk {' '.join(map(str, given))}: it did not end in 60 s")
+        return Ran(-1, b"", b"")
+    said = Ran(ran.returncode, ran.stdout or b"", ran.stderr or b"")
+    name = "desk " + " ".join(map(str, given))[:200]
+    hold(name, said.status in (0, 1, 2), f"status {said.status}, {said.err[-2000:]!r}")
+    hold(name, "Sanitizer" not in said.err and "runtime error" not in said.err, said.err[-2000:])
+    if said.status in (1, 2) and ran.stderr is not None:
+        verb = re.escape(str(given[0])) if given else ""
+        told = re.match(rf"(?:\rrendering[^\n]*\n?)*desk(?: {verb})?: \S|desk VERB", said.err)
+        hold(name, told is not None, f"status {said.status} and {said.err!r:.300}")
+        hold(name, ("try: desk" in said.err or "desk VERB" in said.err) == (said.status == 2), f"{said.err!r:.300}")
+    return said
+
+
+def refused(name, ran, number, place, *words):
+    """The desk refused with this number and place of document 01, and said these words."""
+    hold(name, ran.status == 1, f"status {ran.status}, {ran.err!r:.300}")
+    hold(name, f"refused {number} at place {place}: " in ran.err, f"not refused {number} at place {place}: {ran.err!r:.300}")
+    hold(name, ran.out == b"", f"it printed {ran.out!r:.100}")
+    for word in words:
+        hold(name, word in ran.err, f"no {word!r} in {ran.err!r:.300}")
+
+
+def ended(name, ran, status, *words):
+    hold(name, ran.status == status, f"status {ran.status}, {ran.err!r:.300}")
+    for word in words:
+        hold(name, word in ran.err, f"no {word!r} in {ran.err!r:.300}")
+
+
+def record(position, kind, note, velocity, mark=b"VN", last=0):
+    return mark + position.to_bytes(4, "little") + bytes([kind, note, velocity, last])
+
+
+def records_of(score):
+    return [struct.unpack_from("<2sI4B", score, at) for at in range(0, len(score) - 9, 10)]
+
+
+def score_fault(score):
+    """The number and the place that document 01 refuses a score with, or None."""
+    if len(score) % 10 or len(score) > 40960:
+        return 1, 0
+    before = 0
+    for place, (mark, position, kind, note, velocity, last) in enumerate(records_of(score)):
+        if mark != b"\x56\x4e":
+            return 2, place
+        if kind not in WORDS:
+            return 3, place
+        if max(note, velocity) > (0 if kind == 3 else 127) or last:
+            return 4, place
+        if position < before:
+            return 5, place
+        before = position
+    return None
+
+
+def listing(score):
+    lines = [f"{position} {WORDS[kind]} {note} {velocity}\n" for _, position, kind, note, velocity, _ in records_of(score)]
+    return f"records {len(lines)}\n" + "".join(lines)
+
+
+def random_score(dice, records, step=lambda dice: dice.choice([0, 0, 1, 63, 64, 255, 4096, dice.randrange(10**5)])):
+    position, score = 0, b""
+    for _ in range(records):
+        kind = dice.choice([1, 1, 1, 2, 2, 3])
+        note, velocity = (0, 0) if kind == 3 else (dice.randrange(128), dice.randrange(128))
+        position = min(LAST, position + step(dice))
+        score += record(position, kind, note, velocity)
+    return score
+
+
+def wav_parts(path):
+    """The format, rate, bits and samples of a WAV as the desk writes it, each field as it must be."""
+    data = Path(path).read_bytes()
+    head = struct.unpack_from("<4sI4s4sIHHIIHHH4sII4sI", data)
+    bits, rate, count = head[10], head[7], head[14]
+    frame = bits // 8
+    want = (b"RIFF", len(data) - 8, b"WAVE", b"fmt ", 18, 3, 1, rate, rate * frame, frame, bits, 0)
+    want += (b"fact", 4, count, b"data", frame * count)
+    hold(f"{path}: its head", head == want and len(data) == 58 + frame * count, f"{head}, and not {want}")
+    return rate, bits, data[58:]
+
+
+def shelf_parts(path):
+    """The settings, the length and the words of a shelf."""
+    data = Path(path).read_bytes()
+    magic, version, *settings, samples, _ = SHELF_HEAD.unpack_from(data)
+    hold(f"{path}: its head", (magic, version) == (b"GAVSHELF", 1), f"{magic} {version}")
+    return tuple(settings), samples, data[SHELF_HEAD.size : -8]
+
+
+def sum_of(data):
+    """The sum at a shelf's end: FNV-1a in 64 bits."""
+    total = 0xCBF29CE484222325
+    for byte in data:
+        total = (total ^ byte) * 0x100000001B3 & (2**64 - 1)
+    return total
+
+
+def with_sum(data):
+    return data[:-8] + struct.pack("<Q", sum_of(data[:-8]))
+
+
+def library(score, samples, rate=48000, wave="saw", duty=0.5, adsr=(0.01, 0.1, 0.7, 0.3)):
+    """What the library renders by itself: samples as bytes of f64, and the shelf's words."""
+    given = map(str, (rate, SOUNDS[wave], duty, *adsr, samples))
+    ran = subprocess.run([ROOT / "build/samples", *given], input=score, capture_output=True, check=True)
+    answer = struct.unpack_from("<Q", ran.stdout)[0]
+    if answer != samples << 32:
+        fault(f"the library answers {answer:x} to {samples} samples")
+    return ran.stdout[8 : 8 + 8 * samples], ran.stdout[8 + 8 * samples :]
+
+
+def narrow(samples):
+    """Bytes of f64 as bytes of f32, each rounded to the nearest."""
+    count = len(samples) // 8
+    return struct.pack(f"<{count}f", *struct.unpack(f"<{count}d", samples))
