@@ -1,0 +1,66 @@
+-- `mission::states::all_taken` is safe and ends: what is left of the cases falls. Assumes nothing.
+use borrow.Author.Needs.{needs}
+use Prim.Native.Nat.{_-_}
+use Rattle.mission.proofs.states.all_taken.Statement.{statement}
+use Rattle.mission.proofs.states.all_taken.Tie as tie
+
+abbrev Inv-loop : tie.InvT-loop
+Inv-loop entry report₀ k₀ report k = Unit
+
+abbrev μ-loop : tie.MeasureT-loop
+μ-loop entry report₀ k₀ report k = 20 - k
+
+loop-holds : tie.Need-loop-holds Inv-loop μ-loop
+loop-holds c = search needs
+
+within-requires : tie.Need-within-requires Inv-loop μ-loop
+within-requires c κs = search needs
+
+changed-requires : tie.Need-changed-requires Inv-loop μ-loop
+changed-requires c κs = search needs
+
+score-requires : tie.Need-score-requires Inv-loop μ-loop
+score-requires c κs = search needs
+
+state-of-requires : tie.Need-state-of-requires Inv-loop μ-loop
+state-of-requires c κs = search needs
+
+done-requires : tie.Need-done-requires Inv-loop μ-loop
+done-requires c κs = search needs
+
+part-requires : tie.Need-part-requires Inv-loop μ-loop
+part-requires c κs = search needs
+
+again-requires : tie.Need-again-requires Inv-loop μ-loop
+again-requires c κs = search needs
+
+add-k : tie.Need-add-k Inv-loop μ-loop
+add-k c = search needs
+
+loop-less : tie.Need-loop-less Inv-loop μ-loop
+loop-less c = search needs
+
+loop-again : tie.Need-loop-again Inv-loop μ-loop
+loop-again c = search needs
+
+returns : tie.Need-returns Inv-loop μ-loop
+returns c = search needs
+
+pub all-taken-spec : {M : Type 1} → statement M
+all-taken-spec =
+    tie.close
+    (tie.spec
+    Inv-loop
+    μ-loop
+    loop-holds
+    within-requires
+    changed-requires
+    score-requires
+    state-of-requires
+    done-requires
+    part-requires
+    again-requires
+    add-k
+    loop-less
+    loop-again
+    returns)

@@ -1,0 +1,189 @@
+// A score in parts of each length beside one render of it from zero, the score growing on the way; and in one part beside
+// the four steps of each sample.
+ghost use Prim.Native.Nat.{_≤_};
+ghost use lib.ListN.{length};
+use crate::calls;
+use crate::compared;
+use crate::compared::Report;
+use crate::dice;
+use crate::play;
+use crate::settings;
+use crate::settings::PLAYED;
+use crate::sheets;
+use crate::sheets::OFF;
+use crate::sheets::ON;
+use crate::sheets::RESET;
+use crate::sheets::Sheet;
+use state::State;
+
+// What is carried from part to part: the state, its position, and how many records of the score were given last.
+struct Air {
+    report: Report,
+    state: State,
+    position: usize,
+    records: usize,
+    seed: u64,
+}
+
+// Each way to cut, under each of the settings.
+pub fn played() -> Report {
+    let mut report = compared::nothing();
+    let mut k = 0;
+    while k < 40 {
+        report = cut(report, k % 5, k / 5);
+        k += 1;
+    }
+    report
+}
+
+// A score in one part beside the steps of each sample, under each of the settings.
+pub fn stepped() -> Report {
+    let bytes = sheets::bytes_of(tune());
+    let mut report = compared::nothing();
+    let mut k = 0;
+    while k < PLAYED {
+        report = calls::part(
+            report,
+            k,
+            tune(),
+            &bytes[0..140],
+            state::fresh(),
+            0,
+            8300,
+            compared::done(8300),
+        );
+        k += 1;
+    }
+    report
+}
+
+fn cut(report: Report, k: u64, way: u64) -> Report {
+    let mut whole = [0.0; 8300];
+    let mut shelf = [0u64; 36];
+    let mut out = [0.0; 8300];
+    cut_in(report, k, way, &mut whole, &mut shelf, &mut out)
+}
+
+// The samples, and the end state.
+fn cut_in(
+    report: Report,
+    setup: u64,
+    way: u64,
+    whole: &mut [f64],
+    shelf: &mut [u64],
+    out: &mut [f64],
+) -> Report {
+    let rendered = play::from_zero(setup, tune(), whole, shelf);
+    let end = rendered.state;
+    let air = in_parts(report, setup, way, out);
+    let told = air.report;
+    let got = air.state;
+    let stated = compared::compared_states(told, got, end);
+    compared::compared_samples(stated, out, whole)
+}
+
+// A proved loop has to end: there are no more parts than samples.
+fn in_parts(report: Report, setup: u64, way: u64, out: &mut [f64]) -> Air {
+    let sheet = tune();
+    let bytes = sheets::bytes_of(sheet);
+    let mut air = Air {
+        report,
+        state: state::fresh(),
+        position: 0,
+        records: 0,
+        seed: way,
+    };
+    let mut turn = 0;
+    while turn < out.len() {
+        let start = air.position;
+        if start >= out.len() {
+            return air;
+        }
+        let end = start + samples(way, air.seed, out.len() - start);
+        air = next(air, setup, sheet, &bytes, end, &mut out[start..end]);
+        turn += 1;
+    }
+    air
+}
+
+fn next(air: Air, setup: u64, sheet: Sheet, bytes: &[u8], end: usize, out: &mut [f64]) -> Air {
+    let report = air.report;
+    let state = air.state;
+    let position = air.position as u64;
+    let records = grown(sheet, air.records, end as u64, air.seed);
+    let size = size_in(bytes, records);
+    let got = render::continue_render(settings::of(setup), &bytes[0..size], state, position, out);
+    let answer = got.answer;
+    let after = got.state;
+    Air {
+        report: compared::answered(report, answer, compared::done(out.len())),
+        state: after,
+        position: end,
+        records,
+        seed: dice::thrown(air.seed, 3),
+    }
+}
+
+// How many records the score has by now: all below the part's end, and one more now and then.
+fn grown(sheet: Sheet, before: usize, end: u64, seed: u64) -> usize {
+    let needed = sheets::below(sheet, end);
+    if before < needed {
+        return needed;
+    }
+    if before >= sheets::count(sheet) {
+        return before;
+    }
+    if dice::thrown(seed, 2) % 50 == 0 {
+        return before + 1;
+    }
+    before
+}
+
+// The bytes of so many records.
+fn size_in(bytes: &[u8], records: usize) -> usize
+    ensures { λ r. ⌜ r ≤ length (now (bytes .entry)) ⌝ }
+{
+    let size = sheets::size_of(records);
+    if size <= bytes.len() {
+        return size;
+    }
+    bytes.len()
+}
+
+// The length of the next part; by the dice it may be 0.
+fn samples(way: u64, seed: u64, left: usize) -> usize
+    ensures { λ r. ⌜ r ≤ left ⌝ }
+{
+    let wanted = match way {
+        0 => 1,
+        1 => 17,
+        2 => 63,
+        3 => 64,
+        4 => 65,
+        5 => 4096,
+        6 => dice::thrown(seed, 1) % 200,
+        _ => dice::thrown(seed, 1) % 3000,
+    };
+    if wanted < left as u64 {
+        return wanted as usize;
+    }
+    left
+}
+
+// Records at and beside the ends of parts and the marks, two at one sample, a reset, and records after the end.
+fn tune() -> Sheet {
+    let one = sheets::with(sheets::blank(), sheets::record(0, ON, 40, 100));
+    let two = sheets::with(one, sheets::record(17, ON, 47, 90));
+    let three = sheets::with(two, sheets::record(63, ON, 52, 80));
+    let four = sheets::with(three, sheets::record(64, OFF, 52, 0));
+    let five = sheets::with(four, sheets::record(65, ON, 127, 127));
+    let six = sheets::with(five, sheets::record(200, OFF, 127, 0));
+    let seven = sheets::with(six, sheets::record(1000, OFF, 47, 0));
+    let eight = sheets::with(seven, sheets::record(1000, OFF, 40, 0));
+    let nine = sheets::with(eight, sheets::record(4095, ON, 60, 60));
+    let ten = sheets::with(nine, sheets::record(4096, ON, 64, 70));
+    let eleven = sheets::with(ten, sheets::record(6000, RESET, 0, 0));
+    let twelve = sheets::with(eleven, sheets::record(6001, ON, 33, 111));
+    let last = sheets::with(twelve, sheets::record(8299, OFF, 33, 0));
+    sheets::with(last, sheets::record(8300, ON, 69, 99))
+}
