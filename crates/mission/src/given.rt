@@ -15,6 +15,13 @@ pub struct Change {
     pub bits: u64,
 }
 
+// How many changes leave an entry within the limits, how many lead outside, and how many to a stage that no state has.
+pub const WITHIN: u64 = 20;
+
+pub const OUTSIDE: u64 = 33;
+
+pub const STAGES: u64 = 3;
+
 // The entry's word of note, gate, held count and records acted: note 55, the gate up, two held, two records.
 const PACKED: u64 = 55 + 256 + 512 * 2 + 65536 * 2;
 
@@ -47,6 +54,7 @@ pub fn state_of(entry: [u64; 12]) -> State {
     held.state
 }
 
+// One word changed.
 pub fn changed(entry: [u64; 12], by: Change) -> [u64; 12] {
     let mut words = entry;
     let word = by.word;
@@ -82,7 +90,7 @@ pub fn within(k: u64) -> Change {
     }
 }
 
-// Entries outside the limits.
+// Entries outside the limits: floats just past their ends, NaNs, an infinity, pairs out of range or beyond the count.
 pub fn outside(k: u64) -> Change {
     match k {
         0 => float(0, 1000.0),
@@ -111,13 +119,6 @@ pub fn outside(k: u64) -> Change {
         _ => packed(k),
     }
 }
-
-// How many are within the limits, how many outside, and how many have a stage that no state has.
-pub const WITHIN: u64 = 20;
-
-pub const OUTSIDE: u64 = 33;
-
-pub const STAGES: u64 = 3;
 
 // A note above 127, a gate that does not fit it, more held than there are, fewer than there are pairs, and records acted that
 // are not those of the score.

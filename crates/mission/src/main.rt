@@ -45,7 +45,10 @@ fn edits_played() -> Report {
 
 fn parts_played() -> Report {
     let stepped = parts::stepped();
-    io::write_all(STDOUT_FILENO, b"beside the steps of each sample: ");
+    io::write_all(
+        STDOUT_FILENO,
+        b"steps of each sample, and ends of shorter renders: ",
+    );
     compared::tell(stepped);
     let parts = parts::played();
     io::write_all(STDOUT_FILENO, b"parts: ");

@@ -1,5 +1,5 @@
-// A score in parts of each length beside one render of it from zero, the score growing on the way; and in one part beside
-// the four steps of each sample.
+// A score in parts of each length beside one render of it from zero, the score growing on the way; and what these are held
+// to in turn.
 ghost use Prim.Native.Nat.{_≤_};
 ghost use lib.ListN.{length};
 use crate::calls;
@@ -36,25 +36,57 @@ pub fn played() -> Report {
     report
 }
 
-// A score in one part beside the steps of each sample, under each of the settings.
+// A score in one part beside the steps of each sample, and the entries of its render beside the ends of shorter renders.
 pub fn stepped() -> Report {
-    let bytes = sheets::bytes_of(tune());
     let mut report = compared::nothing();
     let mut k = 0;
     while k < PLAYED {
-        report = calls::part(
-            report,
-            k,
-            tune(),
-            &bytes[0..140],
-            state::fresh(),
-            0,
-            8300,
-            compared::done(8300),
-        );
+        report = by_steps(report, k);
+        report = by_ends(report, k);
         k += 1;
     }
     report
+}
+
+fn by_steps(report: Report, setup: u64) -> Report {
+    let sheet = tune();
+    let bytes = sheets::bytes_of(sheet);
+    let state = state::fresh();
+    calls::part(
+        report,
+        setup,
+        sheet,
+        &bytes[0..140],
+        state,
+        0,
+        8300,
+        compared::done(8300),
+    )
+}
+
+fn by_ends(report: Report, setup: u64) -> Report {
+    let mut out = [0.0; 8300];
+    let mut shelf = [0u64; 36];
+    play::from_zero(setup, tune(), &mut out, &mut shelf);
+    let entries = &shelf[0..36];
+    let one = by_end(report, setup, 4096, &entries[12..24]);
+    by_end(one, setup, 8192, &entries[24..36])
+}
+
+fn by_end(report: Report, setup: u64, n: usize, entry: &[u64]) -> Report {
+    let m = shelf::words_for(n);
+    if n > 8192 {
+        return compared::judged(report, false);
+    }
+    if m > 24 {
+        return compared::judged(report, false);
+    }
+    let mut out = [0.0; 8192];
+    let mut shelf = [0u64; 24];
+    let shorter = play::from_zero(setup, tune(), &mut out[0..n], &mut shelf[0..m]);
+    let end = shorter.state;
+    let wanted = shelf::encode(end);
+    compared::compared_words(report, entry, &wanted)
 }
 
 fn cut(report: Report, k: u64, way: u64) -> Report {

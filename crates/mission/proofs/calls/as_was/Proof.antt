@@ -1,6 +1,5 @@
 -- `mission::calls::as_was` is safe: what it calls keeps the lengths. Assumes nothing.
 use borrow.Author.Needs.{needs}
-use borrow.Author.Needs.{needs}
 use native.Mathlib.Omega.{arith}
 use Rattle.mission.proofs.calls.as_was.Statement.{statement}
 use Rattle.mission.proofs.calls.as_was.Tie as tie
@@ -24,10 +23,15 @@ compared-words-requires : tie.Need-compared-words-requires
 compared-words-requires c κs = search needs
 
 same-length : tie.Need-same-length
-same-length c = omega (arith, c .before .before .before .before .before .before .steps-from .kept .1 .1 .1 .1 .1 .0, c .before .before .before .before .before .before .before .before .before .before .before .before .before .before .lend .kept .0)
+same-length c =
+    let steps-from = c .before .before .before .before .before .before .steps-from in
+    let lend = c .before .before .before .before .before .before .before .before .before .before .before .before .before .before .lend in
+    omega (arith, steps-from .kept .1 .1 .1 .1 .1 .0, lend .kept .0)
 
 same-length-2 : tie.Need-same-length-2
-same-length-2 c = omega (arith, c .before .before .before .before .before .before .before .before .before .before .before .before .before .before .lend .kept .1 .0)
+same-length-2 c =
+    let lend = c .before .before .before .before .before .before .before .before .before .before .before .before .before .before .lend in
+    omega (arith, lend .kept .1 .0)
 
 returns : tie.Need-returns
 returns c = search needs

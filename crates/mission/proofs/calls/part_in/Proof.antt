@@ -1,6 +1,5 @@
 -- `mission::calls::part_in` is safe: what it calls keeps the lengths. Assumes nothing.
 use borrow.Author.Needs.{needs}
-use borrow.Author.Needs.{needs}
 use native.Mathlib.Omega.{arith}
 use Rattle.mission.proofs.calls.part_in.Statement.{statement}
 use Rattle.mission.proofs.calls.part_in.Tie as tie
@@ -30,10 +29,16 @@ compared-samples-requires : tie.Need-compared-samples-requires
 compared-samples-requires c κs = search needs
 
 same-length : tie.Need-same-length
-same-length c = omega (arith, c .before .before .before .before .before .before .before .before .before .before .before .continue-render .kept .1 .1 .1 .1 .0, c .before .before .before .before .before .before .before .before .before .before .before .before .before .before .before .before .before .before .before .before .spoil-samples .kept .0)
+same-length c =
+    let continue-render = c .before .before .before .before .before .before .before .before .before .before .before .continue-render in
+    let spoil-samples = c .before .before .before .before .before .before .before .before .before .before .before .before .before .before .before .before .before .before .before .before .spoil-samples in
+    omega (arith, continue-render .kept .1 .1 .1 .1 .0, spoil-samples .kept .0)
 
 same-length-2 : tie.Need-same-length-2
-same-length-2 c = omega (arith, c .before .before .before .before .before .before .steps-from .kept .1 .1 .1 .1 .1 .0, c .before .before .before .before .before .before .before .before .before .before .before .before .before .before .before .before .spoil-samples2 .kept .0)
+same-length-2 c =
+    let steps-from = c .before .before .before .before .before .before .steps-from in
+    let spoil-samples2 = c .before .before .before .before .before .before .before .before .before .before .before .before .before .before .before .before .spoil-samples2 in
+    omega (arith, steps-from .kept .1 .1 .1 .1 .1 .0, spoil-samples2 .kept .0)
 
 returns : tie.Need-returns
 returns c = search needs

@@ -1,6 +1,5 @@
 -- `mission::calls::whole_in` is safe: what it calls keeps the lengths. Assumes nothing.
 use borrow.Author.Needs.{needs}
-use borrow.Author.Needs.{needs}
 use native.Mathlib.Omega.{arith}
 use Rattle.mission.proofs.calls.whole_in.Statement.{statement}
 use Rattle.mission.proofs.calls.whole_in.Tie as tie
@@ -24,10 +23,16 @@ as-lent-requires : tie.Need-as-lent-requires
 as-lent-requires c κs = search needs
 
 same-length : tie.Need-same-length
-same-length c = omega (arith, c .before .before .before .before .before .before .before .before .before .render .kept .1 .1 .0, c .before .before .before .before .before .before .before .before .before .before .before .before .before .before .before .before .before .lend .kept .0)
+same-length c =
+    let render = c .before .before .before .before .before .before .before .before .before .render in
+    let lend = c .before .before .before .before .before .before .before .before .before .before .before .before .before .before .before .before .before .lend in
+    omega (arith, render .kept .1 .1 .0, lend .kept .0)
 
 same-length-2 : tie.Need-same-length-2
-same-length-2 c = omega (arith, c .before .before .before .before .before .before .before .before .before .render .kept .1 .1 .1 .0, c .before .before .before .before .before .before .before .before .before .before .before .before .before .before .before .before .before .lend .kept .1 .0)
+same-length-2 c =
+    let render = c .before .before .before .before .before .before .before .before .before .render in
+    let lend = c .before .before .before .before .before .before .before .before .before .before .before .before .before .before .before .before .before .lend in
+    omega (arith, render .kept .1 .1 .1 .0, lend .kept .1 .0)
 
 returns : tie.Need-returns
 returns c = search needs

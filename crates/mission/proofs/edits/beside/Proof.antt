@@ -1,6 +1,5 @@
 -- `mission::edits::beside` is safe: what it calls keeps the lengths. Assumes nothing.
 use borrow.Author.Needs.{needs}
-use borrow.Author.Needs.{needs}
 use native.Mathlib.Omega.{arith}
 use Rattle.mission.proofs.edits.beside.Statement.{statement}
 use Rattle.mission.proofs.edits.beside.Tie as tie
@@ -24,10 +23,16 @@ compared-words-requires : tie.Need-compared-words-requires
 compared-words-requires c κs = search needs
 
 same-length : tie.Need-same-length
-same-length c = omega (arith, c .before .before .before .before .before .before .before .before .before .before .before .spoil-samples .kept .0, c .before .before .before .before .before .before .before .before .before .before .before .before .before .before .before .before .before .from-zero .kept .1 .1 .0)
+same-length c =
+    let spoil-samples = c .before .before .before .before .before .before .before .before .before .before .before .spoil-samples in
+    let from-zero = c .before .before .before .before .before .before .before .before .before .before .before .before .before .before .before .before .before .from-zero in
+    omega (arith, spoil-samples .kept .0, from-zero .kept .1 .1 .0)
 
 same-length-2 : tie.Need-same-length-2
-same-length-2 c = omega (arith, c .before .before .before .before .before .before .spoil-words .kept .0, c .before .before .before .before .before .before .before .before .before .before .before .before .before .before .before .before .before .from-zero .kept .1 .1 .1 .0)
+same-length-2 c =
+    let spoil-words = c .before .before .before .before .before .before .spoil-words in
+    let from-zero = c .before .before .before .before .before .before .before .before .before .before .before .before .before .before .before .before .before .from-zero in
+    omega (arith, spoil-words .kept .0, from-zero .kept .1 .1 .1 .0)
 
 returns : tie.Need-returns
 returns c = search needs

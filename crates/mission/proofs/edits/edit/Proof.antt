@@ -1,6 +1,5 @@
 -- `mission::edits::edit` is safe: what it calls keeps the lengths. Assumes nothing.
 use borrow.Author.Needs.{needs}
-use borrow.Author.Needs.{needs}
 use native.Mathlib.Omega.{arith}
 use Rattle.mission.proofs.edits.edit.Statement.{statement}
 use Rattle.mission.proofs.edits.edit.Tie as tie
@@ -33,7 +32,9 @@ beside-zero-requires-2 : tie.Need-beside-zero-requires-2
 beside-zero-requires-2 c κs = search needs
 
 same-length : tie.Need-same-length
-same-length c = omega (arith, c .before .before .before .before .before .before .before .before .before .before .before .again .kept .1 .1 .1 .0)
+same-length c =
+    let again = c .before .before .before .before .before .before .before .before .before .before .before .again in
+    omega (arith, again .kept .1 .1 .1 .0)
 
 same-length-2 : tie.Need-same-length-2
 same-length-2 c = search needs

@@ -1,6 +1,5 @@
 -- `mission::edits::over_rubbish` is safe: what it calls keeps the lengths. Assumes nothing.
 use borrow.Author.Needs.{needs}
-use borrow.Author.Needs.{needs}
 use native.Mathlib.Omega.{arith}
 use Rattle.mission.proofs.edits.over_rubbish.Statement.{statement}
 use Rattle.mission.proofs.edits.over_rubbish.Tie as tie
@@ -36,10 +35,17 @@ beside-zero-requires : tie.Need-beside-zero-requires
 beside-zero-requires c κs = search needs
 
 same-length : tie.Need-same-length
-same-length c = omega (arith, c .before .before .before .before .before .before .before .before .before .again .kept .1 .1 .1 .0, c .before .before .before .before .before .before .before .before .before .before .before .before .before .before .before .before .before .before .before .before .before .before .spoil-samples .kept .0)
+same-length c =
+    let again = c .before .before .before .before .before .before .before .before .before .again in
+    let spoil-samples = c .before .before .before .before .before .before .before .before .before .before .before .before .before .before .before .before .before .before .before .before .before .before .spoil-samples in
+    omega (arith, again .kept .1 .1 .1 .0, spoil-samples .kept .0)
 
 same-length-2 : tie.Need-same-length-2
-same-length-2 c = omega (arith, c .before .before .before .before .before .before .before .before .before .again .kept .1 .1 .1 .1 .0, c .before .before .before .before .before .before .before .before .before .before .before .before .before .before .put-entry .kept .0, c .before .before .before .before .before .before .before .before .before .before .before .before .before .before .before .before .before .before .spoil-words .kept .0)
+same-length-2 c =
+    let again = c .before .before .before .before .before .before .before .before .before .again in
+    let put-entry = c .before .before .before .before .before .before .before .before .before .before .before .before .before .before .put-entry in
+    let spoil-words = c .before .before .before .before .before .before .before .before .before .before .before .before .before .before .before .before .before .before .spoil-words in
+    omega (arith, again .kept .1 .1 .1 .1 .0, put-entry .kept .0, spoil-words .kept .0)
 
 returns : tie.Need-returns
 returns c = search needs

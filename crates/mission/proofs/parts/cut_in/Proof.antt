@@ -1,6 +1,5 @@
 -- `mission::parts::cut_in` is safe: what it calls keeps the lengths. Assumes nothing.
 use borrow.Author.Needs.{needs}
-use borrow.Author.Needs.{needs}
 use native.Mathlib.Omega.{arith}
 use Rattle.mission.proofs.parts.cut_in.Statement.{statement}
 use Rattle.mission.proofs.parts.cut_in.Tie as tie
@@ -21,10 +20,14 @@ compared-samples-requires : tie.Need-compared-samples-requires
 compared-samples-requires c κs = search needs
 
 same-length : tie.Need-same-length
-same-length c = omega (arith, c .before .before .before .before .before .before .before .before .before .before .before .before .before .before .before .from-zero .kept .1 .1 .0)
+same-length c =
+    let from-zero = c .before .before .before .before .before .before .before .before .before .before .before .before .before .before .before .from-zero in
+    omega (arith, from-zero .kept .1 .1 .0)
 
 same-length-2 : tie.Need-same-length-2
-same-length-2 c = omega (arith, c .before .before .before .before .before .before .before .before .before .before .before .before .before .before .before .from-zero .kept .1 .1 .1 .0)
+same-length-2 c =
+    let from-zero = c .before .before .before .before .before .before .before .before .before .before .before .before .before .before .before .from-zero in
+    omega (arith, from-zero .kept .1 .1 .1 .0)
 
 same-length-3 : tie.Need-same-length-3
 same-length-3 c = search needs

@@ -59,10 +59,17 @@ next-requires : tie.Need-next-requires Inv-loop μ-loop
 next-requires c κs = search needs
 
 add-turn : tie.Need-add-turn Inv-loop μ-loop
-add-turn c = omega (arith, c .before .before .next .kept .1 .1 .1 .1 .1 .0, c .before .before .before .before .before .before .before .loop-test .taken, c .before .before .before .before .before .before .before .before .loop .inv, c .before .before .before .before .before .before .before .before .before .before .before .before .before .good .1 .1 .1 .0 .0)
+add-turn c =
+    let test = c .before .before .before .before .before .before .before .loop-test in
+    let at = c .before .before .before .before .before .before .before .before .loop in
+    let start = c .before .before .before .before .before .before .before .before .before .before .before .before .before .good in
+    omega (arith, c .before .before .next .kept .1 .1 .1 .1 .1 .0, test .taken, at .inv, start .1 .1 .1 .0 .0)
 
 loop-less : tie.Need-loop-less Inv-loop μ-loop
-loop-less c = omega (arith, c .before .before .next .kept .1 .1 .1 .1 .1 .0, c .before .before .before .before .before .before .before .loop-test .taken, c .before .before .before .before .before .before .before .before .loop .inv)
+loop-less c =
+    let test = c .before .before .before .before .before .before .before .loop-test in
+    let at = c .before .before .before .before .before .before .before .before .loop in
+    omega (arith, c .before .before .next .kept .1 .1 .1 .1 .1 .0, test .taken, at .inv)
 
 loop-again : tie.Need-loop-again Inv-loop μ-loop
 loop-again c = search needs
