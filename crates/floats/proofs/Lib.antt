@@ -39,8 +39,10 @@ pub mod Pattern
 pub mod Fields
 -- floor by the fraction that a number is
 pub mod Floors
--- what the tests of `floor_f32` and `floor_f64` show
+-- what the tests of `floor_f32` and `floor_by_bits` show
 pub mod Tests
+-- floor from 0 to 2, by comparisons
+pub mod Low
 -- floor is the greatest whole number that is not above x
 pub mod Greatest
 -- x - floor(x) lies from 0 to 1

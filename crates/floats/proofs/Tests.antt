@@ -1,4 +1,4 @@
--- What the tests of `floor_f32` and `floor_f64` on x's pattern show of x's floor, over the format: each law answers one return of either function. Assumes nothing.
+-- What the tests of `floor_f32` and `floor_by_bits` on x's pattern show of x's floor, over the format: each law answers one return of either function. Assumes nothing.
 use mathlib.Core.Path.{_≡_, refl, sym, ap, _∙_, subst}
 use mathlib.Core.Bool.{Bool, true, false, not, true≢false}
 use Prim.Native.Nat.{ℕ, suc, _+_, _-_, _*_, _/_, _%_, _^_, _≤_, _<_}
