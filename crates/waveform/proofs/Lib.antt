@@ -1,6 +1,8 @@
 -- What the proofs of this crate and of those above cite.
 -- one sample more, and a block run on
 pub mod Steps
+-- what the inner loops share
+pub mod Loops
 -- the ranges of what is made of radians
 pub mod Normal
 -- the remainder of a phase by whole numbers

@@ -6,9 +6,10 @@ ghost use lib.Dec.{T};
 ghost use lib.ListN.{length};
 ghost use lib.Ieee.{binary64, ofBits, rem, lt, le};
 ghost use lib.Ieee.Positive.{num, den};
-ghost use Rattle.waveform.specs.Waveform.{isWaveform, valueOf, sampleOf, normalOf, reduceOf, incrementOf, radians, tau};
+ghost use Rattle.waveform.specs.Waveform.{isWaveform, valueOf, sampleOf, normalOf, reduceOf, incrementOf, radians, tau, invTau};
 ghost use Rattle.waveform.specs.Filled.{Filled, valueAt};
-ghost use Rattle.waveform.specs.declared.Waveform.the-variants.{Sine};
+ghost use Rattle.waveform.specs.declared.Waveform.the-variants.{Sine, Square, Sawtooth, Triangle, Pulse};
+ghost use Rattle.floats.specs.Double.{_⊗_};
 use answers::Refusal;
 use answers::Value;
 
@@ -76,14 +77,21 @@ pub fn value_at(waveform: Waveform, phase: f64, dt: f64) -> f64
 pub fn wave_at(waveform: Waveform, phase: Radians, step: Radians) -> f64
     ensures { λ r. ⌜ r ≡ valueAt waveform (step .0) (phase .0) ⌝ }
 {
-    value_at(waveform, normalised(phase), step.0 * INV_TAU)
+    value_at(waveform, normalised(phase), in_cycles(step))
 }
 
 // A phase in radians as a part of a cycle.
 pub fn normalised(phase: Radians) -> f64
     ensures { λ r. ⌜ r ≡ normalOf (phase .0) ⌝ }
 {
-    turned(phase.0) * INV_TAU
+    in_cycles(Radians(turned(phase.0)))
+}
+
+// The one place where radians become parts of a cycle.
+fn in_cycles(x: Radians) -> f64
+    ensures { λ r. ⌜ r ≡ x .0 ⊗ invTau ⌝ }
+{
+    x.0 * INV_TAU
 }
 
 // A phase less its whole cycles; TAU itself for a negative phase too small to move it.
@@ -140,13 +148,17 @@ pub fn fill(
 ) -> Radians
     ensures { λ r. ⌜ Filled waveform (start .0) (step .0) scale (now (out .entry)) (now (out .exit)) r ⌝ }
 {
-    if let Waveform::Sine = waveform {
-        return fill_sine(out, start, step, scale);
+    let dt = in_cycles(step);
+    match waveform {
+        Waveform::Sine => fill_sine(out, start, step, scale),
+        Waveform::Square => fill_square(out, start, step, dt, scale),
+        Waveform::Sawtooth => fill_sawtooth(out, start, step, dt, scale),
+        Waveform::Triangle => fill_triangle(out, start, step, dt, scale),
+        Waveform::Pulse(duty) => fill_pulse(out, duty, start, step, dt, scale),
     }
-    fill_shape(out, waveform, start, step, scale)
 }
 
-// The sine's table is made once.
+// One loop a waveform, so that each compiles to its own steps and no more. The sine's table is made once.
 fn fill_sine(out: &mut [f64], start: Radians, step: Radians, scale: f64) -> Radians
     ensures { λ r. ⌜ Filled Sine (start .0) (step .0) scale (now (out .entry)) (now (out .exit)) r ⌝ }
 {
@@ -154,27 +166,75 @@ fn fill_sine(out: &mut [f64], start: Radians, step: Radians, scale: f64) -> Radi
     let mut angle = start.0;
     let mut i = 0;
     while i < out.len() {
-        out[i] = sine::reading_in(&wave, normalised(Radians(angle))) * scale;
+        let t = normalised(Radians(angle));
+        out[i] = sine::reading_in(&wave, t) * scale;
         angle = angle + step.0;
         i += 1;
     }
     Radians(angle)
 }
 
-fn fill_shape(
-    out: &mut [f64],
-    waveform: Waveform,
-    start: Radians,
-    step: Radians,
-    scale: f64,
-) -> Radians
-    ensures { λ r. ⌜ Filled waveform (start .0) (step .0) scale (now (out .entry)) (now (out .exit)) r ⌝ }
+fn fill_square(out: &mut [f64], start: Radians, step: Radians, dt: f64, scale: f64) -> Radians
+    requires { ⌜ dt ≡ step .0 ⊗ invTau ⌝ }
+    ensures { λ r. ⌜ Filled Square (start .0) (step .0) scale (now (out .entry)) (now (out .exit)) r ⌝ }
 {
-    let dt = step.0 * INV_TAU;
     let mut phase = start.0;
     let mut i = 0;
     while i < out.len() {
-        out[i] = value_at(waveform, normalised(Radians(phase)), dt) * scale;
+        let t = normalised(Radians(phase));
+        out[i] = polyblep::square(t, dt) * scale;
+        phase = phase + step.0;
+        i += 1;
+    }
+    Radians(phase)
+}
+
+fn fill_sawtooth(out: &mut [f64], start: Radians, step: Radians, dt: f64, scale: f64) -> Radians
+    requires { ⌜ dt ≡ step .0 ⊗ invTau ⌝ }
+    ensures { λ r. ⌜ Filled Sawtooth (start .0) (step .0) scale (now (out .entry)) (now (out .exit)) r ⌝ }
+{
+    let mut phase = start.0;
+    let mut i = 0;
+    while i < out.len() {
+        let t = normalised(Radians(phase));
+        out[i] = polyblep::saw(t, dt) * scale;
+        phase = phase + step.0;
+        i += 1;
+    }
+    Radians(phase)
+}
+
+fn fill_triangle(out: &mut [f64], start: Radians, step: Radians, dt: f64, scale: f64) -> Radians
+    requires { ⌜ dt ≡ step .0 ⊗ invTau ⌝ }
+    ensures { λ r. ⌜ Filled Triangle (start .0) (step .0) scale (now (out .entry)) (now (out .exit)) r ⌝ }
+{
+    let mut phase = start.0;
+    let mut i = 0;
+    while i < out.len() {
+        let t = normalised(Radians(phase));
+        out[i] = polyblep::triangle(t, dt) * scale;
+        phase = phase + step.0;
+        i += 1;
+    }
+    Radians(phase)
+}
+
+fn fill_pulse(
+    out: &mut [f64],
+    duty: f64,
+    start: Radians,
+    step: Radians,
+    dt: f64,
+    scale: f64,
+) -> Radians
+    requires { ⌜ dt ≡ step .0 ⊗ invTau ⌝ }
+    ensures { λ r. ⌜ Filled (Pulse duty) (start .0) (step .0) scale (now (out .entry)) (now (out .exit)) r ⌝ }
+{
+    let mut phase = start.0;
+    let mut i = 0;
+    while i < out.len() {
+        let t = normalised(Radians(phase));
+        out[i] = polyblep::pulse(t, dt, duty) * scale;
         phase = phase + step.0;
         i += 1;
     }

@@ -7,8 +7,11 @@ use Rattle.waveform.proofs.normalised.Tie as tie
 turned-requires : tie.Need-turned-requires
 turned-requires c κs = search needs
 
+in-cycles-requires : tie.Need-in-cycles-requires
+in-cycles-requires c κs = search needs
+
 returns : tie.Need-returns
-returns c = rw (c .turned .ensures) refl
+returns c = rw (c .in-cycles .ensures, c .before .turned .ensures) refl
 
 pub normalised-spec : {M : Type 1} → statement M
-normalised-spec = tie.close (tie.spec turned-requires returns)
+normalised-spec = tie.close (tie.spec turned-requires in-cycles-requires returns)
