@@ -1,22 +1,29 @@
--- The remainder by whole numbers, with the same bits. Below y, x % y is x. And where x and y are whole numbers of one unit, x % y is the remainder of those, in that unit:
+-- The remainder without dividing, with the same bits. Below y, x % y is x, and below y + y it is x - y. And where x and y are whole numbers of one unit, x % y is the remainder of those, in that unit:
 -- the two are one fraction, rounded once. Over the format. Assumes nothing.
 use mathlib.Core.Path.{_≡_, refl, sym, ap, _∙_}
-use Prim.Native.Nat.{ℕ, _*_, _%_, _^_, _≤_, _<_}
+use Prim.Native.Nat.{ℕ, _+_, _-_, _*_, _%_, _^_, _≤_, _<_}
 use native.Mathlib.Nat as nat
 use native.Mathlib.Omega.{arith}
 use mathlib.Core.Bool.{Bool, true, false}
 use lib.IntN.{pos}
-use lib.Dec.{T}
-use lib.Ieee.{Float, nan, inf, fin, Format, prec, round, div, rem, ofInt, lt, fits}
+use lib.Dec.{T, ltb, ltb→lt, not-T}
+use lib.Ieee.Bits.{is-false}
+use lib.Ieee.{Float, nan, inf, fin, Format, prec, round, sum, sub, div, rem, ofInt, lt, fits}
 use lib.Ieee.Back.{round-whole}
 use lib.Ieee.Exact.{HasValue}
 use lib.Ieee.Scale.{round-same, finite}
 use lib.Ieee.Positive.{num, den, den-pos, positive, first-pos}
 use Rattle.floats.specs.Range.{nonneg}
 use Rattle.floats.proofs.Order.{cross→le, lt-not-le, nonneg→finite, signed, positive-nonneg, positive-num}
-use Rattle.floats.proofs.Operations.{dens-pos, quot-pos, div-is, rem-is}
+use Rattle.floats.proofs.Operations.{dens-pos, quot-pos, sub-is, div-is, rem-is}
 use Rattle.floats.proofs.Remainder.{mod-scale}
 use Rattle.floats.proofs.OneWay.{self-is}
+
+plain : (x : Float) → T (positive x) → signed x ≡ false
+plain nan p = absurd p
+plain (inf s) p = absurd p
+plain (fin true m e) p = absurd p
+plain (fin false m e) p = refl
 
 -- ---- below y
 -- 0 ≤ x < y: x % y is x, -0 included
@@ -29,6 +36,23 @@ rem-below f x y w p q h =
   where
     turn : (a c d : ℕ) → a * d * c ≡ a * (c * d)
     turn a c d = omega arith
+
+-- ---- below y + y
+-- ±a - ±b for b ≤ a, both plain
+less : (f : Format) (a b c : ℕ) → b ≤ a → sum f false a true b c ≡ round f false (a - b) c
+unfolding sum
+less f a b c h = rw (is-false (ltb a b) (not-T (ltb a b) (λ (t : T (ltb a b)). omega (arith, ltb→lt a b t)))) refl
+
+-- y ≤ x < y + y: x % y is x - y, which nothing rounds
+pub rem-once : (f : Format) (x y : Float) → T (positive x) → T (positive y) → num y * den x ≤ num x * den y → num x * den y < num y * den x + num y * den x → sub f x y ≡ rem f x y
+rem-once f x y p q h l =
+    sub-is f x y (nonneg→finite x (positive-nonneg x p)) (nonneg→finite y (positive-nonneg y q))
+    ∙ rw (plain x p, plain y q) (less f (num x * den y) (num y * den x) (den x * den y) h)
+    ∙ ap (λ (n : ℕ). round f false n (den x * den y)) (sym (once (num x * den y) (num y * den x) h l))
+    ∙ sym (rem-is f x y (nonneg→finite x (positive-nonneg x p)) q ∙ rw (plain x p) refl)
+  where
+    once : (a b : ℕ) → b ≤ a → a < b + b → a % b ≡ a - b
+    once a b h l = nat.mod-eq-sub-mod h ∙ nat.mod-eq-of-lt (omega arith)
 
 -- ---- whole numbers of a unit
 of-value : (z : Float) (s : Bool) (a c : ℕ) → HasValue z s a c → T (finite z) × (signed z ≡ s) × (num z * c ≡ a * den z)
@@ -62,9 +86,3 @@ rem-units f x y u a b g p q r ea eb eu few =
   where
     across : (r l n d m e g c : ℕ) → n * 1 ≡ r * d → m ≡ g * e → l * g ≡ r * c → n * e * c ≡ l * (m * d)
     across r l n d m e g c p q k = rw q (omega (arith, ap (λ (z : ℕ). z * (e * c)) p, ap (λ (z : ℕ). z * (e * d)) k))
-
-    plain : (x : Float) → T (positive x) → signed x ≡ false
-    plain nan p = absurd p
-    plain (inf s) p = absurd p
-    plain (fin true m e) p = absurd p
-    plain (fin false m e) p = refl

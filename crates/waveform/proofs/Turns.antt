@@ -1,4 +1,4 @@
--- A phase's remainder by whole numbers: below TAU the phase is its own, and from TAU up to 2^14 the phase and TAU are whole numbers of 2^-50, the phase by its bits. Assumes nothing.
+-- A phase's remainder by whole numbers: below TAU the phase is its own, in the next cycle TAU less, and from TAU up to 2^14 the phase and TAU are whole numbers of 2^-50, the phase by its bits. Assumes nothing.
 use mathlib.Core.Path.{_≡_, refl, sym, subst, ap, _∙_}
 use mathlib.Core.Bool.{Bool, true, false, not, _&&_}
 use Prim.Native.Nat.{ℕ, zero, suc, _+_, _-_, _*_, _/_, _%_, _^_, _≤_, _<_}
@@ -12,13 +12,13 @@ use lib.Ieee.Fits.{and-l, and-r}
 use lib.Ieee.Scale.{finite}
 use lib.Ieee.Positive.{num, den, positive}
 use Rattle.floats.specs.Range.{nonneg}
-use Rattle.floats.specs.Double.{_⊘_, naught}
+use Rattle.floats.specs.Double.{_⊖_, _⊘_, naught}
 use Rattle.floats.proofs.Literals.{lit0-is}
 use Rattle.floats.proofs.Order.{le→ge0, le→cross, cross→le, under, lt-le, lt-not-le, not-lt-le, finite-not-nan, between-finite, nonneg→finite, positive-nonneg}
 use Rattle.floats.proofs.Ranges.{ge0-positive}
 use Rattle.floats.proofs.Pattern.{fieldsOf}
 use Rattle.floats.proofs.Fields.{crossed, field-ge, field-lt}
-use Rattle.floats.proofs.Units.{rem-below, rem-units}
+use Rattle.floats.proofs.Units.{rem-below, rem-once, rem-units}
 use Rattle.waveform.specs.Waveform.{tau}
 use Rattle.waveform.proofs.Normal.{tau-positive, tau-nonneg}
 
@@ -37,6 +37,12 @@ far-is = unfold ofBits in (refl, refl)
 
 tau-is : (num tau ≡ 884279719003555) × (den tau ≡ 140737488355328)
 tau-is = unfold ofBits in (refl, refl)
+
+abbrev two-tau : Float
+two-tau = ofBits binary64 0x4029_21fb_5444_2d18
+
+two-tau-is : (num two-tau ≡ 884279719003555) × (den two-tau ≡ 70368744177664)
+two-tau-is = unfold ofBits in (refl, refl)
 
 -- ---- from TAU up to 2^14
 module _ (x : Float) (w : T (fits binary64 x)) (h : T (le tau x)) (l : T (lt x far)) where
@@ -110,7 +116,19 @@ module _ (x : Float) (t : (le naught x && lt x far) ≡ true) where
   pub from-tau : lt x tau ≡ false → T (le tau x) × T (lt x far)
   from-tau l = (not-lt-le x tau (nonneg→finite x phase-nonneg) (nonneg→finite tau tau-nonneg) (subst (λ (b : Bool). T (not b)) (sym l) tt), below-far)
 
+  x-above : lt x tau ≡ false → T (positive x)
+  x-above l = ge0-positive tau x tau-positive (from-tau l .0) (nonneg→finite x phase-nonneg)
+
+  -- a phase in the next cycle
+  pub next-cycle : lt x tau ≡ false → lt x two-tau ≡ true → x ⊖ tau ≡ rem binary64 x tau
+  next-cycle l k =
+      rem-once binary64 x tau (x-above l) tau-positive (le→cross tau x tau-nonneg phase-nonneg (from-tau l .0))
+      (twice (num x) (den x) (rw (two-tau-is .0, two-tau-is .1) at (nat.lt-of-not-le (λ (g : num two-tau * den x ≤ num x * den two-tau). lt-not-le x two-tau (subst T (sym k) tt) (cross→le two-tau x (unfold ofBits in tt) phase-nonneg g)))))
+    where
+      twice : (a c : ℕ) → a * 70368744177664 < 884279719003555 * c → a * den tau < num tau * c + num tau * c
+      twice a c h = rw (tau-is .0, tau-is .1) (omega arith)
+
   pub turned-is : (n : ℕ) → lt x tau ≡ false → num x * 2 ^ 50 ≡ n * den x → ofInt binary64 (pos (n % 0x19_21fb_5444_2d18)) ⊘ unit ≡ rem binary64 x tau
   turned-is n l e =
-      rem-units binary64 x tau unit n 0x19_21fb_5444_2d18 (2 ^ 50) (ge0-positive tau x tau-positive (from-tau l .0) (nonneg→finite x phase-nonneg)) tau-positive (unfold ofBits in tt) e (rw (tau-is .0, tau-is .1) refl)
+      rem-units binary64 x tau unit n 0x19_21fb_5444_2d18 (2 ^ 50) (x-above l) tau-positive (unfold ofBits in tt) e (rw (tau-is .0, tau-is .1) refl)
       (unfold ofBits in refl) (nat.le-trans (nat.le-of-lt (nat.mod-lt n (lit< tt))) (lit≤ tt))

@@ -18,6 +18,8 @@ const TAU: f64 = 6.283185307179586;
 
 const INV_TAU: f64 = 0.15915494309189535;
 
+const TWO_TAU: f64 = 12.566370614359172;
+
 // TAU * 2^50.
 const TAU_UNITS: u64 = 0x19_21fb_5444_2d18;
 
@@ -105,14 +107,17 @@ pub fn reduced(phase: Radians) -> Radians
     Radians(r)
 }
 
-// x % TAU, to the bit, with no call of C's function in a phase's usual range: below TAU it is x, and from there both are
-// whole numbers of 2^-50, whose remainder is taken of integers. Nothing is rounded.
+// x % TAU, to the bit, with no call of C's function in a phase's usual range: below TAU it is x, in the next cycle x - TAU,
+// and from there both are whole numbers of 2^-50, whose remainder is taken of integers. Nothing is rounded.
 fn turned(x: f64) -> f64
     ensures { λ r. ⌜ r ≡ rem binary64 x tau ⌝ }
 {
     if (0.0 <= x) & (x < 16384.0) {
         if x < TAU {
             return x;
+        }
+        if x < TWO_TAU {
+            return x - TAU;
         }
         return (units(x) % TAU_UNITS) as f64 / 1125899906842624.0;
     }

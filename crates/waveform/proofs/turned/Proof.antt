@@ -5,7 +5,7 @@ use native.Mathlib.Omega.{arith}
 use lib.IntN.{pos}
 use lib.Dec.{T, le→leb}
 use lib.Ieee.{binary64, inFloat, fits}
-use Rattle.waveform.proofs.Turns.{below-tau, from-tau, turned-is}
+use Rattle.waveform.proofs.Turns.{below-tau, from-tau, next-cycle, turned-is}
 use Rattle.waveform.proofs.turned.Statement.{statement}
 use Rattle.waveform.proofs.turned.Tie as tie
 
@@ -21,17 +21,20 @@ kept n = le→leb (n % 7074237752028440) 9007199254740992 (omega arith)
 returns : tie.Need-returns
 returns c = below-tau (c .before .before .args .x) (c .before .if1 .taken) (held (c .before .before)) (c .if2 .taken)
 
+returns-2 : tie.Need-returns-2
+returns-2 c = next-cycle (c .before .before .before .args .x) (c .before .before .if1 .taken) (c .before .if2 .left) (c .if3 .taken)
+
 units-requires : tie.Need-units-requires
-units-requires c κs = from-tau (c .before .before .args .x) (c .before .if1 .taken) (c .if2 .left)
+units-requires c κs = from-tau (c .before .before .before .args .x) (c .before .before .if1 .taken) (c .before .if2 .left)
 
 int-to-float-result : tie.Need-int-to-float-result
 int-to-float-result c = kept (c .before .units .result)
 
-returns-2 : tie.Need-returns-2
-returns-2 c = let far = c .before .before .before in turned-is (far .before .args .x) (far .if1 .taken) (c .before .units .result) (c .before .before .if2 .left) (c .before .units .ensures)
-
 returns-3 : tie.Need-returns-3
-returns-3 c = search needs
+returns-3 c = let far = c .before .before .before .before in turned-is (far .before .args .x) (far .if1 .taken) (c .before .units .result) (c .before .before .before .if2 .left) (c .before .units .ensures)
+
+returns-4 : tie.Need-returns-4
+returns-4 c = search needs
 
 pub turned-spec : {M : Type 1} → statement M
-turned-spec = tie.close (tie.spec returns units-requires int-to-float-result returns-2 returns-3)
+turned-spec = tie.close (tie.spec returns returns-2 units-requires int-to-float-result returns-3 returns-4)
