@@ -1,4 +1,6 @@
-// What a call says: the lines of document 01's table as enums, and the three numbers that stand for each.
+// What a call says: the lines of document 01's table ("What a call says") as enums, and the three numbers that stand for
+// each. What a call gives beside its answer, a number or a state, stands in a struct of its own crate; `Value` is the one that
+// several share.
 ghost use mathlib.Core.Path.{_≡_};
 ghost use Prim.Native.Nat.{_≤_};
 ghost use Rattle.answers.specs.Value.{valueIf};

@@ -1,5 +1,6 @@
 // What the two block calls share, oscillator.rs's and lfo.rs's of the original: the judging, the inner loop over the
-// output, and the reduction after it. They differ in their highest frequency, and the oscillator's depth is 1.
+// output, and the reduction after it. They differ in their highest frequency, and the oscillator's depth is 1. Left out, as 01
+// says: parameters and their modulation, noise, and the simd path.
 ghost use mathlib.Core.Path.{_≡_};
 ghost use Rattle.blocks.specs.Block.{isTone, isStart, refusedOf, leaves, runOf};
 ghost use Rattle.floats.specs.Range.{within};

@@ -1,5 +1,7 @@
-// What C sees: the calls of the crates below, on numbers and slices, each with its answer in one word. A slice is a pointer
-// and a length in C; desk/gavberin.h declares every function here, with the caller's duties.
+// What C sees: the calls of the crates below, on numbers and slices, each with its answer in one word. 01 asks for the check of
+// a score and for single samples; render, re-render, continuing call, fresh state and listing go beyond it. A slice is a
+// pointer and a length in C; desk/gavberin.h declares every function here, with the caller's duties, which nothing here can
+// test. Left out: the ported calls of phase, voice, envelope, oscillator and LFO, and the end state of a render.
 ghost use mathlib.Core.Path.{_≡_};
 ghost use Rattle.shelf.specs.Shelf.{isEntry};
 ghost use Rattle.desk.specs.Packed.{packedOf};

@@ -1,5 +1,6 @@
-// floor of an f32 and of an f64, worked out from the bits: the two widths share their argument, which is over the
-// format (proofs/). The laws of float arithmetic that the crates above lean on are this crate's files of proofs/.
+// floor of an f32 and of an f64, worked out from the bits, as 01 asks: the two widths share their argument, which is over the
+// format (proofs/). The laws of float arithmetic that the crates above lean on are this crate's files of proofs/. Left out: all
+// other arithmetic, which is the language's own, and C's library.
 ghost use mathlib.Core.Path.{_≡_};
 ghost use mathlib.Core.Bool.{Bool};
 ghost use Prim.Native.Nat.{_<_, _≤_, _^_};

@@ -1,4 +1,5 @@
-// What the lister prints for a score, as bytes at the front of a buffer.
+// What the lister prints for a score (01, "The score"), as bytes at the front of a buffer. Reading the score and writing the
+// bytes is left to the program `lister`.
 ghost use mathlib.Core.Path.{_≡_};
 ghost use Prim.Native.Nat.{_+_, _*_, _≤_};
 ghost use lib.ListN.{length};

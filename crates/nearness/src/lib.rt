@@ -1,5 +1,5 @@
 // How far two numbers are apart, and how the largest of such differences is told: what the programs share that measure a
-// sine.
+// sine. Nothing that sounds uses it. 01 asks for the measure and not for its form.
 ghost use mathlib.Core.Path.{_≡_};
 ghost use Rattle.nearness.specs.Nearness.{apartOf, largerOf, billionthsOf};
 

@@ -1,5 +1,6 @@
 // oscillator.rs of the original: a block of a waveform at a frequency of its own, or at the one that a note sets.
-// State goes in by value and is handed back.
+// State goes in by value and is handed back. Left out, as 01 says: `Block`, parameter names and modulation, and with them the
+// pitch offset; noise and its seed; the simd path.
 ghost use mathlib.Core.Path.{_≡_};
 ghost use Rattle.oscillator.specs.Oscillator.{newOf, withMidi, withWaveform, withPhase, playedOf, leaves, processOf};
 ghost use Rattle.oscillator.specs.declared.MidiFrequency.the-variants.{Unset, Set};

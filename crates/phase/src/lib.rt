@@ -1,5 +1,6 @@
 // phase.rs of the original: a phase counter in cycles, advanced once a sample, in f32. State goes in by value and is
-// handed back; what the original asserts or leaves open is refused (document 01, number 9).
+// handed back; what the original asserts or leaves open is refused (document 01, number 9). The original's traits are left
+// out. The voice itself counts in radians and does not use it.
 ghost use mathlib.Core.Path.{_≡_};
 ghost use lib.Ieee.Scale.{finite};
 ghost use Rattle.phase.specs.Phase.{isState, wrapOf, withPhase, withIncrement, changedIf, shownIf, steppedIf};

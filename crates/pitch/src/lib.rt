@@ -1,4 +1,5 @@
-// The pitch of a note, in Hz: the original's `midi_note_to_frequency`, as a table of its answers (specs/Patterns.antt).
+// The pitch of a note, in Hz: `midi_note_to_frequency` of the original's voice.rs, as a table of its answers
+// (specs/Patterns.antt). Left out: any other tuning, and `powf`.
 ghost use mathlib.Core.Path.{_≡_};
 ghost use Rattle.pitch.specs.Pitch.{frequencyOf, isNote, frequencyIf, midiNoteToFrequencyOf, midiNoteToFrequencyF64Of};
 use answers::Answer;

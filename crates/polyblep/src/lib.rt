@@ -1,6 +1,6 @@
 // polyblep.rs of the original: corrections that round the corners of a waveform, and four waveforms over them, in f64.
 // The calls of document 01 judge their arguments; the plain functions under them take any number and are what a
-// waveform's inner loop uses.
+// waveform's inner loop uses. Left out: the simd lanes.
 ghost use mathlib.Core.Path.{_≡_};
 ghost use Rattle.polyblep.specs.Polyblep.{sideOf, blepOf, blampOf, fractOf, stepOf, rampOf, sawOf, squareOf, pulseOf, triangleOf};
 ghost use Rattle.polyblep.specs.Calls.{isPhase, isDuty, polyBlepOf, polyBlampOf, polyblepSawOf, polyblepSquareOf, polyblepPulseOf, polyblampTriangleOf};

@@ -1,5 +1,5 @@
-// From a mark to the end of the output, section by section: a mark's entry is kept, and then its samples are played. A
-// render starts at mark 0, a re-render where its scores part.
+// From a mark to the end of the output, section by section (01, "The shelf"): a mark's entry is kept, and then its samples are
+// played. A render starts at mark 0, a re-render where its scores part. Judging is left to those two.
 ghost use mathlib.Core.Path.{_≡_};
 ghost use Prim.Native.Nat.{_+_, _-_, _*_, _≤_, _<_};
 ghost use lib.ListN.{length};

@@ -1,5 +1,5 @@
-// An entry of the shelf: the state before a mark, as twelve words, and back. Every state is written and any words are
-// read; which words are an entry stands apart.
+// An entry of the shelf (01, "The shelf"): the state before a mark, as twelve words, and back. Every state is written and any
+// words are read; which words are an entry stands apart. When one is kept, and who starts from it, is left to the crates above.
 ghost use mathlib.Core.Path.{_≡_};
 ghost use Prim.Native.Nat.{_<_, _≤_};
 ghost use Rattle.shelf.specs.Shelf.{entriesFor, wordsFor, stageWord, activeByte, gateBit, packedWord, pairAt, fourPairs, entryOf, keptIn, word, float, stageOf, activeOf, notesOf, velocitiesOf, keysIn, envelopeIn, stateOf, decodedOf};

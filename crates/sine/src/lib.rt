@@ -1,4 +1,5 @@
-// Sine by a table of a quarter wave, read between its entries (specs/Sine.antt). The argument is in cycles, from 0 to 1.
+// Sine by a table of a quarter wave, read between its entries (01, "Pitch and sine"; specs/Sine.antt). The argument is in
+// cycles, from 0 to 1. It is ours: the original's `sin` and its table of f32 are not taken over.
 ghost use mathlib.Core.Path.{_≡_};
 ghost use Prim.Native.Nat.{_≤_, _<_};
 ghost use lib.Dec.{T};

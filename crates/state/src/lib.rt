@@ -1,5 +1,6 @@
-// The voice's state, and the four steps that make a sample: reduce the phase, let a record act, take the sample, advance.
-// Everything that a render, a continuing call and a re-render do is these steps, counted from sample zero.
+// The voice's state, and the four steps that make a sample (01, "Making sample n"): reduce the phase, let a record act, take the
+// sample, advance. Everything that a render, a continuing call and a re-render do is these steps, counted from sample zero.
+// Which record acts when is said in specs/Heart.antt, and done by the crates above.
 ghost use mathlib.Core.Path.{_≡_};
 ghost use Rattle.voice.specs.Keys.{liftedOf};
 ghost use Rattle.state.specs.Limits.{inLimits, isState};

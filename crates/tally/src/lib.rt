@@ -1,4 +1,5 @@
-// The count of a replay: how many rows there were, and how many were equal.
+// The count of a replay: how many rows there were, and how many were equal. The programs that compare share it; nothing that
+// sounds uses it.
 ghost use mathlib.Core.Path.{_≡_};
 ghost use Rattle.tally.specs.Tally.{oneMore, noneOf, countedOf};
 

@@ -1,5 +1,6 @@
 // voice.rs of the original: one voice for many keys, the last of which sounds. State goes in by value and is handed back; what lies
-// outside the domain is refused (document 01, number 9). The keys themselves are in keys.rt.
+// outside the domain is refused (document 01, number 9). The keys themselves are in keys.rt. `midi_note_to_frequency` stands in the
+// crate `pitch`; the traits of the original are left out.
 ghost use mathlib.Core.Path.{_≡_};
 ghost use Rattle.voice.specs.Voice.{velocityOf, isVoice, isMidi, struck, heardOf, isReleased, isNote, changedIf, offIf, activeIf, countIf};
 ghost use Rattle.voice.specs.Voice.{newOf, noteOnOf, noteOffOf, resetOf, isActiveOf, heldNoteCountOf};

@@ -1,4 +1,5 @@
-// Numbers in bytes, low byte first, and floats as their bits, NaN too: how rows of vectors are read.
+// Numbers in bytes, low byte first, and floats as their bits, NaN too: how rows of vectors are read, and how a shelf's words
+// are. Writing bytes is left out.
 ghost use mathlib.Core.Path.{_≡_};
 ghost use Prim.Native.Nat.{_+_, _*_, _<_, _≤_};
 ghost use lib.ListN.{length, getD};
