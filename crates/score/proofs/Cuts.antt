@@ -1,18 +1,19 @@
 -- The records below a position: on a score whose positions never fall they are the first ones, and `countBelow` says how many. Assumes nothing.
-use mathlib.Core.Path.{_≡_, refl}
-use mathlib.Core.Bool.{Bool, true, false}
+use mathlib.Core.Path.{_≡_, refl, sym, ap, _∙_}
+use mathlib.Core.Bool.{Bool, true, false, _&&_, _||_}
 use mathlib.Core.List.{List}
 use mathlib.Core.Logic.{_⊎_, inl, inr, ⊎-elim}
-use Prim.Native.Nat.{ℕ, zero, suc, _*_, _≤_, _<_}
+use Prim.Native.Nat.{ℕ, zero, suc, _*_, _-_, _≤_, _<_}
 use native.Mathlib.Nat.{add-zero, eq-or-lt-of-le, le-of-suc-le-suc}
 use native.Mathlib.Omega.{arith}
-use lib.Dec.{ltb}
+use lib.Dec.{ltb, leb, eqb}
 use lib.ListN.{length}
-use borrow.Author.Tests.{lt-ltb, le-ltb, ltb-true, ltb-false, leb-true}
+use borrow.Author.Tests.{lt-ltb, le-ltb, ltb-true, ltb-false, le-leb, leb-true, eq-eqb, eqb-true}
 use Rattle.score.specs.declared.Verdict.the-variants.{Accepted}
 use Rattle.score.specs.Record.{countOf, positionAt}
 use Rattle.score.specs.Score.{inOrder, verdictOf}
-use Rattle.score.specs.Below.{below, countBelow, Sorted, Cut}
+use Rattle.score.specs.Below.{below, countBelow, lastBelow, partsAt, Sorted, Cut}
+use Rattle.score.proofs.Codec.{both, either, or-right}
 use Rattle.score.proofs.Verdicts.{accepted-all}
 
 pub lt-or-ge : (a b : ℕ) → (a < b) ⊎ (b ≤ a)
@@ -101,3 +102,44 @@ cut-rises s p q c d h x y =
     (λ l. let a : positionAt s d < p = x .lows d l in
     let b : q ≤ positionAt s d = y .highs d (omega arith) (omega (arith, x .inside)) in omega arith)
     (λ g. g) (lt-or-ge d c)
+
+-- ---- on such a score it is enough to look at two records
+pub last-before : (s : List ℕ) (k p : ℕ) → 0 < k → lastBelow s k p ≡ ltb (positionAt s (k - 1)) p
+unfolding lastBelow
+last-before s k p h = let left : k ≡ suc (k - 1) = omega arith in ap (λ (j : ℕ). lastBelow s j p) left
+
+module _ (s : List ℕ) (o : Sorted s) (k p : ℕ) where
+  pub parts-cut : partsAt s k p ≡ true → Cut s p k
+  unfolding partsAt
+  parts-cut h =
+      let a = both (leb k (countOf s) && lastBelow s k p) (leb (countOf s) k || leb p (positionAt s k)) h in
+      let b = both (leb k (countOf s)) (lastBelow s k p) (a .0) in
+      let inside : k ≤ countOf s = leb-true _ _ (b .0) in
+      record {
+        inside = inside;
+        lows = λ i l. (
+            let low : positionAt s (k - 1) < p = ltb-true _ _ (sym (last-before s k p (omega arith)) ∙ b .1) in
+            let le : positionAt s i ≤ positionAt s (k - 1) = sorted-le s o i (k - 1) (omega arith) (omega arith) in omega arith);
+        highs = λ i g l. ⊎-elim
+            (λ e. let end : countOf s ≤ k = leb-true _ _ e in omega arith)
+            (λ e. let high : p ≤ positionAt s k = leb-true _ _ e in let le : positionAt s k ≤ positionAt s i = sorted-le s o k i g l in omega arith)
+            (either (leb (countOf s) k) (leb p (positionAt s k)) (a .1));
+      }
+
+  cut-parts : Cut s p k → partsAt s k p ≡ true
+  unfolding partsAt lastBelow
+  cut-parts c =
+      let low : lastBelow s k p ≡ true = ⊎-elim (λ h. last-before s k p h ∙ lt-ltb _ _ (c .lows (k - 1) (omega arith))) (λ h. let e : k ≡ 0 = omega arith in rw e refl) (lt-or-ge 0 k) in
+      ⊎-elim
+      (λ l. rw (le-leb k (countOf s) (c .inside), low) (or-right (leb (countOf s) k) _ (le-leb _ _ (c .highs k (omega arith) l))))
+      (λ g. rw (le-leb k (countOf s) (c .inside), low, le-leb (countOf s) k g))
+      (lt-or-ge k (countOf s))
+
+  -- k records lie below p
+  pub parts-count : partsAt s k p ≡ eqb k (countBelow s p)
+  parts-count = go (partsAt s k p) refl (eqb k (countBelow s p)) refl
+    where
+      go : (a : Bool) → partsAt s k p ≡ a → (b : Bool) → eqb k (countBelow s p) ≡ b → a ≡ b
+      go true e b f = sym (eq-eqb k (countBelow s p) (cut-count s o p k (parts-cut e))) ∙ f
+      go false e true f = sym e ∙ cut-parts (rw (eqb-true k (countBelow s p) f) (count-cut s o p))
+      go false e false f = refl

@@ -15,6 +15,8 @@ pub mod Grown
 pub mod Parted
 -- below it they have the same records; there is none exactly where they are equal
 pub mod Agree
+-- what the bytes that are read at once say
+pub mod Words
 -- a turn of each loop
 pub mod Turns
 -- 01's example, and its edges

@@ -6,12 +6,12 @@ use Prim.Native.Nat.{ℕ, suc, _+_, _-_, _<_, _≤_, min}
 use native.Mathlib.Numerals.{add-one}
 use native.Mathlib.Omega.{arith}
 use lib.Dec.{leb}
-use borrow.Author.Tests.{eq-eqb, ne-eqb, lt-ltb, le-ltb}
+use borrow.Author.Tests.{le-leb, lt-ltb, le-ltb}
 use Rattle.answers.specs.declared.ScoreFault.{ScoreFault}
 use Rattle.score.specs.declared.Verdict.the-variants.{Accepted, Faulty}
-use Rattle.score.specs.Record.{countOf, byteAt, positionAt}
+use Rattle.score.specs.Record.{countOf, positionAt}
 use Rattle.score.specs.Score.{inOrder, verdictAt, verdictFrom}
-use Rattle.score.specs.Apart.{sameAt, sameTo, firstFrom, firstIndex, differenceOf}
+use Rattle.score.specs.Apart.{sameAt, firstFrom, firstIndex, differenceOf}
 use Rattle.score.specs.declared.Difference.the-variants.{Equal, At}
 
 -- ---- the check, at record i of n
@@ -33,6 +33,15 @@ judge-end s n i h =
     let left : n - i ≡ 0 = omega arith in
     rw (left, h)
 
+-- no record is below the first, and each next one is held to the one before it
+pub order-first : (s : List ℕ) → inOrder s 0 ≡ leb 0 (positionAt s 0)
+unfolding inOrder
+order-first s = sym (le-leb 0 (positionAt s 0) (omega arith))
+
+pub order-next : (s : List ℕ) (i : ℕ) → inOrder s (i + 1) ≡ leb (positionAt s i) (positionAt s (i + 1))
+unfolding inOrder
+order-next s i = rw (add-one i)
+
 -- ---- the search for the first index, at record i of n
 pub search-on : (s t : List ℕ) (n i : ℕ) → i < n → sameAt s t i ≡ true → firstFrom s t (n - i) i ≡ firstFrom s t (n - (i + 1)) (i + 1)
 unfolding firstFrom
@@ -51,23 +60,6 @@ unfolding firstFrom
 search-end s t n i h =
     let left : n - i ≡ 0 = omega arith in
     rw (left, h)
-
--- ---- the comparison of a record, of whose first j bytes byte j - 1 is next
-pub same-on : (s t : List ℕ) (i j : ℕ) → 0 < j → byteAt s i (j - 1) ≡ byteAt t i (j - 1) → sameTo s t i j ≡ sameTo s t i (j - 1)
-unfolding sameTo
-same-on s t i j h e =
-    let left : j ≡ suc (j - 1) = omega arith in
-    ap (sameTo s t i) left ∙ rw (eq-eqb _ _ e)
-
-pub same-stop : (s t : List ℕ) (i j : ℕ) → 0 < j → (byteAt s i (j - 1) ≡ byteAt t i (j - 1) → ⊥) → sameTo s t i j ≡ false
-unfolding sameTo
-same-stop s t i j h d =
-    let left : j ≡ suc (j - 1) = omega arith in
-    ap (sameTo s t i) left ∙ rw (ne-eqb _ _ d)
-
-pub same-end : (s t : List ℕ) (i j : ℕ) → j ≡ 0 → sameTo s t i j ≡ true
-unfolding sameTo
-same-end s t i j h = rw h
 
 -- the order of a record that has one before it
 pub order-after : (s : List ℕ) (i : ℕ) → 0 < i → inOrder s i ≡ leb (positionAt s (i - 1)) (positionAt s i)

@@ -1,5 +1,6 @@
 -- Two outcomes that meet a public function's statement are equal. Assumes nothing.
 use mathlib.Core.Path.{_≡_, sym, _∙_}
+use mathlib.Core.Bool.{Bool}
 use mathlib.Core.List.{List}
 use Prim.Native.Nat.{ℕ}
 use Rattle.answers.specs.declared.Answer.{Answer}
@@ -8,7 +9,7 @@ use Rattle.score.specs.declared.Verdict.{Verdict}
 use Rattle.score.specs.declared.Difference.{Difference}
 use Rattle.score.specs.Record.{countOf, positionAt, recordAt, encodeOf}
 use Rattle.score.specs.Score.{verdictOf, answerOf}
-use Rattle.score.specs.Below.{countBelow}
+use Rattle.score.specs.Below.{countBelow, partsAt}
 use Rattle.score.specs.Apart.{firstIndex, differenceOf}
 
 pub check-unique : (s : List ℕ) (a b : Answer) → a ≡ answerOf (verdictOf s) → b ≡ answerOf (verdictOf s) → a ≡ b
@@ -31,6 +32,9 @@ encode-unique r a b p q = p ∙ sym q
 
 pub count-below-unique : (s : List ℕ) (n a b : ℕ) → a ≡ countBelow s n → b ≡ countBelow s n → a ≡ b
 count-below-unique s n a b p q = p ∙ sym q
+
+pub parts-at-unique : (s : List ℕ) (k n : ℕ) (a b : Bool) → a ≡ partsAt s k n → b ≡ partsAt s k n → a ≡ b
+parts-at-unique s k n a b p q = p ∙ sym q
 
 pub first-index-unique : (s t : List ℕ) (a b : ℕ) → a ≡ firstIndex s t → b ≡ firstIndex s t → a ≡ b
 first-index-unique s t a b p q = p ∙ sym q

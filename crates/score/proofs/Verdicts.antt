@@ -1,6 +1,6 @@
 -- What an accepted score has: its length, and every record right and in order; and that nothing else is asked. Assumes nothing.
 use mathlib.Core.Path.{_≡_, refl, ap, _∙_}
-use mathlib.Core.Bool.{Bool, true, false}
+use mathlib.Core.Bool.{Bool, true, false, _&&_}
 use mathlib.Core.List.{List}
 use mathlib.Core.Logic.{⊎-elim}
 use Prim.Native.Nat.{ℕ, zero, suc, _+_, _*_, _%_, _≤_, _<_}
@@ -14,8 +14,8 @@ use Rattle.answers.specs.declared.ScoreFault.the-variants.{Length, Mark, Kind, 
 use Rattle.score.specs.declared.Verdict.{Verdict}
 use Rattle.score.specs.declared.Verdict.the-variants.{Accepted, Faulty}
 use Rattle.score.specs.Record.{countOf}
-use Rattle.score.specs.Score.{markRight, kindRight, fieldsRight, inOrder, unless, verdictAt, next, verdictFrom, verdictOf}
-use Rattle.score.proofs.Codec.{Right, tests-right, right-mark, right-kind, right-fields}
+use Rattle.score.specs.Score.{markRight, kindRight, fieldsRight, allRight, inOrder, unless, verdictAt, next, verdictFrom, verdictOf}
+use Rattle.score.proofs.Codec.{both, Right, tests-right, right-mark, right-kind, right-fields}
 
 clash : _≡_ {A = ℕ} 0 1 → ⊥
 clash h = omega arith
@@ -45,6 +45,13 @@ accepted-fine s i n h =
 pub fine-accepted : (s : List ℕ) (i : ℕ) → Fine s i → verdictAt s i ≡ Accepted 1
 unfolding verdictAt
 fine-accepted s i f = rw (right-mark s i (f .right), right-kind s i (f .right), right-fields s i (f .right), f .ordered)
+
+pub right-accepted : (s : List ℕ) (i : ℕ) → allRight s i ≡ true → inOrder s i ≡ true → verdictAt s i ≡ Accepted 1
+unfolding verdictAt
+right-accepted s i h o =
+    let a = both (markRight s i && kindRight s i) (fieldsRight s i) h in
+    let b = both (markRight s i) (kindRight s i) (a .0) in
+    rw (b .0, b .1, a .1, o)
 
 -- ---- k records from the i-th on
 from-fine : (s : List ℕ) (k i n : ℕ) → verdictFrom s k i ≡ Accepted n → (n ≡ i + k) × ((j : ℕ) → i ≤ j → j < i + k → Fine s j)

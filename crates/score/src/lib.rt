@@ -1,10 +1,11 @@
-// The score: records of ten bytes, as document 01 writes them. A score is a slice of bytes; every function here takes any
-// slice, and reads past its end as 0.
+// The score: records of ten bytes, as document 01 writes them. A score is a slice of bytes; every public function takes
+// any slice, and reads past its end as 0.
 ghost use mathlib.Core.Path.{_≡_};
-ghost use Prim.Native.Nat.{_<_, min};
-ghost use Rattle.score.specs.Record.{byteAt, positionAt, kindOf, kindByte, recordAt, encodeOf, countOf};
-ghost use Rattle.score.specs.Score.{mostOf, markRight, kindRight, fieldsRight, inOrder, verdictAt, verdictOf, answerOf};
-ghost use Rattle.score.specs.Below.{countBelow};
+ghost use mathlib.Core.Bool.{true};
+ghost use Prim.Native.Nat.{_<_, _≤_, min};
+ghost use Rattle.score.specs.Record.{byteAt, wordOf, wordAt, markAt, restAt, positionAt, kindOf, kindByte, recordAt, encodeOf, countOf};
+ghost use Rattle.score.specs.Score.{mostOf, markRight, kindRight, fieldsRight, allRight, inOrder, verdictAt, verdictOf, answerOf};
+ghost use Rattle.score.specs.Below.{countBelow, lastBelow, partsAt};
 ghost use Rattle.score.specs.Apart.{sameAt, firstIndex, differenceOf};
 use answers::Answer;
 use answers::Refusal;
@@ -62,12 +63,15 @@ pub fn judge(score: &[u8]) -> Verdict
     if MOST < n {
         return Verdict::Faulty(ScoreFault::Length);
     }
+    let mut before = 0;
     let mut i = 0;
     while i < n {
-        let verdict = judge_record(score, i);
+        let here = word_at(score, i, 2);
+        let verdict = judge_after(score, i, before <= here);
         if let Verdict::Faulty(fault) = verdict {
             return Verdict::Faulty(fault);
         }
+        before = here;
         i += 1;
     }
     Verdict::Accepted(n)
@@ -84,11 +88,11 @@ pub fn count(score: &[u8]) -> usize
 pub fn position(score: &[u8], i: usize) -> u32
     ensures { λ r. ⌜ r ≡ positionAt (now (score .entry)) i ⌝ }
 {
-    let a = wide_at(score, i, 2);
-    let b = wide_at(score, i, 3);
-    let c = wide_at(score, i, 4);
-    let d = wide_at(score, i, 5);
-    a + b * 256 + c * 65536 + d * 16777216
+    let a = byte_at(score, i, 2);
+    let b = byte_at(score, i, 3);
+    let c = byte_at(score, i, 4);
+    let d = byte_at(score, i, 5);
+    word_of(a, b, c, d)
 }
 
 // Record i, read as it stands: nothing is judged.
@@ -134,6 +138,16 @@ pub fn count_below(score: &[u8], p: u64) -> usize
     k
 }
 
+// Whether the first k records end below p and the next, if there is one, does not: on a score, whether k records are below.
+pub fn parts_at(score: &[u8], k: u64, p: u64) -> bool
+    ensures { λ r. ⌜ r ≡ partsAt (now (score .entry)) k p ⌝ }
+{
+    let n = count(score) as u64;
+    let next = k as usize;
+    let above = p <= position(score, next) as u64;
+    (k <= n) & last_below(score, next, p) & ((n <= k) | above)
+}
+
 // The first index at which the records differ, or at which one of the two has ended.
 pub fn first_index(old: &[u8], new: &[u8]) -> usize
     ensures { λ r. ⌜ r ≡ firstIndex (now (old .entry)) (now (new .entry)) ⌝ }
@@ -168,6 +182,16 @@ pub fn first_difference(old: &[u8], new: &[u8]) -> Difference
     Difference::Equal
 }
 
+// Whether the last of the first k records, if k is not 0, is below p.
+fn last_below(score: &[u8], k: usize, p: u64) -> bool
+    ensures { λ r. ⌜ r ≡ lastBelow (now (score .entry)) k p ⌝ }
+{
+    if k == 0 {
+        return true;
+    }
+    (position(score, k - 1) as u64) < p
+}
+
 // Byte j of record i; 0 past the end.
 fn byte_at(score: &[u8], i: usize, j: usize) -> u8
     ensures { λ r. ⌜ r ≡ byteAt (now (score .entry)) i j ⌝ }
@@ -182,10 +206,50 @@ fn byte_at(score: &[u8], i: usize, j: usize) -> u8
     score[at + j]
 }
 
-fn wide_at(score: &[u8], i: usize, j: usize) -> u32
-    ensures { λ r. ⌜ (r ≡ byteAt (now (score .entry)) i j) × (r < 256) ⌝ }
+// Four bytes as one number, low byte first.
+fn word_of(a: u8, b: u8, c: u8, d: u8) -> u32
+    ensures { λ r. ⌜ r ≡ wordOf a b c d ⌝ }
 {
-    byte_at(score, i, j) as u32
+    let a = a as u32;
+    let b = b as u32;
+    let c = c as u32;
+    let d = d as u32;
+    a + b * 256 + c * 65536 + d * 16777216
+}
+
+// Four bytes of a record that is there, from byte j on: one read, where no other reads one of them.
+fn word_at(score: &[u8], i: usize, j: usize) -> u32
+    requires { ⌜ i < countOf (now score) ⌝ }
+    requires { ⌜ j ≤ 6 ⌝ }
+    ensures { λ r. ⌜ r ≡ wordAt (now (score .entry)) i j ⌝ }
+{
+    let at = i * SIZE;
+    let a = score[at + j];
+    let b = score[at + (j + 1)];
+    let c = score[at + (j + 2)];
+    let d = score[at + (j + 3)];
+    word_of(a, b, c, d)
+}
+
+// The mark of a record that is there.
+fn mark_at(score: &[u8], i: usize) -> u32
+    requires { ⌜ i < countOf (now score) ⌝ }
+    ensures { λ r. ⌜ r ≡ markAt (now (score .entry)) i ⌝ }
+{
+    let at = i * SIZE;
+    let a = score[at];
+    let b = score[at + 1];
+    word_of(a, b, 0, 0)
+}
+
+// The eight bytes after the mark of a record that is there.
+fn rest_at(score: &[u8], i: usize) -> u64
+    requires { ⌜ i < countOf (now score) ⌝ }
+    ensures { λ r. ⌜ r ≡ restAt (now (score .entry)) i ⌝ }
+{
+    let low = word_at(score, i, 2) as u64;
+    let high = word_at(score, i, 6) as u64;
+    low + high * 4294967296
 }
 
 fn kind_of(byte: u8) -> Kind
@@ -208,6 +272,29 @@ fn kind_byte(kind: Kind) -> u8
         Kind::Off => 2,
         Kind::Reset => 3,
     }
+}
+
+// The same of a record that is there and whose order is known, by one test where all is right.
+fn judge_after(score: &[u8], i: usize, order: bool) -> Verdict
+    requires { ⌜ i < countOf (now score) ⌝ }
+    requires { ⌜ order ≡ inOrder (now score) i ⌝ }
+    ensures { λ r. ⌜ r ≡ verdictAt (now (score .entry)) i ⌝ }
+{
+    if order & surely_right(score, i) {
+        return Verdict::Accepted(1);
+    }
+    judge_record(score, i)
+}
+
+// Yes only to what is right: the mark, and a reset's last four bytes or, less the bits of fields below 128, kind 1 or 2.
+fn surely_right(score: &[u8], i: usize) -> bool
+    requires { ⌜ i < countOf (now score) ⌝ }
+    ensures { λ r. ⌜ (r ≡ true → allRight (now (score .entry)) i ≡ true) ⌝ }
+{
+    let mark = mark_at(score, i);
+    let last = word_at(score, i, 6);
+    let kind = last & 0xFF8080FF;
+    (mark == 0x4E56) & ((last == 3) | ((1 <= kind) & (kind <= 2)))
 }
 
 // The first fault of record i, or that this one record is accepted.
@@ -273,18 +360,15 @@ fn in_order(score: &[u8], i: usize) -> bool
     position(score, i - 1) <= position(score, i)
 }
 
-// Whether record i has the same ten bytes in both.
+// Whether record i, which both have, has the same ten bytes in both.
 fn same_record(s: &[u8], t: &[u8], i: usize) -> bool
+    requires { ⌜ i < countOf (now s) ⌝ }
+    requires { ⌜ i < countOf (now t) ⌝ }
     ensures { λ r. ⌜ r ≡ sameAt (now (s .entry)) (now (t .entry)) i ⌝ }
 {
-    let mut j = SIZE;
-    while 0 < j {
-        j -= 1;
-        if byte_at(s, i, j) != byte_at(t, i, j) {
-            return false;
-        }
-    }
-    true
+    let mark = mark_at(s, i) == mark_at(t, i);
+    let rest = rest_at(s, i) == rest_at(t, i);
+    mark & rest
 }
 
 fn fewer(a: usize, b: usize) -> usize

@@ -5,16 +5,18 @@ use native.Mathlib.Nat.{sub-zero}
 use native.Mathlib.Omega.{arith}
 use borrow.Author.Needs.{needs}
 use borrow.Author.Tests.{eq-eqb, ne-eqb, le-leb, lt-leb}
-use Rattle.score.proofs.Turns.{judge-on, judge-stop, judge-end}
-use Rattle.score.specs.Score.{verdictFrom, verdictOf}
+use Rattle.score.proofs.Turns.{order-first, order-next, judge-on, judge-stop, judge-end}
+use lib.Dec.{leb}
+use Rattle.score.specs.Record.{positionAt}
+use Rattle.score.specs.Score.{inOrder, verdictFrom, verdictOf}
 use Rattle.score.proofs.judge.Statement.{statement}
 use Rattle.score.proofs.judge.Tie as tie
 
 abbrev Inv-loop : tie.InvT-loop
-Inv-loop score n i₀ i = (i ≤ n) × (verdictOf score ≡ verdictFrom score (n - i) i)
+Inv-loop score n before₀ i₀ before i = (i ≤ n) × (verdictOf score ≡ verdictFrom score (n - i) i) × (inOrder score i ≡ leb before (positionAt score i))
 
 abbrev μ-loop : tie.MeasureT-loop
-μ-loop score n i₀ i = n - i
+μ-loop score n before₀ i₀ before i = n - i
 
 returns : tie.Need-returns Inv-loop μ-loop
 unfolding verdictOf
@@ -26,18 +28,22 @@ returns-2 c = rw (eq-eqb _ _ (c .before .if1 .left), lt-leb _ _ (c .if2 .taken))
 
 loop-holds : tie.Need-loop-holds Inv-loop μ-loop
 unfolding verdictOf
-loop-holds c = (omega arith, simp (eq-eqb _ _ (c .before .if1 .left), le-leb _ _ (c .if2 .left), sub-zero))
+loop-holds c = (omega arith, simp (eq-eqb _ _ (c .before .if1 .left), le-leb _ _ (c .if2 .left), sub-zero), order-first _)
 
-judge-record-requires : tie.Need-judge-record-requires Inv-loop μ-loop
-judge-record-requires c κs = search needs
+word-at-requires : tie.Need-word-at-requires Inv-loop μ-loop
+word-at-requires c κs = search needs
+
+judge-after-requires : tie.Need-judge-after-requires Inv-loop μ-loop
+unfolding positionAt
+judge-after-requires c κs = (omega arith, rw (c .word-at .ensures) (sym (c .before .before .loop .inv .2)))
 
 enum-known-verdict : tie.Need-enum-known-verdict Inv-loop μ-loop
 enum-known-verdict c = search needs
 
 returns-3 : tie.Need-returns-3 Inv-loop μ-loop
 returns-3 c =
-    let at = c .before .before .before .before .before in
-    sym (at .loop .inv .1 ∙ judge-stop _ _ (at .loop .i) _ (omega arith) (sym (c .before .before .before .judge-record .ensures) ∙ c .before .verdict .given .1))
+    let at = c .before .before .before .before .before .before in
+    sym (at .loop .inv .1 ∙ judge-stop _ _ (at .loop .i) _ (omega arith) (sym (c .before .before .before .judge-after .ensures) ∙ c .before .verdict .given .1))
 
 enum-told : tie.Need-enum-told Inv-loop μ-loop
 enum-told c = search needs
@@ -49,9 +55,11 @@ loop-less : tie.Need-loop-less Inv-loop μ-loop
 loop-less c = omega arith
 
 loop-again : tie.Need-loop-again Inv-loop μ-loop
+unfolding positionAt
 loop-again c =
-    let at = c .before .before .before .before in
-    (omega arith, at .loop .inv .1 ∙ judge-on _ _ (at .loop .i) _ (omega arith) (sym (c .before .before .judge-record .ensures) ∙ c .enum-told .given .1))
+    let made = c .before .before in
+    let at = made .before .before .before in
+    (omega arith, at .loop .inv .1 ∙ judge-on _ _ (at .loop .i) _ (omega arith) (sym (made .judge-after .ensures) ∙ c .enum-told .given .1), rw (made .before .word-at .ensures) (order-next _ (at .loop .i)))
 
 returns-4 : tie.Need-returns-4 Inv-loop μ-loop
 returns-4 c = sym (c .before .loop .inv .1 ∙ judge-end _ _ (c .before .loop .i) (omega arith))
@@ -65,7 +73,8 @@ judge-spec =
     returns
     returns-2
     loop-holds
-    judge-record-requires
+    word-at-requires
+    judge-after-requires
     enum-known-verdict
     returns-3
     enum-told
