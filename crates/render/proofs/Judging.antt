@@ -13,8 +13,10 @@ use Rattle.answers.specs.declared.Refusal.the-variants.{Setting, Size}
 use Rattle.score.specs.declared.Verdict.{Verdict}
 use Rattle.score.specs.declared.Verdict.the-variants.{Accepted, Faulty}
 use Rattle.score.specs.Score.{verdictOf}
+use Rattle.score.specs.Below.{Sorted}
 use Rattle.score.proofs.Parted.{clash}
 use Rattle.score.proofs.Codec.{both}
+use Rattle.score.proofs.Cuts.{accepted-sorted}
 use Rattle.shelf.specs.Shelf.{wordsFor}
 use Rattle.state.specs.declared.Settings.{Settings}
 use Rattle.state.specs.Settings.{settingsOk}
@@ -33,9 +35,6 @@ module _ (g : Settings) (room : Bool) (s : List ℕ) (rest : Answer) where
   pub by-score : settingsOk g ≡ true → room ≡ true → (v : Verdict) → verdictOf s ≡ v → scored v rest ≡ judgedOf g room s rest
   unfolding judgedOf
   by-score e f v h = rw (e, f, h) refl
-
-pub unless-yes : (t : Bool) (why : Refusal) (rest : Answer) → t ≡ true → rest ≡ unless t why rest
-unless-yes t why rest e = rw e refl
 
 pub unless-no : (t : Bool) (why : Refusal) (rest : Answer) → t ≡ false → Refused why ≡ unless t why rest
 unless-no t why rest e = rw e refl
@@ -68,6 +67,25 @@ all-passed g room s rest n h =
     let a = passed (settingsOk g) Setting (unless room Size (scored (verdictOf s) rest)) n h in
     let b = passed room Size (scored (verdictOf s) rest) n (a .1) in
     record { settings = a .0; sized = b .0; score = score-passed s rest n (b .1) }
+
+pub done-sorted : (g : Settings) (room : Bool) (s : List ℕ) (rest : Answer) (n : ℕ) → judgedOf g room s rest ≡ Done n → Sorted s
+done-sorted g room s rest n h = let p : Passed g room s rest n = all-passed g room s rest n h in accepted-sorted s (p .score .records) (p .score .accepted)
+
+-- what follows changes nothing where the call is refused before, and is all that is left where it is not
+pub refused-before : (g : Settings) (room : Bool) (s : List ℕ) (n : ℕ) (why : Refusal) (rest : Answer) → judgedOf g room s (Done n) ≡ Refused why → judgedOf g room s rest ≡ Refused why
+unfolding judgedOf
+refused-before g room s n why rest h = go (settingsOk g) room (verdictOf s) h
+  where
+    go : (a b : Bool) (v : Verdict) → unless a Setting (unless b Size (scored v (Done n))) ≡ Refused why → unless a Setting (unless b Size (scored v rest)) ≡ Refused why
+    go false b v h = h
+    go true false v h = h
+    go true true (Faulty f) h = h
+    go true true (Accepted m) h = absurd (clash (cc))
+
+pub left-after : (g : Settings) (room : Bool) (s : List ℕ) (n m : ℕ) (rest : Answer) → judgedOf g room s (Done n) ≡ Done m → judgedOf g room s rest ≡ rest
+left-after g room s n m rest h =
+    let p : Passed g room s (Done n) m = all-passed g room s (Done n) m h in
+    sym (by-score g room s rest (p .settings) (p .sized) (Accepted (p .score .records)) (p .score .accepted))
 
 -- ---- sizes
 pub record Roomy (n words : ℕ) : Type 0 where

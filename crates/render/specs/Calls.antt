@@ -69,5 +69,9 @@ abbrev pub continuedOf : Answer → Settings → List ℕ → State → ℕ → 
 continuedOf (Done n) g s v p part = leavesPart (says (Done n) (stateFrom g s p v n)) (samplesFrom g s p v n)
 continuedOf (Refused why) g s v p part = leavesPart (says (Refused why) v) part
 
+-- what is left of the call where 6, 7 and the score's numbers are not given
+abbrev pub goOn : Settings → List ℕ → State → ℕ → List Float → PartOutcome
+goOn g s v p part = continuedOf (unless (isGiven s p v) GivenState (Done (length part))) g s v p part
+
 unfoldable pub continueOf : Settings → List ℕ → State → ℕ → List Float → PartOutcome
 continueOf g s v p part = continuedOf (continueAnswer g s v p (length part)) g s v p part

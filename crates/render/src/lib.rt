@@ -2,10 +2,9 @@
 // From the fresh state at sample zero both are the samples that the score's records give; from another state, the samples
 // that they give from there. The end of a part reduces nothing.
 ghost use mathlib.Core.Path.{_≡_};
-ghost use Rattle.answers.specs.declared.Answer.the-variants.{Done};
-ghost use Rattle.answers.specs.declared.Refusal.the-variants.{GivenState};
-ghost use Rattle.render.specs.Order.{unless, judgedOf, isRoom};
-ghost use Rattle.render.specs.Calls.{leaves, renderOf, leavesPart, isStretch, isGiven, continueOf};
+ghost use Rattle.score.specs.Below.{Sorted};
+ghost use Rattle.render.specs.Order.{judgedOf, isRoom};
+ghost use Rattle.render.specs.Calls.{leaves, renderOf, leavesPart, isStretch, goOn, continueOf};
 use answers::Answer;
 use answers::Refusal;
 use score::Verdict;
@@ -60,22 +59,13 @@ pub fn continue_render(
     ensures { λ r. ⌜ leavesPart r (now (part .exit)) ≡ continueOf settings (now (score .entry)) state position (now (part .entry)) ⌝ }
 {
     let stretch = is_stretch(position, part.len());
-    let rest = given(score, state, position, part.len());
-    let answer = judged(settings, stretch, score, rest);
+    let answer = judged(settings, stretch, score, Answer::Done(part.len()));
     match answer {
         Answer::Refused(why) => Rendered {
             answer: Answer::Refused(why),
             state,
         },
-        Answer::Done(n) => {
-            let next = score::count_below(score, position);
-            let end = spans::play(settings, score, Place { state, next }, position, part);
-            let after = end.state;
-            Rendered {
-                answer: Answer::Done(n),
-                state: after,
-            }
-        }
+        Answer::Done(_) => go_on(settings, score, state, position, part),
     }
 }
 
@@ -112,13 +102,30 @@ pub fn is_stretch(position: u64, samples: usize) -> bool
     samples as u64 <= MOST - position
 }
 
-// 10, or done with so many samples.
-fn given(score: &[u8], state: State, position: u64, samples: usize) -> Answer
-    ensures { λ r. ⌜ r ≡ unless (isGiven (now (score .entry)) position state) GivenState (Done samples) ⌝ }
+// From the given state, or 10. A score in order tells by two of its records whether as many are below as have acted.
+fn go_on(
+    settings: Settings,
+    score: &[u8],
+    state: State,
+    position: u64,
+    part: &mut [f64],
+) -> Rendered
+    requires { ⌜ Sorted (now score) ⌝ }
+    ensures { λ r. ⌜ leavesPart r (now (part .exit)) ≡ goOn settings (now (score .entry)) state position (now (part .entry)) ⌝ }
 {
     let acted = state.acted;
-    if state::is_state(state) & (acted == score::count_below(score, position) as u64) {
-        return Answer::Done(samples);
+    let samples = part.len();
+    if !(state::is_state(state) & score::parts_at(score, acted, position)) {
+        return Rendered {
+            answer: Answer::Refused(Refusal::GivenState),
+            state,
+        };
     }
-    Answer::Refused(Refusal::GivenState)
+    let next = acted as usize;
+    let end = spans::play(settings, score, Place { state, next }, position, part);
+    let after = end.state;
+    Rendered {
+        answer: Answer::Done(samples),
+        state: after,
+    }
 }

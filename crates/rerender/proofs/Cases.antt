@@ -1,6 +1,6 @@
 -- The plan, its run and the call, case by case. Assumes nothing.
 use mathlib.Core.Path.{_≡_, refl, sym, ap, _∙_}
-use mathlib.Core.Bool.{Bool, true, false, cond}
+use mathlib.Core.Bool.{Bool, true, false, cond, _&&_}
 use mathlib.Core.List.{List, _++_}
 use Prim.Native.Nat.{ℕ, _-_, _*_, _/_, _≤_, _<_}
 use native.Mathlib.Omega.{arith}
@@ -17,11 +17,12 @@ use Rattle.score.specs.declared.Difference.the-variants.{Equal, At}
 use Rattle.score.specs.declared.Verdict.{Verdict}
 use Rattle.score.specs.declared.Verdict.the-variants.{Accepted, Faulty}
 use Rattle.score.specs.Score.{verdictOf}
-use Rattle.score.specs.Below.{countBelow, Sorted}
+use Rattle.score.specs.Below.{partsAt, Sorted, Cut}
 use Rattle.score.specs.Apart.{differenceOf}
 use Rattle.score.proofs.Parted.{clash}
-use Rattle.score.proofs.Cuts.{accepted-sorted, count-cut}
-use Rattle.shelf.specs.Shelf.{mark, entriesFor, wordsFor}
+use Rattle.score.proofs.Codec.{both}
+use Rattle.score.proofs.Cuts.{parts-cut, parts-count}
+use Rattle.shelf.specs.Shelf.{mark, entriesFor, wordsFor, isEntry}
 use Rattle.shelf.proofs.Count.{start-there}
 use Rattle.state.specs.declared.Settings.{Settings}
 use Rattle.state.specs.Settings.{settingsOk}
@@ -35,7 +36,7 @@ use Rattle.render.specs.Order.{judgedOf, isRoom}
 use Rattle.render.proofs.Judging.{Passed, all-passed, Roomy, roomy}
 use Rattle.rerender.specs.declared.Plan.{Plan}
 use Rattle.rerender.specs.declared.Plan.the-variants.{Nothing, From}
-use Rattle.rerender.specs.Rerender.{leaves, newScored, checkedOf, planFor, planOf, startOf, isStart, madeFrom, fromOf, runOf, rerenderOf}
+use Rattle.rerender.specs.Rerender.{leaves, newScored, checkedOf, planFor, planOf, entryAt, startOf, isStart, madeFrom, fromOf, runOf, rerenderOf}
 
 -- ---- the plan
 module _ (old new : List ℕ) (n : ℕ) where
@@ -78,17 +79,25 @@ plan-there old new n m h = let p : Planned old new n m = plan-says old new n m h
 
 -- ---- the run
 module _ (g : Settings) (new : List ℕ) (m : ℕ) (out : List Float) (shelf : List ℕ) where
-  pub from-refused : isStart new m shelf ≡ false → leaves (Refused StartEntry) out shelf ≡ fromOf g new m out shelf
-  unfolding fromOf
-  from-refused e = rw e refl
+  -- the entry is looked at through two records of the new score
+  abbrev starts : Bool
+  starts = isEntry (entryAt shelf m) && partsAt new (startOf shelf m .acted) (m * mark)
 
-  pub from-made : Sorted new → length shelf ≡ wordsFor (length out) → isStart new m shelf ≡ true
-      → (p : Place) (ys : List Float) (ws : List ℕ) → sections.leaves p ys ws ≡ playOnOf g new m (placeOf (startOf shelf m) (countBelow new (m * mark))) out shelf
+  start-is : Sorted new → isStart new m shelf ≡ starts
+  start-is o = rw (parts-count new o (startOf shelf m .acted) (m * mark)) refl
+
+  pub from-refused : Sorted new → starts ≡ false → leaves (Refused StartEntry) out shelf ≡ fromOf g new m out shelf
+  unfolding fromOf
+  from-refused o e = rw (start-is o ∙ e) refl
+
+  pub from-made : Sorted new → length shelf ≡ wordsFor (length out) → starts ≡ true
+      → (p : Place) (ys : List Float) (ws : List ℕ) → sections.leaves p ys ws ≡ playOnOf g new m (placeOf (startOf shelf m) (startOf shelf m .acted)) out shelf
       → leaves (Done (length out - m * mark)) ys ws ≡ fromOf g new m out shelf
   unfolding fromOf
   from-made o f e p ys ws x =
-      let d = made g new o m (countBelow new (m * mark)) (startOf shelf m) (count-cut new o (m * mark)) out shelf f in
-      rw (e, ← d .heard-is, ← d .stored-is, ← x) refl
+      let cut : Cut new (m * mark) (startOf shelf m .acted) = parts-cut new o _ _ (both (isEntry (entryAt shelf m)) _ e .1) in
+      let d = made g new o m (startOf shelf m .acted) (startOf shelf m) cut out shelf f in
+      rw (start-is o ∙ e, ← d .heard-is, ← d .stored-is, ← x) refl
 
 -- ---- the call
 pub newly-refused : (new : List ℕ) (v : Verdict) → verdictOf new ≡ v → newScored v (Done 0) ≡ newScored (verdictOf new) (Done 0)

@@ -90,10 +90,11 @@ fn run_from(
     let count = out.len() - start;
     let entry = shelf::decode(&shelf[word..word + ENTRY_WORDS]);
     let state = entry.state;
-    let next = score::count_below(new, start as u64);
-    if !(entry.holds & (state.acted == next as u64)) {
+    let acted = state.acted;
+    if !(entry.holds & score::parts_at(new, acted, start as u64)) {
         return Answer::Refused(Refusal::StartEntry);
     }
+    let next = acted as usize;
     sections::play_on(settings, new, mark, Place { state, next }, out, shelf);
     Answer::Done(count)
 }

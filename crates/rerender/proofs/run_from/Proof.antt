@@ -2,7 +2,6 @@
 use mathlib.Core.Path.{_≡_, refl, sym, _∙_}
 use mathlib.Core.Bool.{_&&_}
 use Prim.Native.Nat.{_+_, _-_, _*_}
-use lib.Dec.{eqb}
 use native.Mathlib.Omega.{arith}
 use borrow.Author.Tests.{not-true, not-false}
 use Rattle.rerender.proofs.Cases.{from-refused, from-made}
@@ -37,21 +36,22 @@ part-decode-end c = search needs
 decode-requires : tie.Need-decode-requires
 decode-requires c κs = search needs
 
-count-below-requires : tie.Need-count-below-requires
-count-below-requires c κs = search needs
+parts-at-requires : tie.Need-parts-at-requires
+parts-at-requires c κs = search needs
 
 same-length : tie.Need-same-length
 same-length c = search needs
 
 returns : tie.Need-returns
 returns c =
-    let x = c .before .before .before in
-    let w = x .before .before .before .before .before .before .before .before .args .mark * 12 in
+    let x = c .before .before in
+    let start = x .before .before .before .before .before .before .before .before in
+    let w = start .args .mark * 12 in
     let d : w + 12 - w ≡ 12 = omega arith in
     let entry = rw d at (x .before .before .decode .ensures) in
     let held = x .before .before .decode .result in
-    let test = held .holds && eqb (held .state .acted) (x .count-below .result) in
-    from-refused _ _ _ _ _ (rw (entry, x .count-below .ensures) at (not-true test (c .if1 .taken)))
+    let test = held .holds && x .parts-at .result in
+    from-refused _ _ _ _ _ (start .pre .0) (rw (x .parts-at .ensures, entry) at (not-true test (c .if1 .taken)))
 
 play-on-requires : tie.Need-play-on-requires
 play-on-requires c κs = search needs
@@ -65,14 +65,14 @@ same-length-3 c = search needs
 returns-2 : tie.Need-returns-2
 returns-2 c =
     let made = c .before .before .before .before in
-    let x = made .before .before .before .before .before .before in
-    let pre = x .before .before .before .before .before .before .before .before .pre in
-    let w = x .before .before .before .before .before .before .before .before .args .mark * 12 in
+    let x = made .before .before .before .before .before in
+    let start = x .before .before .before .before .before .before .before .before in
+    let w = start .args .mark * 12 in
     let d : w + 12 - w ≡ 12 = omega arith in
     let entry = rw d at (x .before .before .decode .ensures) in
     let held = x .before .before .decode .result in
-    let test = held .holds && eqb (held .state .acted) (x .count-below .result) in
-    from-made _ _ _ _ _ (pre .0) (pre .1 .0) (rw (entry, x .count-below .ensures) at (not-false test (made .before .before .before .if1 .left))) _ _ _ (rw (entry, x .count-below .ensures) at (made .play-on .ensures))
+    let test = held .holds && x .parts-at .result in
+    from-made _ _ _ _ _ (start .pre .0) (start .pre .1 .0) (rw (x .parts-at .ensures, entry) at (not-false test (made .before .before .before .if1 .left))) _ _ _ (rw entry at (made .play-on .ensures))
 
 pub run-from-spec : {M : Type 1} → statement M
 run-from-spec =
@@ -87,7 +87,7 @@ run-from-spec =
     part-decode-start
     part-decode-end
     decode-requires
-    count-below-requires
+    parts-at-requires
     same-length
     returns
     play-on-requires
