@@ -25,5 +25,7 @@ pub mod Ladder
 pub mod Through
 -- through every sample the limits are kept
 pub mod Stays
+-- every sample is finite, and a velocity of 0 is heard as nothing
+pub mod Silence
 -- two outcomes of a public function are equal
 pub mod Unique

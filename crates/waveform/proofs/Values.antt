@@ -59,6 +59,14 @@ value-finite Sawtooth phase dt s h = saw-finite phase dt h
 value-finite Triangle phase dt s h = triangle-finite phase dt h
 value-finite (Pulse duty) phase dt s h = pulse-finite phase dt h duty s
 
+-- and so it is at any phase in radians that is not negative
+pub value-at-finite : (w : Waveform) (step p : Float) → T (isWaveform w) → T (fits binary64 p) → T (nonneg p) → T (within naught four (step ⊗ invTau)) → T (finite (valueAt w step p))
+value-at-finite w step p c f n d =
+    let u = normalOf p in
+    let dt = step ⊗ invTau in
+    value-finite w u dt c
+    (record { t-fits = mul-fits binary64 _ invTau; dt-fits = mul-fits binary64 step invTau; in-range = and-i (within naught one u) (within naught four dt) (normal-in p f n) d })
+
 -- ---- the phase of a long block
 -- 2^60, and 16: a step is below the last
 abbrev pub far : Float
@@ -93,7 +101,7 @@ module _ (step p : Float) (s : T (nonneg step)) (l : T (le step sixteen)) (h : N
 
 -- ---- samples
 -- x * t for t from 0 to 1
-scaled-finite : (x t : Float) → T (fits binary64 x) → T (finite x) → T (within naught one t) → T (finite (x ⊗ t))
+pub scaled-finite : (x t : Float) → T (fits binary64 x) → T (finite x) → T (within naught one t) → T (finite (x ⊗ t))
 scaled-finite x t w k h = go (le nought x) refl
   where
     inside : T (within nought unity t)
@@ -130,7 +138,4 @@ module _ (w : Waveform) (step scale p : Float) (c : T (isWaveform w)) (s : T (no
   samples-finite i n lt =
       let q = phaseFrom step p i in
       let near = phase-near step p s l h i in
-      let u = normalOf q in
-      let dt = step ⊗ invTau in
-      let domain : Domain u dt = record { t-fits = mul-fits binary64 _ invTau; dt-fits = mul-fits binary64 step invTau; in-range = and-i (within naught one u) (within naught four dt) (normal-in q (near .p-fits) (near .p-nonneg)) d } in
-      rw (sample-at w step scale p i n lt) (scaled-finite (valueAt w step q) scale (value-fits w u dt) (value-finite w u dt c domain) t)
+      rw (sample-at w step scale p i n lt) (scaled-finite (valueAt w step q) scale (value-fits w (normalOf q) (step ⊗ invTau)) (value-at-finite w step q c (near .p-fits) (near .p-nonneg) d) t)
