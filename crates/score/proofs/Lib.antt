@@ -15,6 +15,8 @@ pub mod Grown
 pub mod Parted
 -- below it they have the same records; there is none exactly where they are equal
 pub mod Agree
+-- the first difference is reached
+pub mod Reached
 -- what the bytes that are read at once say
 pub mod Words
 -- a turn of each loop

@@ -129,7 +129,7 @@ pub record AtOrBelow (s t : List ℕ) (p d : ℕ) : Type 0 where
   pub high-s : d < countOf s → p ≤ positionAt s d
   pub high-t : d < countOf t → p ≤ positionAt t d
 
-at-inj : {p q : ℕ} → At p ≡ At q → p ≡ q
+pub at-inj : {p q : ℕ} → At p ≡ At q → p ≡ q
 at-inj e = cc
 
 pub at-below : (s t : List ℕ) (p d : ℕ) → differenceAt s t d ≡ At p → AtOrBelow s t p d
