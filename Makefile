@@ -20,7 +20,7 @@ ROUNDS = 4000000
 SEED = 1
 
 .DEFAULT_GOAL = help
-.PHONY: help check test ci fmt lib desk demo fuzz deps vectors clean
+.PHONY: help check test ci fmt lib desk demo fuzz bench deps vectors clean
 
 help:
 	@echo 'make check   prove every crate and run each program (rt check)'
@@ -31,6 +31,7 @@ help:
 	@echo 'make desk    build the desk, build/desk, and the library that it stands on'
 	@echo 'make demo    build both, render a tune, edit it five times and draw the chart, in build/demo/'
 	@echo 'make fuzz    feed the readers of the desk with damaged input for long: ROUNDS=$(ROUNDS) SEED=$(SEED)'
+	@echo 'make bench   measure the library beside the original and C, on one core: BENCH="--seed 7", bench/run --help'
 	@echo 'make deps    install what the host tests need and is missing here, with apt-get'
 	@echo 'make vectors write the committed rows of the replays anew, from the original (oracle/)'
 	@echo 'make clean   remove target/ and build/'
@@ -61,6 +62,9 @@ demo: build/desk
 
 fuzz: build/fuzz
 	@build/fuzz $(ROUNDS) $(SEED)
+
+bench: build/libgavberin.a
+	@bench/run $(BENCH)
 
 build/desk: $(DESK_SOURCES) $(DESK_NEEDS)
 	@$(CC) $(C_FLAGS) -O2 -o $@ $(DESK_SOURCES) build/libgavberin.a -lm

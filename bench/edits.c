@@ -1,0 +1,71 @@
+/* Re-renders of the sawtooth, there and back again: of a record more at the end, and of one changed in the middle. */
+#include "bench.h"
+
+#include <stdio.h>
+#include <stdlib.h>
+
+/* A key is struck at the last sample: the last mark is where the re-render starts. */
+static struct score edit_end(const struct bench *b) {
+    struct score edited = copy_score(&b->score, RECORD);
+    uint8_t *record = edited.bytes + b->score.len;
+    size_t position = b->samples - 1;
+    uint8_t bytes[RECORD] = {
+        0x56, 0x4E, (uint8_t)position, (uint8_t)(position >> 8), (uint8_t)(position >> 16), 0, 1, 60, 100, 0};
+    for (int i = 0; i < RECORD; i++) record[i] = bytes[i];
+    return edited;
+}
+
+/* The first key at or after the middle gets another velocity; with none there, the score stays. */
+static struct score edit_middle(const struct bench *b) {
+    struct score edited = copy_score(&b->score, 0);
+    for (uint8_t *r = edited.bytes; r < edited.bytes + edited.len; r += RECORD) {
+        if (record_position(r) < b->samples / 2 || r[6] != 1) continue;
+        r[8] ^= 1;
+        break;
+    }
+    return edited;
+}
+
+/* Nanoseconds of a re-render, half of them from the score to the edited one and half of them back. */
+static double time_edit(struct bench *b, const struct score *edited, size_t pairs) {
+    double times[MOST_REPETITIONS];
+    for (size_t i = 0; i < b->repetitions; i++) {
+        double start = now();
+        for (size_t k = 0; k < pairs; k++) {
+            ours_rerender(&b->settings, &b->score, edited, b->out, b->samples);
+            ours_rerender(&b->settings, edited, &b->score, b->out, b->samples);
+        }
+        times[i] = (now() - start) / (double)(2 * pairs);
+    }
+    return median(times, b->repetitions);
+}
+
+/* Out and shelf hold the score's render before and after; the edited one's is compared in between. */
+static void measure_edit(struct bench *b, const char *where, struct score edited, double equal) {
+    size_t count = ours_rerender(&b->settings, &b->score, &edited, b->out, b->samples);
+    uint64_t from = plain_difference(&b->score, &edited);
+    if (from != NOWHERE && count != b->samples - from / GAV_MARK * GAV_MARK) differ(b, "the count of a re-render");
+    plain_render(&b->settings, &edited, b->reference, b->samples);
+    same_bits(b, "the re-render", where);
+    ours_rerender(&b->settings, &edited, &b->score, b->out, b->samples);
+    double took = time_edit(b, &edited, count < 100000 ? 200 : 1);
+    double owed = (double)count * b->ours[GAV_SAWTOOTH] + equal;
+    printf("%-12s %12zu %12.1f %12.1f %12.2f %6s\n", where, count, took / 1e3, owed / 1e3, took / owed,
+           goal(b, took / owed, 1.05));
+    plain_render(&b->settings, &b->score, b->reference, b->samples);
+    same_bits(b, "the re-render back", where);
+    free(edited.bytes);
+}
+
+void measure_edits(struct bench *b) {
+    b->settings.code = GAV_SAWTOOTH;
+    ours_render(&b->settings, &b->score, b->out, b->samples);
+    double equal = time_edit(b, &b->score, 500);
+    printf(
+        "\nre-renders, sawtooth; owed: the samples at a render's pace, two checks and the comparison (%.2f us, as a\n"
+        "re-render of two equal scores, which does nothing else)\n",
+        equal / 1e3);
+    printf("%-12s %12s %12s %12s %19s\n", "from", "samples", "us", "us owed", "ratio, <= 1.05");
+    measure_edit(b, "last mark", edit_end(b), equal);
+    measure_edit(b, "middle", edit_middle(b), equal);
+}

@@ -1,0 +1,41 @@
+/* The library at the C boundary. A call that is refused ends the measurement. */
+#include "bench.h"
+
+#include <stdio.h>
+#include <stdlib.h>
+
+static uint64_t *shelf;
+
+void library_prepare(size_t samples) {
+    shelf = calloc(gav_shelf_words(samples) + 1, sizeof *shelf);
+    if (shelf) return;
+    fputs("bench: no memory\n", stderr);
+    exit(2);
+}
+
+static size_t done(uint64_t said) {
+    if (gav_number(said) == 0) return gav_count(said);
+    fprintf(stderr, "bench: the library refused with %u at %u\n", gav_number(said), (unsigned)gav_place(said));
+    exit(2);
+}
+
+void ours_render(const struct settings *s, const struct score *score, double *out, size_t n) {
+    done(gav_render(s->rate, s->code, s->duty, s->attack, s->decay, s->sustain, s->release, score->bytes, score->len,
+                    out, n, shelf, gav_shelf_words(n)));
+}
+
+void ours_continue(const struct settings *s, const struct score *score, double *out, size_t n, size_t part) {
+    uint64_t state[GAV_STATE_WORDS];
+    done(gav_fresh(state, GAV_STATE_WORDS));
+    for (size_t i = 0; i < n; i += part) {
+        size_t length = n - i < part ? n - i : part;
+        done(gav_continue(s->rate, s->code, s->duty, s->attack, s->decay, s->sustain, s->release, score->bytes,
+                          score->len, state, GAV_STATE_WORDS, i, out + i, length));
+    }
+}
+
+size_t ours_rerender(const struct settings *s, const struct score *old, const struct score *new_, double *out,
+                     size_t n) {
+    return done(gav_rerender(s->rate, s->code, s->duty, s->attack, s->decay, s->sustain, s->release, old->bytes,
+                             old->len, new_->bytes, new_->len, out, n, shelf, gav_shelf_words(n)));
+}
