@@ -89,7 +89,6 @@ struct bench {
     struct score score;
     double *out;       /* what every render writes into */
     double *reference; /* the plain C's samples of the same settings */
-    double ours[5];    /* ns a sample of ours, by code */
     unsigned met, missed, differences;
 };
 
@@ -112,6 +111,9 @@ void measure_renders(struct bench *bench);
 void measure_continuing(struct bench *bench);
 void measure_edits(struct bench *bench);
 void measure_scores(struct bench *bench);
+
+/* Nanoseconds of one check, and of a whole render of ours. */
 double check_time(const struct score *score, uint64_t check(const uint8_t *, size_t), size_t repetitions);
+double render_time(struct bench *bench);
 
 #endif

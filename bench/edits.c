@@ -28,44 +28,51 @@ static struct score edit_middle(const struct bench *b) {
 
 /* Nanoseconds of a re-render, half of them from the score to the edited one and half of them back. */
 static double time_edit(struct bench *b, const struct score *edited, size_t pairs) {
-    double times[MOST_REPETITIONS];
-    for (size_t i = 0; i < b->repetitions; i++) {
-        double start = now();
-        for (size_t k = 0; k < pairs; k++) {
-            ours_rerender(&b->settings, &b->score, edited, b->out, b->samples);
-            ours_rerender(&b->settings, edited, &b->score, b->out, b->samples);
-        }
-        times[i] = (now() - start) / (double)(2 * pairs);
+    double start = now();
+    for (size_t k = 0; k < pairs; k++) {
+        ours_rerender(&b->settings, &b->score, edited, b->out, b->samples);
+        ours_rerender(&b->settings, edited, &b->score, b->out, b->samples);
     }
-    return median(times, b->repetitions);
+    return (now() - start) / (double)(2 * pairs);
 }
 
-/* Out and shelf hold the score's render before and after; the edited one's is compared in between. */
-static void measure_edit(struct bench *b, const char *where, struct score edited, double equal) {
-    size_t count = ours_rerender(&b->settings, &b->score, &edited, b->out, b->samples);
-    uint64_t from = plain_difference(&b->score, &edited);
-    if (from != NOWHERE && count != b->samples - from / GAV_MARK * GAV_MARK) differ(b, "the count of a re-render");
-    plain_render(&b->settings, &edited, b->reference, b->samples);
+/* What is written there and back again is compared, and the count with the first difference that the plain C finds. */
+static size_t compare_edit(struct bench *b, const char *where, const struct score *edited) {
+    size_t count = ours_rerender(&b->settings, &b->score, edited, b->out, b->samples);
+    uint64_t from = plain_difference(&b->score, edited);
+    size_t due = from == NOWHERE ? 0 : b->samples - (size_t)(from / GAV_MARK * GAV_MARK);
+    if (count != due) differ(b, "the count of a re-render");
+    plain_render(&b->settings, edited, b->reference, b->samples);
     same_bits(b, "the re-render", where);
-    ours_rerender(&b->settings, &edited, &b->score, b->out, b->samples);
-    double took = time_edit(b, &edited, count < 100000 ? 200 : 1);
-    double owed = (double)count * b->ours[GAV_SAWTOOTH] + equal;
-    printf("%-12s %12zu %12.1f %12.1f %12.2f %6s\n", where, count, took / 1e3, owed / 1e3, took / owed,
-           goal(b, took / owed, 1.05));
+    ours_rerender(&b->settings, edited, &b->score, b->out, b->samples);
     plain_render(&b->settings, &b->score, b->reference, b->samples);
     same_bits(b, "the re-render back", where);
+    return count;
+}
+
+/* Out and shelf hold the score's render, before and after. A render and a re-render of two equal scores, which makes
+ * two checks and a comparison and nothing else, are measured in turn with it. */
+static void measure_edit(struct bench *b, const char *where, struct score edited) {
+    double took[MOST_REPETITIONS], owed[MOST_REPETITIONS], ratio[MOST_REPETITIONS];
+    size_t count = compare_edit(b, where, &edited), n = b->repetitions;
+    for (size_t i = 0; i < n; i++) {
+        owed[i] = render_time(b) * (double)count / (double)b->samples + time_edit(b, &b->score, 200);
+        took[i] = time_edit(b, &edited, count < 100000 ? 200 : 1);
+        ratio[i] = took[i] / owed[i];
+    }
+    double times = median(ratio, n);
+    printf("%-12s %12zu %12.1f %12.1f %12.2f %6s\n", where, count, median(took, n) / 1e3, median(owed, n) / 1e3, times,
+           goal(b, times, 1.05));
     free(edited.bytes);
 }
 
 void measure_edits(struct bench *b) {
     b->settings.code = GAV_SAWTOOTH;
     ours_render(&b->settings, &b->score, b->out, b->samples);
-    double equal = time_edit(b, &b->score, 500);
-    printf(
-        "\nre-renders, sawtooth; owed: the samples at a render's pace, two checks and the comparison (%.2f us, as a\n"
-        "re-render of two equal scores, which does nothing else)\n",
-        equal / 1e3);
+    puts("\nre-renders, sawtooth; owed: the samples at a render's pace, two checks and the comparison (as a re-render "
+         "of two\n"
+         "equal scores)");
     printf("%-12s %12s %12s %12s %19s\n", "from", "samples", "us", "us owed", "ratio, <= 1.05");
-    measure_edit(b, "last mark", edit_end(b), equal);
-    measure_edit(b, "middle", edit_middle(b), equal);
+    measure_edit(b, "last mark", edit_end(b));
+    measure_edit(b, "middle", edit_middle(b));
 }

@@ -17,12 +17,14 @@ static const char *const NAMES[CONTENDERS] = {"ours", "the original", "the plain
 static bool is_here(int who) { return who != ORIGINAL || original_is_here; }
 
 /* One render over rubbish, so that a sample that is not written is seen. */
-static double time_render(struct bench *b, int who) {
+static double time_of(struct bench *b, int who) {
     memset(b->out, 0xa5, b->samples * sizeof *b->out);
     double start = now();
     RENDERS[who](&b->settings, &b->score, b->out, b->samples);
-    return (now() - start) / (double)b->samples;
+    return now() - start;
 }
+
+double render_time(struct bench *b) { return time_of(b, OURS); }
 
 /* The original's sine is its own: how far it is from ours. */
 static double farthest(const struct bench *b) {
@@ -45,12 +47,11 @@ static void measure_wave(struct bench *b, double *ns) {
     for (size_t i = 0; i < b->repetitions; i++) {
         for (int who = 0; who < CONTENDERS; who++) {
             if (!is_here(who)) continue;
-            times[who][i] = time_render(b, who);
+            times[who][i] = time_of(b, who) / (double)b->samples;
             if (i == 0) compare(b, who);
         }
     }
     for (int who = 0; who < CONTENDERS; who++) ns[who] = is_here(who) ? median(times[who], b->repetitions) : 0.0;
-    b->ours[b->settings.code] = ns[OURS];
 }
 
 static void print_times(double ns[5][CONTENDERS]) {
