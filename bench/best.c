@@ -129,7 +129,7 @@ static inline bool is_before(uint32_t code, const struct span *s, double u) {
 /* Samples between two edges. As u grows, those that are corrected stand at their beginning and at their end. */
 MADE_ANEW void piece(uint32_t code, bool before, const struct span *s, struct samples at) {
     const double velocity = s->velocity;
-    const struct cycle cycle = *at.cycle;
+    const struct cycle cycle = *at.cycle; /* a copy that no store to out can change */
     at.cycle = &cycle;
     for (size_t i = 0; i < at.n; i++) at.out[i] = uncorrected(code, before, turned(&at, i)) * at.levels[i] * velocity;
     if (code == GAV_SINE) return;
