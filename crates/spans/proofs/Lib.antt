@@ -7,6 +7,8 @@ pub mod Acting
 pub mod Sounding
 -- a turn of the loop over the spans
 pub mod Turns
+-- the second pass: a value more, a stage that stands, the rest of a part
+pub mod Shaping
 -- cut anywhere: a walk of j samples and then one of k are one of j + k
 pub mod GoesOn
 -- on a score whose positions never fall a walk is what the state's definitions say

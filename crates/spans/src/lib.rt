@@ -2,15 +2,17 @@
 // reduced and the records act. It ends where the next one begins, or at the part's end, which reduces nothing.
 // Samples are counted as an offset in the part from its position in the output, so that no sum is too large for a word.
 ghost use mathlib.Core.Path.{_≡_};
-ghost use mathlib.Core.Bool.{cond};
+ghost use mathlib.Core.Bool.{cond, false};
 ghost use Prim.Native.Nat.{_+_, _-_, _%_, _<_};
 ghost use lib.Dec.{eqb};
 ghost use lib.ListN.{length};
 ghost use Rattle.score.specs.Record.{countOf};
+ghost use Rattle.envelope.specs.Stages.{grows};
 ghost use Rattle.spans.specs.Plain.{Sounded, Shaped};
 ghost use Rattle.spans.specs.Walk.{standsAt, beginsAt, actFrom, reducedAt, begunFrom, Played, SpanEnd, BlockEnd};
 use envelope::Adsr;
 use envelope::Envelope;
+use envelope::EnvelopeStage;
 use state::Settings;
 use state::State;
 
@@ -177,9 +179,42 @@ fn shape(adsr: Adsr, sample_time: f64, start: Envelope, velocity: f64, part: &mu
     let mut envelope = start;
     let mut i = 0;
     while i < part.len() {
+        if !moves(envelope) {
+            let end = part.len();
+            return hold(adsr, sample_time, envelope, velocity, &mut part[i..end]);
+        }
         envelope = envelope::step(adsr, sample_time, envelope);
         part[i] = part[i] * envelope.level * velocity;
         i += 1;
     }
     envelope
+}
+
+// The same where the stage stands, as it then does to the end: one level for all, so that the loop has no branch.
+fn hold(adsr: Adsr, sample_time: f64, start: Envelope, velocity: f64, part: &mut [f64]) -> Envelope
+    requires { ⌜ (grows (start .stage) ≡ false) × (0 < length (now part)) ⌝ }
+    ensures { λ r. ⌜ Shaped adsr «sample_time» start velocity (now (part .entry)) (now (part .exit)) r ⌝ }
+{
+    let held = envelope::step(adsr, sample_time, start);
+    let level = held.level;
+    let mut i = 0;
+    while i < part.len() {
+        part[i] = part[i] * level * velocity;
+        i += 1;
+    }
+    held
+}
+
+// Whether the level moves from sample to sample.
+fn moves(e: Envelope) -> bool
+    ensures { λ r. ⌜ r ≡ grows (e .stage) ⌝ }
+{
+    let stage = e.stage;
+    match stage {
+        EnvelopeStage::Idle => false,
+        EnvelopeStage::Attack => true,
+        EnvelopeStage::Decay => true,
+        EnvelopeStage::Sustain => false,
+        EnvelopeStage::Release => true,
+    }
 }

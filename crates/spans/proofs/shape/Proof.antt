@@ -1,28 +1,60 @@
 -- `spans::shape` meets its contract. The loop's invariant: the first i values are shaped, the others are as they were, and the envelope stands after i samples. Assumes nothing.
 use borrow.Author.Needs.{needs}
+use borrow.Author.Tests.{not-true}
 use mathlib.Core.Path.{_≡_, refl, sym, ap, _∙_}
-use Prim.Native.Nat.{ℕ, _≤_, _<_, _-_, suc}
+use Prim.Native.Nat.{_≤_, _<_, _-_, suc}
 use native.Mathlib.Numerals.{add-one}
 use native.Mathlib.Omega.{arith}
-use lib.ListN.{length, take, getD, length-set}
-use lib.Seq.{take-suc-set, take-all, getD-set-other}
-use lib.Ieee.{nan}
+use lib.ListN.{length, length-set}
+use borrow.Rule.Slice.PartMut.{mid-len}
 use Rattle.envelope.specs.Stages.{stepOf}
 use Rattle.envelope.specs.Running.{envelopeFrom}
 use Rattle.envelope.specs.declared.Envelope.{Envelope}
-use Rattle.spans.specs.Plain.{shapedTo}
+use Rattle.spans.proofs.Shaping.{Begun, begun-none, begun-more, shaped-all, shaped-rest}
 use Rattle.spans.proofs.shape.Statement.{statement}
 use Rattle.spans.proofs.shape.Tie as tie
 
 abbrev Inv-loop : tie.InvT-loop
-Inv-loop adsr sample-time velocity part₀ envelope₀ i₀ part envelope i = (length part ≡ length part₀) × (i ≤ length part) × (envelope ≡ envelopeFrom adsr sample-time envelope₀ i) × (take i part ≡ shapedTo adsr sample-time envelope₀ velocity part₀ i) × ((j : ℕ) → i ≤ j → getD part j nan ≡ getD part₀ j nan)
+Inv-loop adsr sample-time velocity part₀ envelope₀ i₀ part envelope i = (length part ≡ length part₀) × (i ≤ length part) × (envelope ≡ envelopeFrom adsr sample-time envelope₀ i) × Begun adsr sample-time envelope₀ velocity part₀ part i
 
 abbrev μ-loop : tie.MeasureT-loop
 μ-loop adsr sample-time velocity part₀ envelope₀ i₀ part envelope i = length part₀ - i
 
 loop-holds : tie.Need-loop-holds Inv-loop μ-loop
-unfolding envelopeFrom shapedTo
-loop-holds c = (refl, omega arith, refl, refl, λ j h. refl)
+unfolding envelopeFrom
+loop-holds c = (refl, omega arith, refl, begun-none _ _ _ _ _)
+
+moves-requires : tie.Need-moves-requires Inv-loop μ-loop
+moves-requires c κs = search needs
+
+mul-hold : tie.Need-mul-hold Inv-loop μ-loop
+mul-hold c = search needs
+
+sub-hold : tie.Need-sub-hold Inv-loop μ-loop
+sub-hold c = search needs
+
+part-hold-start : tie.Need-part-hold-start Inv-loop μ-loop
+part-hold-start c = search needs
+
+part-hold-end : tie.Need-part-hold-end Inv-loop μ-loop
+part-hold-end c = search needs
+
+hold-requires : tie.Need-hold-requires Inv-loop μ-loop
+hold-requires c κs =
+    let at = c .before .before .before .before in
+    let h : at .loop .i < length (at .loop .part) = c .before .before .before .loop-test .taken in (
+      sym (c .before .before .moves .ensures) ∙ not-true _ (c .before .if1 .taken),
+      omega (arith, mid-len (at .loop .i) (length (at .loop .part)) (at .loop .part) (omega arith)),
+    )
+
+same-length : tie.Need-same-length Inv-loop μ-loop
+same-length c = c .before .part .given .1 ∙ c .before .before .before .before .before .before .before .loop .inv .0
+
+returns : tie.Need-returns Inv-loop μ-loop
+returns c =
+    let at = c .before .before .before .before .before .before .before in
+    let a = at .before .before .args in
+    shaped-rest (a .adsr) (a .sample-time) (a .start) (a .velocity) (a .part .now) (at .loop .part) _ (at .loop .i) _ _ (at .loop .inv .0) (at .loop .inv .1) (at .loop .inv .2) (at .loop .inv .3) (c .before .before .hold .ensures)
 
 step-requires : tie.Need-step-requires Inv-loop μ-loop
 step-requires c κs = search needs
@@ -46,31 +78,27 @@ loop-less : tie.Need-loop-less Inv-loop μ-loop
 loop-less c = omega arith
 
 loop-again : tie.Need-loop-again Inv-loop μ-loop
-unfolding envelopeFrom shapedTo
+unfolding envelopeFrom
 loop-again c =
-    let at = c .before .before .before .before in
+    let at = c .before .before .before .before .before .before in
     let a = at .before .before .args in
     let i = at .loop .i in
-    let h : i < length (at .loop .part) = c .before .before .before .loop-test .taken in
+    let h : i < length (at .loop .part) = c .before .before .before .before .before .loop-test .taken in
     let next : c .before .before .step .result ≡ envelopeFrom (a .adsr) (a .sample-time) (a .start) (suc i) = c .before .before .step .ensures ∙ ap (stepOf (a .adsr) (a .sample-time)) (at .loop .inv .2) in (
       simp length-set (at .loop .inv .0),
       simp length-set (omega arith),
       rw (add-one i) next,
-      rw (add-one i, take-suc-set, at .loop .inv .3, ap (λ (e : Envelope). e .level) next, at .loop .inv .4 i (omega arith)) refl,
-      λ j l. getD-set-other (at .loop .part) i j _ nan (λ e. omega arith) ∙ at .loop .inv .4 j (omega arith),
+      begun-more (a .adsr) (a .sample-time) (a .start) (a .velocity) (a .part .now) (at .loop .part) i _ h (ap (λ (e : Envelope). e .level) next) (at .loop .inv .3),
     )
 
-same-length : tie.Need-same-length Inv-loop μ-loop
-same-length c = c .before .loop .inv .0
+same-length-2 : tie.Need-same-length-2 Inv-loop μ-loop
+same-length-2 c = c .before .loop .inv .0
 
-returns : tie.Need-returns Inv-loop μ-loop
-returns c =
+returns-2 : tie.Need-returns-2 Inv-loop μ-loop
+returns-2 c =
     let at = c .before in
-    let e : at .loop .i ≡ length (at .loop .part) = omega arith in
-    record {
-      samples = rw (← at .loop .inv .0, ← e) (sym (take-all (at .loop .i) (at .loop .part) (omega arith)) ∙ at .loop .inv .3);
-      envelope = rw (← at .loop .inv .0, ← e) (at .loop .inv .2);
-    }
+    let a = at .before .before .args in
+    shaped-all (a .adsr) (a .sample-time) (a .start) (a .velocity) (a .part .now) (at .loop .part) (at .loop .i) _ (at .loop .inv .0) (omega arith) (at .loop .inv .2) (at .loop .inv .3)
 
 pub shape-spec : {M : Type 1} → statement M
 shape-spec =
@@ -79,6 +107,14 @@ shape-spec =
     Inv-loop
     μ-loop
     loop-holds
+    moves-requires
+    mul-hold
+    sub-hold
+    part-hold-start
+    part-hold-end
+    hold-requires
+    same-length
+    returns
     step-requires
     mul-part
     slice-read-part
@@ -87,5 +123,5 @@ shape-spec =
     add-i
     loop-less
     loop-again
-    same-length
-    returns)
+    same-length-2
+    returns-2)
