@@ -24,7 +24,8 @@
  *  - a pointer leads to as many elements as its length says, and is null only where that length is 0;
  *  - it is aligned to its elements: double and uint64_t to 8 bytes;
  *  - no two buffers of one call overlap;
- *  - nothing else writes to a buffer during a call, and nothing else reads one that is not const.
+ *  - nothing else writes to a buffer during a call, and nothing else reads one that is not const;
+ *  - the processor's arithmetic is as C starts it: it rounds to nearest, and keeps numbers near 0 as they are.
  * Calls keep nothing between them, so any number of threads may call at once, on buffers of their own.
  *
  * A score is records of 10 bytes: 56 4E (hex), position (4 bytes, low byte first, in samples), kind (1 on, 2 off, 3 reset),

@@ -2,7 +2,7 @@
 use mathlib.Core.Path.{_≡_, refl, sym, ap, _∙_}
 use mathlib.Core.Bool.{Bool, true, false, cond, _&&_}
 use mathlib.Core.List.{List, _++_}
-use Prim.Native.Nat.{ℕ, _-_, _*_, _/_, _≤_, _<_}
+use Prim.Native.Nat.{ℕ, suc, _-_, _*_, _/_, _≤_, _<_}
 use native.Mathlib.Omega.{arith}
 use lib.Dec.{ltb}
 use lib.ListN.{length, take}
@@ -73,6 +73,10 @@ plan-says old new n m h = go (differenceOf old new) refl h
         at : (t : Bool) → ltb p n ≡ t → cond t (From (p / mark)) Nothing ≡ From m → Planned old new n m
         at true q h = record { change = p; differs = e; heard = ltb-true p n q; mark-is = sym (from-inj h) }
         at false q h = absurd (clash (cc))
+
+-- it is the last such mark: the next lies past the difference
+pub plan-last : (old new : List ℕ) (n m : ℕ) (p : Planned old new n m) → (m * mark ≤ p .change) × (p .change < suc m * mark)
+plan-last old new n m p = rw (p .mark-is) (omega arith, omega arith)
 
 pub plan-there : (old new : List ℕ) (n m : ℕ) → planOf old new n ≡ From m → m < entriesFor n
 plan-there old new n m h = let p : Planned old new n m = plan-says old new n m h in rw (p .mark-is) (start-there n (p .change) (p .heard))

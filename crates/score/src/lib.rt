@@ -274,7 +274,7 @@ fn kind_byte(kind: Kind) -> u8
     }
 }
 
-// The same of a record that is there and whose order is known, by one test where all is right.
+// The first fault of a record that is there and whose order is known, by one test where all is right.
 fn judge_after(score: &[u8], i: usize, order: bool) -> Verdict
     requires { ⌜ i < countOf (now score) ⌝ }
     requires { ⌜ order ≡ inOrder (now score) i ⌝ }
@@ -297,7 +297,7 @@ fn surely_right(score: &[u8], i: usize) -> bool
     (mark == 0x4E56) & ((last == 3) | ((1 <= kind) & (kind <= 2)))
 }
 
-// The first fault of record i, or that this one record is accepted.
+// The first fault of record i, one test after the other, or that this one record is accepted.
 fn judge_record(score: &[u8], i: usize) -> Verdict
     ensures { λ r. ⌜ r ≡ verdictAt (now (score .entry)) i ⌝ }
 {
