@@ -374,3 +374,10 @@ by-contra false h = absurd (h tt)
 -- 0 ≤ x < y, y finite: y is positive
 pub above-positive : (x y : Float) → T (nonneg x) → T (finite y) → T (lt x y) → T (positive y)
 above-positive x y p q h = by-contra (positive y) (λ (n : T (not (positive y))). lt-not-le x y h (fle-trans y nought x (not-positive-le y q n) (ge0→le x (nonneg→ge0 x p))))
+
+-- ---- one strict step among others
+pub lt-le-lt : (x y z : Float) → T (finite x) → T (finite z) → T (lt x y) → T (le y z) → T (lt x z)
+lt-le-lt x y z p q h k = by-contra (lt x z) (λ (n : T (not (lt x z))). lt-not-le x y h (fle-trans y z x k (not-lt-le x z p q n)))
+
+pub le-lt-lt : (x y z : Float) → T (finite x) → T (finite z) → T (le x y) → T (lt y z) → T (lt x z)
+le-lt-lt x y z p q h k = by-contra (lt x z) (λ (n : T (not (lt x z))). lt-not-le y z k (fle-trans z x y (not-lt-le x z p q n) h))

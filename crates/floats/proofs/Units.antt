@@ -13,7 +13,7 @@ use lib.Ieee.Back.{round-whole}
 use lib.Ieee.Exact.{HasValue}
 use lib.Ieee.Scale.{round-same, finite}
 use lib.Ieee.Positive.{num, den, den-pos, positive, first-pos}
-use Rattle.floats.specs.Range.{nonneg}
+use Rattle.floats.specs.Range.{nought, nonneg}
 use Rattle.floats.proofs.Order.{cross→le, lt-not-le, nonneg→finite, signed, positive-nonneg, positive-num}
 use Rattle.floats.proofs.Operations.{dens-pos, quot-pos, sub-is, div-is, rem-is}
 use Rattle.floats.proofs.Remainder.{mod-scale}
@@ -42,6 +42,19 @@ rem-below f x y w p q h =
 less : (f : Format) (a b c : ℕ) → b ≤ a → sum f false a true b c ≡ round f false (a - b) c
 unfolding sum
 less f a b c h = rw (is-false (ltb a b) (not-T (ltb a b) (λ (t : T (ltb a b)). omega (arith, ltb→lt a b t)))) refl
+
+-- x - 0 is x, for a positive x
+pub less-nought : (f : Format) (x : Float) → T (fits f x) → T (positive x) → sub f x nought ≡ x
+less-nought f x w p = sub-is f x nought finite-x tt ∙ rest
+  where
+    finite-x : T (finite x)
+    finite-x = nonneg→finite x (positive-nonneg x p)
+
+    own : round f false (num x) (den x) ≡ x
+    own = rw (← plain x p) (self-is f x w finite-x)
+
+    rest : sum f (signed x) (num x * 1) true (0 * den x) (den x * 1) ≡ x
+    rest = rw (plain x p, nat.mul-one (num x), nat.mul-one (den x), nat.zero-mul (den x)) (less f (num x) 0 (den x) (omega arith) ∙ ap (λ (n : ℕ). round f false n (den x)) (nat.sub-zero (num x)) ∙ own)
 
 -- y ≤ x < y + y: x % y is x - y, which nothing rounds
 pub rem-once : (f : Format) (x y : Float) → T (positive x) → T (positive y) → num y * den x ≤ num x * den y → num x * den y < num y * den x + num y * den x → sub f x y ≡ rem f x y

@@ -1,6 +1,8 @@
 -- What holds of the corrections and the waveforms beyond their contracts.
 -- near a step the distance from it is at most one sample
 pub mod Corner
+-- where no correction is due
+pub mod Clear
 -- every answer in the domain is finite
 pub mod Finite
 -- 01's marks (a) to (g)
