@@ -1,4 +1,4 @@
--- Easy errors, by example, on the definitions that the contracts cite; 01's marks (i) and (j) take 4,098 steps and stand in `envelope_marks`. Assumes nothing.
+-- Easy errors, by example, on the definitions that the contracts cite; 01's marks (i) and (j) take 4,098 steps and stand in `marks`. Assumes nothing.
 use mathlib.Core.Path.{_≡_, refl}
 use mathlib.Core.Bool.{true, false}
 use lib.IntN.{negsuc}

@@ -1,4 +1,4 @@
--- What 01 asks to be proved of the accumulator by example, on the definitions that the contracts cite. Assumes nothing.
+-- The accumulator by example, on the definitions that the contracts cite; 01's mark (h) stands in `marks`. Assumes nothing.
 use mathlib.Core.Path.{_≡_, refl}
 use lib.Ieee.{Float, binary32, add, sub, neg, lt, le, eq, ofBits, round}
 use Rattle.floats.specs.Floor.{floorOf}
@@ -7,23 +7,12 @@ use Rattle.phase.specs.Phase.{cyclesOf, shownIf, newOf, setIncrementOf, 
 use Rattle.phase.specs.declared.PhaseAccumulator.{PhaseAccumulator}
 use mathlib.Core.Bool.{true}
 
--- -0.25, 0.75 and -2 ^ -30
-abbrev pub minusQuarter : Float
-minusQuarter = ofBits binary32 0xbe80_0000
-
-abbrev pub threeQuarters : Float
-threeQuarters = ofBits binary32 0x3f40_0000
-
+-- -2 ^ -30
 abbrev pub minusTiny : Float
 minusTiny = ofBits binary32 0xb080_0000
 
 abbrev pub setTo : Float → PhaseAccumulator
 setTo x = setPhaseOf newOf (cyclesOf x) .accumulator
-
--- (h) accumulator set to -0.25 shows 0.75, to -2^-30 shows 1
-pub mark-h : (phaseOf (setTo minusQuarter) ≡ shownIf true threeQuarters) × (phaseOf (setTo minusTiny) ≡ shownIf true (lit1 binary32))
-unfolding ofBits le lt eq add sub neg floorOf round
-mark-h = (refl, refl)
 
 -- "floor(-0) is -0": so -0 wraps to +0
 pub minus-zero : phaseOf (setTo (ofBits binary32 0x8000_0000)) ≡ shownIf true (lit0 binary32)

@@ -5,7 +5,7 @@ pub mod Corner
 pub mod Clear
 -- every answer in the domain is finite
 pub mod Finite
--- 01's marks (a) to (g)
-pub mod Marks
+-- a third is 1 / 3
+pub mod Third
 -- two outcomes of a public function are equal
 pub mod Unique

@@ -17,7 +17,5 @@ pub mod Actions
 pub mod Loudness
 -- from an accepted state every call hands back an accepted one; what a release and a reset leave
 pub mod Keeps
--- 01's marks (k) to (m)
-pub mod Marks
 -- two outcomes of a public function are equal
 pub mod Unique

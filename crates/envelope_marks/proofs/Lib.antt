@@ -1,2 +1,0 @@
--- 01's marks (i) and (j)
-pub mod Marks
