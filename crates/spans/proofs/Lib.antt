@@ -7,7 +7,7 @@ pub mod Acting
 pub mod Sounding
 -- a turn of the loop over the spans
 pub mod Turns
--- the second pass: a value more, a stage that stands, the rest of a part
+-- the second pass: a value more, a step within a run, a stage that stands, the rest of a part
 pub mod Shaping
 -- cut anywhere: a walk of j samples and then one of k are one of j + k
 pub mod GoesOn

@@ -1,2 +1,3 @@
 pub mod Plain
+pub mod Runs
 pub mod Walk

@@ -3,12 +3,12 @@
 // Samples are counted as an offset in the part from its position in the output, so that no sum is too large for a word.
 ghost use mathlib.Core.Path.{_≡_};
 ghost use mathlib.Core.Bool.{cond, false};
-ghost use Prim.Native.Nat.{_+_, _-_, _%_, _<_};
-ghost use lib.Dec.{eqb};
+ghost use Prim.Native.Nat.{_+_, _-_, _%_, _<_, _≤_};
 ghost use lib.ListN.{length};
 ghost use Rattle.score.specs.Record.{countOf};
 ghost use Rattle.envelope.specs.Stages.{grows};
 ghost use Rattle.spans.specs.Plain.{Sounded, Shaped};
+ghost use Rattle.spans.specs.Runs.{levelOf, endsAt, Onward};
 ghost use Rattle.spans.specs.Walk.{standsAt, beginsAt, actFrom, reducedAt, begunFrom, Played, SpanEnd, BlockEnd};
 use envelope::Adsr;
 use envelope::Envelope;
@@ -19,10 +19,19 @@ use state::State;
 // How many samples between two reductions where no record stands.
 const BLOCK: u64 = 64;
 
+// A release ends at this level, as in envelope.
+const FLOOR: f64 = 0.000001;
+
 // The state before a sample is begun, and the first record that has not acted.
 pub struct Place {
     pub state: State,
     pub next: usize,
+}
+
+// How far a part is shaped, and the envelope there.
+struct Reach {
+    envelope: Envelope,
+    count: usize,
 }
 
 // Plays the samples of a part that begins at a position, and hands back the place after the last.
@@ -172,7 +181,7 @@ fn sound(settings: Settings, state: State, part: &mut [f64]) -> State
     }
 }
 
-// Each value of a part times the envelope's level times the velocity.
+// Each value of a part times the envelope's level times the velocity: a run of a stage, the sample that ends it, the next.
 fn shape(adsr: Adsr, sample_time: f64, start: Envelope, velocity: f64, part: &mut [f64]) -> Envelope
     ensures { λ r. ⌜ Shaped adsr «sample_time» start velocity (now (part .entry)) (now (part .exit)) r ⌝ }
 {
@@ -183,11 +192,103 @@ fn shape(adsr: Adsr, sample_time: f64, start: Envelope, velocity: f64, part: &mu
             let end = part.len();
             return hold(adsr, sample_time, envelope, velocity, &mut part[i..end]);
         }
-        envelope = envelope::step(adsr, sample_time, envelope);
+        let reach = run_on(
+            adsr,
+            sample_time,
+            Reach { envelope, count: i },
+            velocity,
+            part,
+        );
+        i = reach.count;
+        if part.len() <= i {
+            return reach.envelope;
+        }
+        envelope = envelope::step(adsr, sample_time, reach.envelope);
         part[i] = part[i] * envelope.level * velocity;
         i += 1;
     }
     envelope
+}
+
+// A run of the stage at hand, with that stage a constant, so that each has a loop of its own.
+fn run_on(adsr: Adsr, sample_time: f64, at: Reach, velocity: f64, part: &mut [f64]) -> Reach
+    ensures { λ r. ⌜ (at .count ≤ r .count) × Onward adsr «sample_time» velocity (now (part .entry)) (at .envelope) (at .count) (now (part .exit)) (r .envelope) (r .count) ⌝ }
+{
+    let e = at.envelope;
+    let stage = e.stage;
+    match stage {
+        EnvelopeStage::Idle => at,
+        EnvelopeStage::Attack => run(EnvelopeStage::Attack, adsr, sample_time, at, velocity, part),
+        EnvelopeStage::Decay => run(EnvelopeStage::Decay, adsr, sample_time, at, velocity, part),
+        EnvelopeStage::Sustain => at,
+        EnvelopeStage::Release => run(
+            EnvelopeStage::Release,
+            adsr,
+            sample_time,
+            at,
+            velocity,
+            part,
+        ),
+    }
+}
+
+// The samples of a stage before the one that ends it: the level alone is looked at, and the time grows.
+fn run(
+    stage: EnvelopeStage,
+    adsr: Adsr,
+    sample_time: f64,
+    at: Reach,
+    velocity: f64,
+    part: &mut [f64],
+) -> Reach
+    requires { ⌜ at .envelope .stage ≡ stage ⌝ }
+    ensures { λ r. ⌜ (at .count ≤ r .count) × Onward adsr «sample_time» velocity (now (part .entry)) (at .envelope) (at .count) (now (part .exit)) (r .envelope) (r .count) ⌝ }
+{
+    let mut envelope = at.envelope;
+    let mut i = at.count;
+    while i < part.len() {
+        let level = level_at(stage, adsr, envelope);
+        if is_over(stage, adsr, level) {
+            return Reach { envelope, count: i };
+        }
+        let stage_time = envelope.stage_time + sample_time;
+        let release_level = envelope.release_level;
+        envelope = Envelope {
+            stage,
+            level,
+            stage_time,
+            release_level,
+        };
+        part[i] = part[i] * level * velocity;
+        i += 1;
+    }
+    Reach { envelope, count: i }
+}
+
+// The level of a stage, before its end is looked at.
+fn level_at(stage: EnvelopeStage, adsr: Adsr, e: Envelope) -> f64
+    ensures { λ r. ⌜ r ≡ levelOf stage adsr e ⌝ }
+{
+    match stage {
+        EnvelopeStage::Idle => 0.0,
+        EnvelopeStage::Attack => e.stage_time / adsr.attack,
+        EnvelopeStage::Decay => 1.0 - (1.0 - adsr.sustain) * (e.stage_time / adsr.decay),
+        EnvelopeStage::Sustain => adsr.sustain,
+        EnvelopeStage::Release => e.release_level * (1.0 - e.stage_time / adsr.release),
+    }
+}
+
+// Whether a run of the stage ends at that level. A stage that stands has no run.
+fn is_over(stage: EnvelopeStage, adsr: Adsr, level: f64) -> bool
+    ensures { λ r. ⌜ r ≡ endsAt stage adsr level ⌝ }
+{
+    match stage {
+        EnvelopeStage::Idle => true,
+        EnvelopeStage::Attack => level >= 1.0,
+        EnvelopeStage::Decay => level <= adsr.sustain,
+        EnvelopeStage::Sustain => true,
+        EnvelopeStage::Release => level <= FLOOR,
+    }
 }
 
 // The same where the stage stands, as it then does to the end: one level for all, so that the loop has no branch.

@@ -1,28 +1,24 @@
 -- `spans::shape` meets its contract. The loop's invariant: the first i values are shaped, the others are as they were, and the envelope stands after i samples. Assumes nothing.
 use borrow.Author.Needs.{needs}
 use borrow.Author.Tests.{not-true}
-use mathlib.Core.Path.{_≡_, refl, sym, ap, _∙_}
-use Prim.Native.Nat.{_≤_, _<_, _-_, suc}
-use native.Mathlib.Numerals.{add-one}
+use mathlib.Core.Path.{refl, sym, _∙_}
+use Prim.Native.Nat.{_<_, _-_}
 use native.Mathlib.Omega.{arith}
-use lib.ListN.{length, length-set}
+use lib.ListN.{length}
 use borrow.Rule.Slice.PartMut.{mid-len}
-use Rattle.envelope.specs.Stages.{stepOf}
-use Rattle.envelope.specs.Running.{envelopeFrom}
-use Rattle.envelope.specs.declared.Envelope.{Envelope}
-use Rattle.spans.proofs.Shaping.{Begun, begun-none, begun-more, shaped-all, shaped-rest}
+use Rattle.spans.specs.Runs.{Reached}
+use Rattle.spans.proofs.Shaping.{reached-none, reached-more, shaped-all, shaped-rest}
 use Rattle.spans.proofs.shape.Statement.{statement}
 use Rattle.spans.proofs.shape.Tie as tie
 
 abbrev Inv-loop : tie.InvT-loop
-Inv-loop adsr sample-time velocity part₀ envelope₀ i₀ part envelope i = (length part ≡ length part₀) × (i ≤ length part) × (envelope ≡ envelopeFrom adsr sample-time envelope₀ i) × Begun adsr sample-time envelope₀ velocity part₀ part i
+Inv-loop adsr sample-time velocity part₀ envelope₀ i₀ part envelope i = Reached adsr sample-time envelope₀ velocity part₀ part envelope i
 
 abbrev μ-loop : tie.MeasureT-loop
 μ-loop adsr sample-time velocity part₀ envelope₀ i₀ part envelope i = length part₀ - i
 
 loop-holds : tie.Need-loop-holds Inv-loop μ-loop
-unfolding envelopeFrom
-loop-holds c = (refl, omega arith, refl, begun-none _ _ _ _ _)
+loop-holds c = reached-none _ _ _ _ _
 
 moves-requires : tie.Need-moves-requires Inv-loop μ-loop
 moves-requires c κs = search needs
@@ -48,13 +44,30 @@ hold-requires c κs =
     )
 
 same-length : tie.Need-same-length Inv-loop μ-loop
-same-length c = c .before .part .given .1 ∙ c .before .before .before .before .before .before .before .loop .inv .0
+same-length c = c .before .part .given .1 ∙ c .before .before .before .before .before .before .before .loop .inv .long
 
 returns : tie.Need-returns Inv-loop μ-loop
 returns c =
     let at = c .before .before .before .before .before .before .before in
     let a = at .before .before .args in
-    shaped-rest (a .adsr) (a .sample-time) (a .start) (a .velocity) (a .part .now) (at .loop .part) _ (at .loop .i) _ _ (at .loop .inv .0) (at .loop .inv .1) (at .loop .inv .2) (at .loop .inv .3) (c .before .before .hold .ensures)
+    shaped-rest (a .adsr) (a .sample-time) (a .start) (a .velocity) (a .part .now) (at .loop .part) _ _ _ (at .loop .i) (at .loop .inv) (c .before .before .hold .ensures)
+
+run-on-requires : tie.Need-run-on-requires Inv-loop μ-loop
+run-on-requires c κs = search needs
+
+same-length-2 : tie.Need-same-length-2 Inv-loop μ-loop
+same-length-2 c =
+    let ran = c .before .before .before .before in
+    let at = ran .before .before .before .before .before in
+    let a = at .before .before .args in
+    ran .run-on .ensures .1 (a .start) (a .part .now) (at .loop .inv) .long
+
+returns-2 : tie.Need-returns-2 Inv-loop μ-loop
+returns-2 c =
+    let ran = c .before .before .before .before in
+    let at = ran .before .before .before .before .before in
+    let a = at .before .before .args in
+    shaped-all (a .adsr) (a .sample-time) (a .start) (a .velocity) (a .part .now) _ _ _ (c .before .if2 .taken) (ran .run-on .ensures .1 (a .start) (a .part .now) (at .loop .inv))
 
 step-requires : tie.Need-step-requires Inv-loop μ-loop
 step-requires c κs = search needs
@@ -75,30 +88,29 @@ add-i : tie.Need-add-i Inv-loop μ-loop
 add-i c = omega arith
 
 loop-less : tie.Need-loop-less Inv-loop μ-loop
-loop-less c = omega arith
+loop-less c =
+    let ran = c .before .before .before .before .before .before in
+    let at = ran .before .before .before .before .before in
+    let a = at .before .before .args in
+    let r = ran .run-on .ensures .1 (a .start) (a .part .now) (at .loop .inv) in
+    let more : ran .run-on .result .count < length (a .part .now) = rw (r .long) at (c .before .before .before .if2 .left) in
+    omega (arith, ran .run-on .ensures .0, more)
 
 loop-again : tie.Need-loop-again Inv-loop μ-loop
-unfolding envelopeFrom
 loop-again c =
-    let at = c .before .before .before .before .before .before in
+    let ran = c .before .before .before .before .before .before in
+    let at = ran .before .before .before .before .before in
     let a = at .before .before .args in
-    let i = at .loop .i in
-    let h : i < length (at .loop .part) = c .before .before .before .before .before .loop-test .taken in
-    let next : c .before .before .step .result ≡ envelopeFrom (a .adsr) (a .sample-time) (a .start) (suc i) = c .before .before .step .ensures ∙ ap (stepOf (a .adsr) (a .sample-time)) (at .loop .inv .2) in (
-      simp length-set (at .loop .inv .0),
-      simp length-set (omega arith),
-      rw (add-one i) next,
-      begun-more (a .adsr) (a .sample-time) (a .start) (a .velocity) (a .part .now) (at .loop .part) i _ h (ap (λ (e : Envelope). e .level) next) (at .loop .inv .3),
-    )
+    reached-more (a .adsr) (a .sample-time) (a .start) (a .velocity) (a .part .now) _ (ran .run-on .result .envelope) _ _ (ran .run-on .result .count) (c .before .before .before .if2 .left) (c .before .before .step .ensures) refl (ran .run-on .ensures .1 (a .start) (a .part .now) (at .loop .inv))
 
-same-length-2 : tie.Need-same-length-2 Inv-loop μ-loop
-same-length-2 c = c .before .loop .inv .0
+same-length-3 : tie.Need-same-length-3 Inv-loop μ-loop
+same-length-3 c = c .before .loop .inv .long
 
-returns-2 : tie.Need-returns-2 Inv-loop μ-loop
-returns-2 c =
+returns-3 : tie.Need-returns-3 Inv-loop μ-loop
+returns-3 c =
     let at = c .before in
     let a = at .before .before .args in
-    shaped-all (a .adsr) (a .sample-time) (a .start) (a .velocity) (a .part .now) (at .loop .part) (at .loop .i) _ (at .loop .inv .0) (omega arith) (at .loop .inv .2) (at .loop .inv .3)
+    shaped-all (a .adsr) (a .sample-time) (a .start) (a .velocity) (a .part .now) (at .loop .part) _ (at .loop .i) (omega arith) (at .loop .inv)
 
 pub shape-spec : {M : Type 1} → statement M
 shape-spec =
@@ -115,6 +127,9 @@ shape-spec =
     hold-requires
     same-length
     returns
+    run-on-requires
+    same-length-2
+    returns-2
     step-requires
     mul-part
     slice-read-part
@@ -123,5 +138,5 @@ shape-spec =
     add-i
     loop-less
     loop-again
-    same-length-2
-    returns-2)
+    same-length-3
+    returns-3)

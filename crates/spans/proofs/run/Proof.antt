@@ -1,0 +1,88 @@
+-- `spans::run` meets its contract. The loop's invariant: the pass has gone on to sample i, and the envelope is still in the stage of the run. Assumes nothing.
+use borrow.Author.Needs.{needs}
+use mathlib.Core.Path.{_≡_, refl, sym, _∙_}
+use Prim.Native.Nat.{_≤_, _-_}
+use native.Mathlib.Omega.{arith}
+use lib.ListN.{length, length-set}
+use Rattle.spans.specs.Runs.{Onward}
+use Rattle.spans.proofs.Shaping.{reached-more, runs}
+use Rattle.spans.proofs.run.Statement.{statement}
+use Rattle.spans.proofs.run.Tie as tie
+
+abbrev Inv-loop : tie.InvT-loop
+Inv-loop stage adsr sample-time velocity part₀ envelope₀ i₀ part envelope i = (length part ≡ length part₀) × (i₀ ≤ i) × (envelope .stage ≡ stage) × Onward adsr sample-time velocity part₀ envelope₀ i₀ part envelope i
+
+abbrev μ-loop : tie.MeasureT-loop
+μ-loop stage adsr sample-time velocity part₀ envelope₀ i₀ part envelope i = length part₀ - i
+
+loop-holds : tie.Need-loop-holds Inv-loop μ-loop
+loop-holds c = (refl, omega arith, c .before .before .pre, λ e xs b. b)
+
+level-at-requires : tie.Need-level-at-requires Inv-loop μ-loop
+level-at-requires c κs = search needs
+
+is-over-requires : tie.Need-is-over-requires Inv-loop μ-loop
+is-over-requires c κs = search needs
+
+same-length : tie.Need-same-length Inv-loop μ-loop
+same-length c = c .before .before .before .before .loop .inv .0
+
+returns : tie.Need-returns Inv-loop μ-loop
+returns c = (c .before .before .before .before .loop .inv .1, c .before .before .before .before .loop .inv .3)
+
+mul-part : tie.Need-mul-part Inv-loop μ-loop
+mul-part c = search needs
+
+slice-read-part : tie.Need-slice-read-part Inv-loop μ-loop
+slice-read-part c = search needs
+
+mul-part-2 : tie.Need-mul-part-2 Inv-loop μ-loop
+mul-part-2 c = search needs
+
+slice-write-part : tie.Need-slice-write-part Inv-loop μ-loop
+slice-write-part c = search needs
+
+add-i : tie.Need-add-i Inv-loop μ-loop
+add-i c = omega arith
+
+loop-less : tie.Need-loop-less Inv-loop μ-loop
+loop-less c = omega arith
+
+loop-again : tie.Need-loop-again Inv-loop μ-loop
+loop-again c =
+    let out = c .before .before .before in
+    let at = out .before .before .before in
+    let a = at .before .before .before .args in
+    let step = runs (a .adsr) (a .sample-time) (at .loop .envelope) (a .stage) (out .before .level-at .result) (at .loop .inv .2) (out .before .level-at .ensures) (sym (out .is-over .ensures) ∙ c .before .before .if1 .left) in (
+      simp length-set (at .loop .inv .0),
+      omega (arith, at .loop .inv .1),
+      refl,
+      λ e xs b. reached-more (a .adsr) (a .sample-time) e (a .velocity) xs (at .loop .part) (at .loop .envelope) _ _ (at .loop .i) (out .before .before .loop-test .taken) step refl (at .loop .inv .3 e xs b),
+    )
+
+same-length-2 : tie.Need-same-length-2 Inv-loop μ-loop
+same-length-2 c = c .before .loop .inv .0
+
+returns-2 : tie.Need-returns-2 Inv-loop μ-loop
+returns-2 c = (c .before .loop .inv .1, c .before .loop .inv .3)
+
+pub run-spec : {M : Type 1} → statement M
+run-spec =
+    tie.close
+    (tie.spec
+    Inv-loop
+    μ-loop
+    loop-holds
+    level-at-requires
+    is-over-requires
+    same-length
+    returns
+    mul-part
+    slice-read-part
+    mul-part-2
+    slice-write-part
+    add-i
+    loop-less
+    loop-again
+    same-length-2
+    returns-2)

@@ -1,0 +1,43 @@
+-- The second pass by runs of a stage: its level and its end, and how far the pass has come. These serve private functions; no public statement cites them. Definitions only.
+use mathlib.Core.Bool.{Bool, true}
+use mathlib.Core.List.{List}
+use mathlib.Core.Path.{_≡_}
+use Prim.Native.Nat.{ℕ, _≤_}
+use lib.ListN.{length, take, getD}
+use lib.Ieee.{Float, nan, le}
+use Rattle.floats.specs.Double.{naught, one}
+use Rattle.envelope.specs.declared.Adsr.{Adsr}
+use Rattle.envelope.specs.declared.Envelope.{Envelope}
+use Rattle.envelope.specs.declared.EnvelopeStage.{EnvelopeStage}
+use Rattle.envelope.specs.declared.EnvelopeStage.the-variants.{Idle, Attack, Decay, Sustain, Release}
+use Rattle.envelope.specs.Stages.{silent, attackLevel, decayLevel, releaseLevel}
+use Rattle.envelope.specs.Running.{envelopeFrom}
+use Rattle.spans.specs.Plain.{shapedTo}
+
+-- the level of a stage, before its end is looked at
+abbrev pub levelOf : EnvelopeStage → Adsr → Envelope → Float
+levelOf Idle k e = naught
+levelOf Attack k e = attackLevel (k .attack) e
+levelOf Decay k e = decayLevel (k .decay) (k .sustain) e
+levelOf Sustain k e = k .sustain
+levelOf Release k e = releaseLevel (k .release) e
+
+-- whether a run of the stage ends at that level; a stage that stands has none
+abbrev pub endsAt : EnvelopeStage → Adsr → Float → Bool
+endsAt Idle k x = true
+endsAt Attack k x = le one x
+endsAt Decay k x = le x (k .sustain)
+endsAt Sustain k x = true
+endsAt Release k x = le x silent
+
+-- of a part that held xs the first i values are shaped and the others are as they were, and c is the envelope after the i
+pub record Reached (k : Adsr) (t : Float) (e : Envelope) (velocity : Float) (xs ys : List Float) (c : Envelope) (i : ℕ) : Type 0 where
+  pub long : length ys ≡ length xs
+  pub within : i ≤ length xs
+  pub envelope : c ≡ envelopeFrom k t e i
+  pub first : take i ys ≡ shapedTo k t e velocity xs i
+  pub others : (j : ℕ) → i ≤ j → getD ys j nan ≡ getD xs j nan
+
+-- from ys with c and i to zs with d and j: whatever the pass began with, if it had reached the one it has reached the other
+abbrev pub Onward : Adsr → Float → Float → List Float → Envelope → ℕ → List Float → Envelope → ℕ → Type 0
+Onward k t velocity ys c i zs d j = (e : Envelope) (xs : List Float) → Reached k t e velocity xs ys c i → Reached k t e velocity xs zs d j
