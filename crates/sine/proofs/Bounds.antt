@@ -33,7 +33,7 @@ entry-small k = go (ltb k 1025) refl
     go false e = le-trans (le-of-eq (List·getD-eq-default quarter 0 (rw count (ltb-false k 1025 e)))) (lit≤ tt)
 
 -- the whole numbers at the ends of a part of the wave are at most 2^30 in size
-start-sized : (q j : ℕ) → Sized (2 ^ 30) (startOf quarter q j)
+pub start-sized : (q j : ℕ) → Sized (2 ^ 30) (startOf quarter q j)
 unfolding startOf
 start-sized zero j = record { up = entry-small _; down = lit≤ tt }
 start-sized (suc zero) j = record { up = entry-small _; down = lit≤ tt }

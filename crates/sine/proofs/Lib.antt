@@ -11,6 +11,10 @@ pub mod Parts
 pub mod Points
 -- a reading lies from -1 to 1
 pub mod Bounds
+-- the whole wave, unfolded from the quarter
+pub mod Levels
+-- its reading is the quarter's
+pub mod Whole
 -- readings at the quarters
 pub mod Marks
 -- two outcomes of a public function are equal

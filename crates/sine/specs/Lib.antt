@@ -1,3 +1,4 @@
 pub mod Table
 pub mod Wave
 pub mod Sine
+pub mod Whole

@@ -8,6 +8,7 @@ ghost use Rattle.floats.specs.Range.{within};
 ghost use Rattle.floats.specs.Double.{naught, one};
 ghost use Rattle.sine.specs.Table.{quarter};
 ghost use Rattle.sine.specs.Sine.{steps, wholePart, float, signedOf, lineOf, betweenOf, pointOf, readingIn, readingOf, sineOf};
+ghost use Rattle.sine.specs.Whole.{wholeWave, Unfolded, wholePointOf, wholeReading};
 use answers::Refusal;
 use answers::Value;
 
@@ -122,4 +123,74 @@ fn entry(wave: &[u32; 1025], k: u32) -> u32
     ensures { λ r. ⌜ r ≡ getD (now (wave .entry)) k 0 ⌝ }
 {
     wave[k as usize]
+}
+
+// The wave unfolded from the quarter, a float at each of its 4,096 points and at its end. It costs a microsecond, and is
+// for a loop of a thousand readings and more.
+pub fn whole_wave() -> [f64; 4097]
+    ensures { λ r. ⌜ r ≡ wholeWave ⌝ }
+{
+    let table = quarter_wave();
+    let mut wave = [0.0; 4097];
+    rise(&table, &mut wave);
+    fall(&mut wave);
+    negate(&mut wave);
+    wave
+}
+
+// Quadrant 0, and the top.
+fn rise(table: &[u32; 1025], wave: &mut [f64; 4097])
+    requires { ⌜ (now table ≡ quarter) × Unfolded 0 (now wave) ⌝ }
+    ensures { λ _. ⌜ Unfolded 1025 (now (wave .exit)) ⌝ }
+{
+    let mut k = 0;
+    while k < 1025 {
+        wave[k] = table[k] as f64;
+        k += 1;
+    }
+}
+
+// Quadrant 1 is the mirror of quadrant 0.
+fn fall(wave: &mut [f64; 4097])
+    requires { ⌜ Unfolded 1025 (now wave) ⌝ }
+    ensures { λ _. ⌜ Unfolded 2048 (now (wave .exit)) ⌝ }
+{
+    let mut k = 0;
+    while k < 1023 {
+        wave[1025 + k] = wave[1023 - k];
+        k += 1;
+    }
+}
+
+// Quadrants 2 and 3 are the negatives of 0 and 1; from 0.0, so that a zero is +0.
+fn negate(wave: &mut [f64; 4097])
+    requires { ⌜ Unfolded 2048 (now wave) ⌝ }
+    ensures { λ _. ⌜ Unfolded 4097 (now (wave .exit)) ⌝ }
+{
+    let mut k = 0;
+    while k < 2049 {
+        wave[2048 + k] = 0.0 - wave[k];
+        k += 1;
+    }
+}
+
+// The reading of an unfolded wave at u, for a u that is known to be from 0 to 1; +0 for any other.
+pub fn whole_reading(wave: &[f64; 4097], u: f64) -> f64
+    ensures { λ r. ⌜ r ≡ wholeReading (now (wave .entry)) u ⌝ }
+{
+    if in_domain(u) {
+        return whole_point(wave, u * 4096.0);
+    }
+    0.0
+}
+
+fn whole_point(wave: &[f64; 4097], p: f64) -> f64
+    requires { ⌜ T (within naught steps p) ⌝ }
+    ensures { λ r. ⌜ r ≡ wholePointOf (now (wave .entry)) p ⌝ }
+{
+    let i = whole_part(p) as usize;
+    if i == 4096 {
+        return line(wave[0], wave[1], 0.0);
+    }
+    line(wave[i], wave[i + 1], p - i as f64)
 }

@@ -1,0 +1,84 @@
+-- The reading of an unfolded wave, case by case; and that of the whole wave it is the reading of the quarter, since b at a point is a at the next. Assumes nothing.
+use mathlib.Core.Path.{_≡_, refl, sym, ap, _∙_, subst}
+use mathlib.Core.Bool.{Bool, true, false, cond}
+use mathlib.Core.List.{List}
+use mathlib.Core.Logic.{⊎-elim}
+use Prim.Native.Nat.{ℕ, zero, suc, _+_, _-_, _/_, _%_, _≤_, _<_}
+use native.Mathlib.Nat.{eq-or-lt-of-le, le-of-suc-le-suc}
+use native.Mathlib.Omega.{arith}
+use borrow.Author.Tests.{eq-eqb, ne-eqb, eqb-true, eqb-false}
+use lib.IntN.{pos, negℤ}
+use lib.Dec.{T, eqb, lit<}
+use lib.Ieee.{Float}
+use Rattle.floats.specs.Range.{within}
+use Rattle.floats.specs.Double.{_⊖_, _⊗_, naught, one}
+use Rattle.sine.specs.Table.{quarter, entryOf}
+use Rattle.sine.specs.Sine.{steps, wholePart, float, startOf, endOf, betweenOf, pointOf, readingOf}
+use Rattle.sine.specs.Whole.{levelOf, wholeWave, wholeLine, wholePointOf, wholeReading}
+use Rattle.sine.proofs.Rules.{entry-0}
+use Rattle.sine.proofs.Parts.{whole-at-most}
+use Rattle.sine.proofs.Points.{reading-inside, reading-outside, point-last, point-at, points-in}
+use Rattle.sine.proofs.Levels.{at-is, level-at}
+
+-- ---- the reading of a table W
+module _ (W : List Float) where
+  -- u from 0 to 1, and any other
+  pub whole-inside : (u : Float) → within naught one u ≡ true → wholeReading W u ≡ wholePointOf W (u ⊗ steps)
+  unfolding wholeReading
+  whole-inside u e = ap (λ (b : Bool). cond b (wholePointOf W (u ⊗ steps)) naught) e
+
+  pub whole-outside : (u : Float) → within naught one u ≡ false → wholeReading W u ≡ naught
+  unfolding wholeReading
+  whole-outside u e = ap (λ (b : Bool). cond b (wholePointOf W (u ⊗ steps)) naught) e
+
+  -- p = 4096, and any other, whose whole part is i
+  pub whole-last : (p : Float) → wholePart p ≡ 4096 → wholePointOf W p ≡ wholeLine W 0 naught
+  unfolding wholePointOf
+  whole-last p e = ap (λ (b : Bool). cond b (wholeLine W 0 naught) (wholeLine W (wholePart p) (p ⊖ float (pos (wholePart p))))) (eq-eqb (wholePart p) 4096 e)
+
+  pub whole-at : (p : Float) (i : ℕ) → i ≡ wholePart p → (i ≡ 4096 → ⊥) → wholePointOf W p ≡ wholeLine W i (p ⊖ float (pos i))
+  unfolding wholePointOf
+  whole-at p i e n =
+      ap (λ (b : Bool). cond b (wholeLine W 0 naught) (wholeLine W (wholePart p) (p ⊖ float (pos (wholePart p))))) (ne-eqb (wholePart p) 4096 (λ (z : wholePart p ≡ 4096). n (e ∙ z)))
+      ∙ ap (λ (k : ℕ). wholeLine W k (p ⊖ float (pos k))) (sym e)
+
+-- ---- b at a point is a at the next: within a quadrant, and over its end, where T[0] is 0
+next-within : (q j : ℕ) → startOf quarter q (j + 1) ≡ endOf quarter q j
+unfolding startOf endOf
+next-within zero j = refl
+next-within (suc zero) j = ap (λ (n : ℕ). pos (entryOf n)) (omega arith)
+next-within (suc (suc q)) j = ap negℤ (next-within q j)
+
+next-over : (q : ℕ) → startOf quarter (suc q) 0 ≡ endOf quarter q 1023
+unfolding startOf endOf
+next-over zero = refl
+next-over (suc zero) = rw entry-0 refl
+next-over (suc (suc q)) = ap negℤ (next-over q)
+
+next-is : (i : ℕ) → levelOf (i + 1) ≡ float (endOf quarter (i / 1024) (i % 1024))
+next-is i =
+    let b : i % 1024 < 1024 = omega arith in
+    ⊎-elim (λ e. at-is (i + 1) (suc (i / 1024)) 0 (omega arith) (omega arith) ∙ rw e (ap float (next-over (i / 1024))))
+    (λ l. at-is (i + 1) (i / 1024) (i % 1024 + 1) (omega arith) (omega arith) ∙ ap float (next-within (i / 1024) (i % 1024)))
+    (eq-or-lt-of-le (le-of-suc-le-suc b))
+
+-- ---- of the whole wave
+line-is : (i : ℕ) (f : Float) → i < 4096 → wholeLine wholeWave i f ≡ betweenOf quarter i f
+line-is i f h = rw (level-at i 4097 (omega arith), level-at (i + 1) 4097 (omega arith), next-is i) refl
+
+point-is : (p : Float) → wholePart p ≤ 4096 → wholePointOf wholeWave p ≡ pointOf quarter p
+point-is p h = go (eqb (wholePart p) 4096) refl
+  where
+    go : (t : Bool) → eqb (wholePart p) 4096 ≡ t → wholePointOf wholeWave p ≡ pointOf quarter p
+    go true e = let l = eqb-true (wholePart p) 4096 e in whole-last wholeWave p l ∙ line-is 0 naught (lit< tt) ∙ sym (point-last quarter p l)
+    go false e =
+        let n = eqb-false (wholePart p) 4096 e in
+        whole-at wholeWave p (wholePart p) refl n ∙ line-is (wholePart p) _ (omega (arith, n)) ∙ sym (point-at quarter p (wholePart p) refl n)
+
+-- it is the sine, of every float
+pub whole-is : (u : Float) → wholeReading wholeWave u ≡ readingOf u
+whole-is u = go (within naught one u) refl
+  where
+    go : (t : Bool) → within naught one u ≡ t → wholeReading wholeWave u ≡ readingOf u
+    go true e = whole-inside wholeWave u e ∙ point-is (u ⊗ steps) (whole-at-most (u ⊗ steps) (points-in u (subst T (sym e) tt))) ∙ sym (reading-inside quarter u e)
+    go false e = whole-outside wholeWave u e ∙ sym (reading-outside quarter u e)

@@ -1,0 +1,43 @@
+-- The wave unfolded from the quarter: 01's a at each of its points, as a float. Of such a table a reading takes a at its point and b at the next, by 01's rule: "p = u*4096, i its whole part, f = p - i; i = 4096
+-- is read as i = 0, f = 0 .. The answer is (a + (b - a)*f)/2^30". Of the wave it is the reading of the quarter (proofs/Whole.antt). Definitions only.
+use mathlib.Core.Bool.{cond}
+use mathlib.Core.List.{List, [], _∷_, _++_}
+use mathlib.Core.Path.{_≡_}
+use Prim.Native.Nat.{ℕ, zero, suc, _+_, _/_, _%_}
+use lib.IntN.{pos}
+use lib.Dec.{eqb}
+use lib.ListN.{length, getD, take}
+use lib.Ieee.{Float, nan}
+use Rattle.floats.specs.Range.{within}
+use Rattle.floats.specs.Double.{_⊖_, _⊗_, naught, one}
+use Rattle.sine.specs.Table.{quarter}
+use Rattle.sine.specs.Sine.{steps, wholePart, float, startOf, lineOf}
+
+-- a at point i: "quadrants 2 and 3 are the negatives of 0 and 1, negated as whole numbers, so a zero reads as +0"
+abbrev pub levelOf : ℕ → Float
+levelOf i = float (startOf quarter (i / 1024) (i % 1024))
+
+-- at the first k points
+unfoldable pub levels : ℕ → List Float
+levels zero = []
+levels (suc k) = levels k ++ (levelOf k ∷ [])
+
+-- from point 0 to point 4096, where the wave begins again
+abbrev pub wholeWave : List Float
+wholeWave = levels 4097
+
+-- the first n are written in a table that has room for all. This serves the private functions that write them; no public statement cites it
+pub record Unfolded (n : ℕ) (wave : List Float) : Type 0 where
+  pub size : length wave ≡ 4097
+  pub points : take n wave ≡ levels n
+
+-- ---- the reading of a table W
+abbrev pub wholeLine : List Float → ℕ → Float → Float
+wholeLine W i f = lineOf (getD W i nan) (getD W (i + 1) nan) f
+
+unfoldable pub wholePointOf : List Float → Float → Float
+wholePointOf W p = let i = wholePart p in cond (eqb i 4096) (wholeLine W 0 naught) (wholeLine W i (p ⊖ float (pos i)))
+
+-- at u; +0 outside 0 to 1
+unfoldable pub wholeReading : List Float → Float → Float
+wholeReading W u = cond (within naught one u) (wholePointOf W (u ⊗ steps)) naught
