@@ -1,6 +1,8 @@
 -- What the proofs of this crate and of those above cite.
 -- one sample more, and a block run on
 pub mod Steps
+-- a block of any values, and of a lent table's
+pub mod Lent
 -- what the inner loops share
 pub mod Loops
 -- the ranges of what is made of radians

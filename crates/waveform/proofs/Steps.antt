@@ -10,14 +10,10 @@ use Rattle.floats.specs.Double.{_⊕_, _⊗_}
 use Rattle.waveform.specs.declared.Waveform.{Waveform}
 use Rattle.waveform.specs.Filled.{phaseFrom, valueAt, samplesFrom}
 
--- the phase and the samples of one turn more
+-- the phase of one turn more
 pub phase-more : (step p : Float) (k : ℕ) → phaseFrom step p (k + 1) ≡ phaseFrom step p k ⊕ step
 unfolding phaseFrom
 phase-more step p k = rw (add-one k) refl
-
-pub samples-more : (w : Waveform) (step scale p : Float) (k : ℕ) → samplesFrom w step scale p (k + 1) ≡ samplesFrom w step scale p k ++ (valueAt w step (phaseFrom step p k) ⊗ scale ∷ [])
-unfolding samplesFrom
-samples-more w step scale p k = rw (add-one k) refl
 
 -- as many as were asked for
 pub samples-length : (w : Waveform) (step scale p : Float) (k : ℕ) → length (samplesFrom w step scale p k) ≡ k

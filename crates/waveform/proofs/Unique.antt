@@ -8,7 +8,7 @@ use Rattle.answers.specs.declared.Value.{Value}
 use Rattle.waveform.specs.declared.Radians.{Radians}
 use Rattle.waveform.specs.declared.Waveform.{Waveform}
 use Rattle.waveform.specs.Waveform.{isWaveform, valueOf, sampleOf, normalOf, reduceOf, incrementOf, radians}
-use Rattle.waveform.specs.Filled.{Filled, valueAt}
+use Rattle.waveform.specs.Filled.{Filled, FilledBy, valueAt, valueIn}
 
 pub sample-unique : (w : Waveform) (phase dt : Float) (r t : Value) → r ≡ sampleOf w phase dt → t ≡ sampleOf w phase dt → r ≡ t
 sample-unique w phase dt r t p q = p ∙ sym q
@@ -34,3 +34,7 @@ increment-unique frequency rate r t p q = p ∙ sym q
 -- every sample, and the phase
 pub fill-unique : (w : Waveform) (start step scale : Float) (before a b : List Float) (r t : Radians) → Filled w start step scale before a r → Filled w start step scale before b t → (a ≡ b) × (r ≡ t)
 fill-unique w start step scale before a b r t p q = (p .samples ∙ sym (q .samples), p .phase ∙ sym (q .phase))
+
+pub fill-in-unique : (wave : List Float) (w : Waveform) (start step scale : Float) (before a b : List Float) (r t : Radians) → FilledBy (valueIn wave w step) start step scale before a r
+    → FilledBy (valueIn wave w step) start step scale before b t → (a ≡ b) × (r ≡ t)
+fill-in-unique wave w start step scale before a b r t p q = (p .samples ∙ sym (q .samples), p .phase ∙ sym (q .phase))

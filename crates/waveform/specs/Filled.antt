@@ -5,8 +5,10 @@ use Prim.Native.Nat.{ℕ, zero, suc}
 use lib.ListN.{length}
 use lib.Ieee.{Float}
 use Rattle.floats.specs.Double.{_⊕_, _⊗_}
+use Rattle.sine.specs.Whole.{wholeReading}
 use Rattle.waveform.specs.declared.Radians.{Radians}
 use Rattle.waveform.specs.declared.Waveform.{Waveform}
+use Rattle.waveform.specs.declared.Waveform.the-variants.{Sine, Square, Sawtooth, Triangle, Pulse}
 use Rattle.waveform.specs.Waveform.{valueOf, normalOf, invTau, radians}
 
 -- the phase before sample k, from p before sample 0
@@ -27,4 +29,22 @@ samplesFrom w step scale p (suc k) = samplesFrom w step scale p k ++ (valueAt w 
 -- every sample written, and the phase after the last
 pub record Filled (w : Waveform) (p step scale : Float) (before after : List Float) (r : Radians) : Type 0 where
   pub samples : after ≡ samplesFrom w step scale p (length before)
+  pub phase : r ≡ radians (phaseFrom step p (length before))
+
+-- ---- the same of any values: a sine may be read from a lent table W, and every other waveform has its own value
+unfoldable pub valueIn : List Float → Waveform → Float → Float → Float
+valueIn W Sine step p = wholeReading W (normalOf p)
+valueIn W Square step p = valueAt Square step p
+valueIn W Sawtooth step p = valueAt Sawtooth step p
+valueIn W Triangle step p = valueAt Triangle step p
+valueIn W (Pulse duty) step p = valueAt (Pulse duty) step p
+
+-- the first k samples, of the value at each phase
+unfoldable pub samplesBy : (Float → Float) → Float → Float → Float → ℕ → List Float
+unfolding phaseFrom
+samplesBy value step scale p zero = []
+samplesBy value step scale p (suc k) = samplesBy value step scale p k ++ (value (phaseFrom step p k) ⊗ scale ∷ [])
+
+pub record FilledBy (value : Float → Float) (p step scale : Float) (before after : List Float) (r : Radians) : Type 0 where
+  pub samples : after ≡ samplesBy value step scale p (length before)
   pub phase : r ≡ radians (phaseFrom step p (length before))

@@ -7,7 +7,7 @@ ghost use lib.ListN.{length};
 ghost use lib.Ieee.{binary64, ofBits, rem, lt, le};
 ghost use lib.Ieee.Positive.{num, den};
 ghost use Rattle.waveform.specs.Waveform.{isWaveform, valueOf, sampleOf, normalOf, reduceOf, incrementOf, radians, tau, invTau};
-ghost use Rattle.waveform.specs.Filled.{Filled, valueAt};
+ghost use Rattle.waveform.specs.Filled.{Filled, FilledBy, valueAt, valueIn};
 ghost use Rattle.waveform.specs.declared.Waveform.the-variants.{Sine, Square, Sawtooth, Triangle, Pulse};
 ghost use Rattle.floats.specs.Double.{_⊗_};
 use answers::Refusal;
@@ -240,6 +240,43 @@ fn fill_pulse(
     while i < out.len() {
         let t = normalised(Radians(phase));
         out[i] = polyblep::pulse(t, dt, duty) * scale;
+        phase = phase + step.0;
+        i += 1;
+    }
+    Radians(phase)
+}
+
+// `fill` with a table of the wave that is lent, which a sine reads; of the whole wave it writes the same bits.
+pub fn fill_in(
+    wave: &[f64; 4097],
+    out: &mut [f64],
+    waveform: Waveform,
+    start: Radians,
+    step: Radians,
+    scale: f64,
+) -> Radians
+    ensures { λ r. ⌜ FilledBy (valueIn (now (wave .entry)) waveform (step .0)) (start .0) (step .0) scale (now (out .entry)) (now (out .exit)) r ⌝ }
+{
+    if let Waveform::Sine = waveform {
+        return fill_wave(wave, out, start, step, scale);
+    }
+    fill(out, waveform, start, step, scale)
+}
+
+fn fill_wave(
+    wave: &[f64; 4097],
+    out: &mut [f64],
+    start: Radians,
+    step: Radians,
+    scale: f64,
+) -> Radians
+    ensures { λ r. ⌜ FilledBy (valueIn (now (wave .entry)) Sine (step .0)) (start .0) (step .0) scale (now (out .entry)) (now (out .exit)) r ⌝ }
+{
+    let mut phase = start.0;
+    let mut i = 0;
+    while i < out.len() {
+        let t = normalised(Radians(phase));
+        out[i] = sine::whole_reading(wave, t) * scale;
         phase = phase + step.0;
         i += 1;
     }

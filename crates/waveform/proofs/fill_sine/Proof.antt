@@ -7,12 +7,13 @@ use lib.ListN.{length}
 use Rattle.sine.specs.Table.{quarter}
 use Rattle.waveform.specs.declared.Waveform.the-variants.{Sine}
 use Rattle.waveform.specs.Waveform.{valueOf}
+use Rattle.waveform.specs.Filled.{valueAt}
 use Rattle.waveform.proofs.Loops.{Upto, begins, goes-on, ends}
 use Rattle.waveform.proofs.fill_sine.Statement.{statement}
 use Rattle.waveform.proofs.fill_sine.Tie as tie
 
 abbrev Inv-loop : tie.InvT-loop
-Inv-loop out₀ step scale wave angle₀ i₀ out angle i = Upto Sine (step .0) scale angle₀ out₀ out angle i × (wave ≡ quarter)
+Inv-loop out₀ step scale wave angle₀ i₀ out angle i = Upto (valueAt Sine (step .0)) (step .0) scale angle₀ out₀ out angle i × (wave ≡ quarter)
 
 abbrev μ-loop : tie.MeasureT-loop
 μ-loop out₀ step scale wave angle₀ i₀ out angle i = length out₀ - i

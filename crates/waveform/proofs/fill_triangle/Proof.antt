@@ -6,12 +6,13 @@ use native.Mathlib.Omega.{arith}
 use lib.ListN.{length}
 use Rattle.waveform.specs.declared.Waveform.the-variants.{Triangle}
 use Rattle.waveform.specs.Waveform.{valueOf}
+use Rattle.waveform.specs.Filled.{valueAt}
 use Rattle.waveform.proofs.Loops.{Upto, begins, goes-on, ends}
 use Rattle.waveform.proofs.fill_triangle.Statement.{statement}
 use Rattle.waveform.proofs.fill_triangle.Tie as tie
 
 abbrev Inv-loop : tie.InvT-loop
-Inv-loop out₀ step dt scale phase₀ i₀ out phase i = Upto Triangle (step .0) scale phase₀ out₀ out phase i
+Inv-loop out₀ step dt scale phase₀ i₀ out phase i = Upto (valueAt Triangle (step .0)) (step .0) scale phase₀ out₀ out phase i
 
 abbrev μ-loop : tie.MeasureT-loop
 μ-loop out₀ step dt scale phase₀ i₀ out phase i = length out₀ - i
