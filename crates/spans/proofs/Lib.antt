@@ -5,8 +5,9 @@ pub mod Offsets
 pub mod Acting
 -- a span: the waveform's inner loop and the envelope's pass over it give its samples
 pub mod Sounding
--- a turn of the loop over the spans
+-- a turn of a loop over the spans, and what the two loops share
 pub mod Turns
+pub mod Loops
 -- the second pass: a value more, a step within a run, a stage that stands, the rest of a part
 pub mod Shaping
 -- cut anywhere: a walk of j samples and then one of k are one of j + k

@@ -51,15 +51,26 @@ module _ (g : Settings) (v : State) where
   shaped-is n (suc k) h =
       rw (shaped-is n k (omega arith), advances-is k, sample-at (g .waveform) (paceOf g v) one (v .phase .0) k n (omega arith), times-one-is (phaseFrom (paceOf g v) (v .phase .0) k)) refl
 
-  -- the two passes over a part
-  pub sounding : (step : Radians) (k : Adsr) (t : Float) (xs ys zs : List Float) (r : Radians) (e : Envelope) → step ≡ radians (paceOf g v) → k ≡ clampedOf (g .adsr) → t ≡ sampleTimeOf (g .rate)
-      → Filled (g .waveform) (v .phase .0) (step .0) one xs ys r → Shaped k t (v .envelope) (v .velocity) ys zs e
-      → Sounded g v xs zs (record { phase = r; envelope = e; frequency = v .frequency; velocity = v .velocity; keys = v .keys; acted = v .acted })
-  sounding step k t xs ys zs r e es ek et f h =
-      let fs : ys ≡ values (length xs) = rw es at (f .samples) in
-      let fp : r ≡ radians (phaseFrom (paceOf g v) (v .phase .0) (length xs)) = rw es at (f .phase) in
-      let l : length ys ≡ length xs = ap length fs ∙ samples-length (g .waveform) (paceOf g v) one (v .phase .0) (length xs) in
+  -- the second pass over what the first wrote
+  pub sounding : (k : Adsr) (t : Float) (ys zs : List Float) (r : Radians) (e : Envelope) → k ≡ clampedOf (g .adsr) → t ≡ sampleTimeOf (g .rate)
+      → Filled (g .waveform) (v .phase .0) (paceOf g v) one ys ys r → Shaped k t (v .envelope) (v .velocity) ys zs e
+      → Sounded g v ys zs (record { phase = r; envelope = e; frequency = v .frequency; velocity = v .velocity; keys = v .keys; acted = v .acted })
+  sounding k t ys zs r e ek et f h =
       record {
-        samples = h .samples ∙ rw (l, fs, ek, et) (shaped-is (length xs) (length xs) (omega arith));
-        state = rw (fp, h .envelope, l, ek, et) (sym (advances-is (length xs)));
+        samples = h .samples ∙ rw (ek, et) (ap (λ (xs : List Float). shapedTo (clampedOf (g .adsr)) (sampleTimeOf (g .rate)) (v .envelope) (v .velocity) xs (length ys)) (f .samples) ∙ shaped-is (length ys) (length ys) (omega arith));
+        state = rw (f .phase, h .envelope, ek, et) (sym (advances-is (length ys)));
       }
+
+  -- the first pass, over what stood there before
+  module _ (step : Radians) (xs ys : List Float) (r : Radians) (es : step ≡ radians (paceOf g v)) (f : Filled (g .waveform) (v .phase .0) (step .0) one xs ys r) where
+    full : length ys ≡ length xs
+    full = ap length (f .samples) ∙ samples-length (g .waveform) (step .0) one (v .phase .0) (length xs)
+
+    pub written : Filled (g .waveform) (v .phase .0) (paceOf g v) one ys ys r
+    written =
+        let fs : ys ≡ values (length xs) = rw es at (f .samples) in
+        let fp : r ≡ radians (phaseFrom (paceOf g v) (v .phase .0) (length xs)) = rw es at (f .phase) in
+        record { samples = fs ∙ ap values (sym full); phase = fp ∙ ap (λ (k : ℕ). radians (phaseFrom (paceOf g v) (v .phase .0) k)) (sym full) }
+
+    pub both : (zs : List Float) (u : State) → Sounded g v ys zs u → Sounded g v xs zs u
+    both zs u h = record { samples = h .samples ∙ ap (plain g v) full; state = h .state ∙ ap (advances g v) full }

@@ -7,6 +7,10 @@ ghost use Prim.Native.Nat.{_+_, _-_, _%_, _<_, _≤_};
 ghost use lib.ListN.{length};
 ghost use Rattle.score.specs.Record.{countOf};
 ghost use Rattle.envelope.specs.Stages.{grows};
+ghost use Rattle.floats.specs.Double.{one};
+ghost use Rattle.sine.specs.Whole.{wholeWave};
+ghost use Rattle.waveform.specs.Filled.{Filled};
+ghost use Rattle.state.specs.State.{paceOf};
 ghost use Rattle.spans.specs.Plain.{Sounded, Shaped};
 ghost use Rattle.spans.specs.Runs.{levelOf, endsAt, Onward};
 ghost use Rattle.spans.specs.Walk.{standsAt, beginsAt, actFrom, reducedAt, begunFrom, Played, SpanEnd, BlockEnd};
@@ -15,9 +19,14 @@ use envelope::Envelope;
 use envelope::EnvelopeStage;
 use state::Settings;
 use state::State;
+use waveform::Radians;
+use waveform::Waveform;
 
 // How many samples between two reductions where no record stands.
 const BLOCK: u64 = 64;
+
+// How many samples of a sine pay for the whole wave.
+const LONG: usize = 1024;
 
 // A release ends at this level, as in envelope.
 const FLOOR: f64 = 0.000001;
@@ -34,8 +43,27 @@ struct Reach {
     count: usize,
 }
 
-// Plays the samples of a part that begins at a position, and hands back the place after the last.
+// Plays the samples of a part that begins at a position, and hands back the place after the last. Where many are of a
+// sine, the wave is unfolded once for all of them; the samples are the same.
 pub fn play(
+    settings: Settings,
+    score: &[u8],
+    place: Place,
+    position: u64,
+    part: &mut [f64],
+) -> Place
+    ensures { λ r. ⌜ Played settings (now (score .entry)) position place (now (part .entry)) (now (part .exit)) r ⌝ }
+{
+    let waveform = settings.waveform;
+    if let Waveform::Sine = waveform {
+        if LONG <= part.len() {
+            return play_long(settings, score, place, position, part);
+        }
+    }
+    play_short(settings, score, place, position, part)
+}
+
+fn play_short(
     settings: Settings,
     score: &[u8],
     place: Place,
@@ -51,6 +79,29 @@ pub fn play(
         let next = begun.next;
         let end = span_end(score, next, position, i, part.len());
         let state = sound(settings, begun.state, &mut part[i..end]);
+        at = Place { state, next };
+        i = end;
+    }
+    at
+}
+
+fn play_long(
+    settings: Settings,
+    score: &[u8],
+    place: Place,
+    position: u64,
+    part: &mut [f64],
+) -> Place
+    ensures { λ r. ⌜ Played settings (now (score .entry)) position place (now (part .entry)) (now (part .exit)) r ⌝ }
+{
+    let wave = sine::whole_wave();
+    let mut at = place;
+    let mut i = 0;
+    while i < part.len() {
+        let begun = begin(score, at, position, i);
+        let next = begun.next;
+        let end = span_end(score, next, position, i, part.len());
+        let state = sound_in(&wave, settings, begun.state, &mut part[i..end]);
         at = Place { state, next };
         i = end;
     }
@@ -159,11 +210,31 @@ fn sound(settings: Settings, state: State, part: &mut [f64]) -> State
     ensures { λ r. ⌜ Sounded settings state (now (part .entry)) (now (part .exit)) r ⌝ }
 {
     let waveform = settings.waveform;
-    let adsr = settings.adsr;
     let start = state.phase;
-    let keys = state.keys;
     let step = waveform::increment(state.frequency, settings.rate);
     let phase = waveform::fill(part, waveform, start, step, 1.0);
+    struck(settings, state, phase, part)
+}
+
+// The same with the whole wave lent.
+fn sound_in(wave: &[f64; 4097], settings: Settings, state: State, part: &mut [f64]) -> State
+    requires { ⌜ now wave ≡ wholeWave ⌝ }
+    ensures { λ r. ⌜ Sounded settings state (now (part .entry)) (now (part .exit)) r ⌝ }
+{
+    let waveform = settings.waveform;
+    let start = state.phase;
+    let step = waveform::increment(state.frequency, settings.rate);
+    let after = waveform::fill_in(wave, part, waveform, start, step, 1.0);
+    struck(settings, state, after, part)
+}
+
+// What the inner loop wrote, times level and velocity, and the state after it.
+fn struck(settings: Settings, state: State, phase: Radians, part: &mut [f64]) -> State
+    requires { ⌜ Filled (settings .waveform) (state .phase .0) (paceOf settings state) one (now part) (now part) phase ⌝ }
+    ensures { λ r. ⌜ Sounded settings state (now (part .entry)) (now (part .exit)) r ⌝ }
+{
+    let adsr = settings.adsr;
+    let keys = state.keys;
     let envelope = shape(
         envelope::clamped(adsr),
         envelope::sample_time(settings.rate),

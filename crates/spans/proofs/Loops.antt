@@ -1,0 +1,50 @@
+-- What the two loops over the spans share: how far one has come, that it begins, goes on by a span and ends so. Assumes nothing.
+use mathlib.Core.Path.{_≡_, refl, sym, ap, _∙_}
+use mathlib.Core.List.{List}
+use Prim.Native.Nat.{ℕ, _+_, _-_, _≤_}
+use native.Mathlib.Omega.{arith}
+use lib.ListN.{length, take}
+use lib.Seq.{take-all}
+use borrow.Rule.Slice.PartMut.{putMid, midOf}
+use lib.Ieee.{Float}
+use Rattle.state.specs.declared.Settings.{Settings}
+use Rattle.state.specs.declared.State.{State}
+use Rattle.spans.specs.declared.Place.{Place}
+use Rattle.spans.specs.Plain.{Sounded}
+use Rattle.spans.specs.Walk.{placeOf, begunFrom, placeFrom, playedFrom, SpanEnd, Played}
+use Rattle.spans.proofs.Turns.{turn-length, turn-stands, turn-heard}
+
+module _ (g : Settings) (s : List ℕ) (n : ℕ) (p : Place) (before : List Float) where
+  -- the first i samples are written over what stood before, and the place stands before sample i
+  pub record Upto (part : List Float) (at : Place) (i : ℕ) : Type 0 where
+    pub size : length part ≡ length before
+    pub within : i ≤ length part
+    pub place : at ≡ placeFrom g s n p i
+    pub samples : take i part ≡ playedFrom g s n p i
+
+  pub begins : Upto before p 0
+  unfolding placeFrom playedFrom
+  begins = record { size = refl; within = omega arith; place = refl; samples = refl }
+
+  -- the span to e is begun at b, and its samples ys come back with the state u
+  pub goes-on : (part : List Float) (at : Place) (i : ℕ) (b : Place) (e : ℕ) (ys : List Float) (u : State) → Upto part at i → b ≡ begunFrom s (n + i) at → SpanEnd s (b .next) n i (length part) e
+      → Sounded g (b .state) (midOf i (e - i) part) ys u → Upto (putMid i (e - i) part ys) (placeOf u (b .next)) e
+  goes-on part at i b e ys u v h z x =
+      let here : b ≡ begunFrom s (n + i) (placeFrom g s n p i) = h ∙ ap (begunFrom s (n + i)) (v .place) in
+      let z' = rw here at z in
+      let x' = rw here at x in
+      let t = turn-length g s n p i (length part) e z' part ys u refl (v .samples) x' in
+      record {
+        size = t ∙ v .size;
+        within = rw t (z .within);
+        place = rw here (turn-stands g s n p i (length part) e z' part ys u refl (v .samples) x');
+        samples = turn-heard g s n p i (length part) e z' part ys u refl (v .samples) x';
+      }
+
+  pub ends : (part : List Float) (at : Place) (i : ℕ) → Upto part at i → length part ≤ i → Played g s n p before part at
+  ends part at i v h =
+      let e : i ≡ length part = omega (arith, v .within) in
+      record {
+        samples = rw (← v .size, ← e) (sym (take-all i part h) ∙ v .samples);
+        place = rw (← v .size, ← e) (v .place);
+      }
