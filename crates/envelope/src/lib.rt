@@ -13,7 +13,7 @@ use answers::Answer;
 use answers::Refusal;
 
 // A release ends at this level.
-const FLOOR: f64 = 0.000001;
+pub const FLOOR: f64 = 0.000001;
 
 pub enum EnvelopeStage {
     Idle,

@@ -9,7 +9,7 @@ use Rattle.score.specs.declared.Verdict.{Verdict}
 use Rattle.score.specs.declared.Difference.{Difference}
 use Rattle.score.specs.Record.{countOf, positionAt, recordAt, encodeOf}
 use Rattle.score.specs.Score.{verdictOf, answerOf}
-use Rattle.score.specs.Below.{countBelow, partsAt}
+use Rattle.score.specs.Below.{partsAt}
 use Rattle.score.specs.Apart.{firstIndex, differenceOf}
 
 pub check-unique : (s : List ℕ) (a b : Answer) → a ≡ answerOf (verdictOf s) → b ≡ answerOf (verdictOf s) → a ≡ b
@@ -29,9 +29,6 @@ record-at-unique s i a b p q = p ∙ sym q
 
 pub encode-unique : (r : Record) (a b : List ℕ) → a ≡ encodeOf r → b ≡ encodeOf r → a ≡ b
 encode-unique r a b p q = p ∙ sym q
-
-pub count-below-unique : (s : List ℕ) (n a b : ℕ) → a ≡ countBelow s n → b ≡ countBelow s n → a ≡ b
-count-below-unique s n a b p q = p ∙ sym q
 
 pub parts-at-unique : (s : List ℕ) (k n : ℕ) (a b : Bool) → a ≡ partsAt s k n → b ≡ partsAt s k n → a ≡ b
 parts-at-unique s k n a b p q = p ∙ sym q

@@ -5,7 +5,7 @@ ghost use mathlib.Core.Bool.{true};
 ghost use Prim.Native.Nat.{_<_, _≤_, min};
 ghost use Rattle.score.specs.Record.{byteAt, wordOf, wordAt, markAt, restAt, positionAt, kindOf, kindByte, recordAt, encodeOf, countOf};
 ghost use Rattle.score.specs.Score.{mostOf, markRight, kindRight, fieldsRight, allRight, inOrder, verdictAt, verdictOf, answerOf};
-ghost use Rattle.score.specs.Below.{countBelow, lastBelow, partsAt};
+ghost use Rattle.score.specs.Below.{lastBelow, partsAt};
 ghost use Rattle.score.specs.Apart.{sameAt, firstIndex, differenceOf};
 use answers::Answer;
 use answers::Refusal;
@@ -119,23 +119,6 @@ pub fn encode(given: Record) -> [u8; 10]
     let c = (p / 65536 % 256) as u8;
     let d = (p / 16777216 % 256) as u8;
     [0x56, 0x4E, a, b, c, d, k, given.note, given.velocity, 0]
-}
-
-// How many records have a position below p.
-pub fn count_below(score: &[u8], p: u64) -> usize
-    ensures { λ r. ⌜ r ≡ countBelow (now (score .entry)) p ⌝ }
-{
-    let n = count(score);
-    let mut i = 0;
-    let mut k = 0;
-    while i < n {
-        let q = position(score, i) as u64;
-        if q < p {
-            k += 1;
-        }
-        i += 1;
-    }
-    k
 }
 
 // Whether the first k records end below p and the next, if there is one, does not: on a score, whether k records are below.

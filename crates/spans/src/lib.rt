@@ -17,6 +17,7 @@ ghost use Rattle.spans.specs.Walk.{standsAt, beginsAt, actFrom, reducedA
 use envelope::Adsr;
 use envelope::Envelope;
 use envelope::EnvelopeStage;
+use envelope::FLOOR;
 use state::Settings;
 use state::State;
 use waveform::Radians;
@@ -27,9 +28,6 @@ const BLOCK: u64 = 64;
 
 // How many samples of a sine pay for the whole wave.
 const LONG: usize = 1024;
-
-// A release ends at this level, as in envelope.
-const FLOOR: f64 = 0.000001;
 
 // The state before a sample is begun, and the first record that has not acted.
 pub struct Place {
