@@ -115,9 +115,6 @@ pub fn saw(phase: f64, dt: f64) -> f64
 pub fn square(phase: f64, dt: f64) -> f64
     ensures { λ r. ⌜ r ≡ squareOf phase dt ⌝ }
 {
-    if clear_of_half(phase, dt) {
-        return step(phase, 0.5) + 0.0 - 0.0;
-    }
     let rise = blep(phase, dt);
     let fall = blep(fract(phase + 0.5), dt);
     step(phase, 0.5) + rise - fall
@@ -126,9 +123,6 @@ pub fn square(phase: f64, dt: f64) -> f64
 pub fn pulse(phase: f64, dt: f64, duty: f64) -> f64
     ensures { λ r. ⌜ r ≡ pulseOf phase dt duty ⌝ }
 {
-    if clear_of_duty(phase, dt, duty) {
-        return step(phase, duty) + 0.0 - 0.0;
-    }
     let rise = blep(phase, dt);
     let fall = blep(fract(phase - duty + 1.0), dt);
     step(phase, duty) + rise - fall
@@ -137,12 +131,37 @@ pub fn pulse(phase: f64, dt: f64, duty: f64) -> f64
 pub fn triangle(phase: f64, dt: f64) -> f64
     ensures { λ r. ⌜ r ≡ triangleOf phase dt ⌝ }
 {
-    if clear_of_half(phase, dt) {
-        return ramp(phase) + 8.0 * 0.0 - 8.0 * 0.0;
-    }
     let low = blamp(phase, dt);
     let high = blamp(fract(phase + 0.5), dt);
     ramp(phase) + 8.0 * low - 8.0 * high
+}
+
+// The same three with a shortcut where no correction is due. They are for loops: what dt alone decides is then asked once.
+pub fn swift_square(phase: f64, dt: f64) -> f64
+    ensures { λ r. ⌜ r ≡ squareOf phase dt ⌝ }
+{
+    if clear_of_half(phase, dt) {
+        return step(phase, 0.5) + 0.0 - 0.0;
+    }
+    square(phase, dt)
+}
+
+pub fn swift_pulse(phase: f64, dt: f64, duty: f64) -> f64
+    ensures { λ r. ⌜ r ≡ pulseOf phase dt duty ⌝ }
+{
+    if clear_of_duty(phase, dt, duty) {
+        return step(phase, duty) + 0.0 - 0.0;
+    }
+    pulse(phase, dt, duty)
+}
+
+pub fn swift_triangle(phase: f64, dt: f64) -> f64
+    ensures { λ r. ⌜ r ≡ triangleOf phase dt ⌝ }
+{
+    if clear_of_half(phase, dt) {
+        return ramp(phase) + 8.0 * 0.0 - 8.0 * 0.0;
+    }
+    triangle(phase, dt)
 }
 
 // Whether the phase and the one half a cycle on are both away from a step. A no says nothing: two stretches are looked at,

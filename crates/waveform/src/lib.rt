@@ -187,7 +187,7 @@ fn fill_square(out: &mut [f64], start: Radians, step: Radians, dt: f64, scale: f
     let mut i = 0;
     while i < out.len() {
         let t = normalised(Radians(phase));
-        out[i] = polyblep::square(t, dt) * scale;
+        out[i] = polyblep::swift_square(t, dt) * scale;
         phase = phase + step.0;
         i += 1;
     }
@@ -217,7 +217,7 @@ fn fill_triangle(out: &mut [f64], start: Radians, step: Radians, dt: f64, scale:
     let mut i = 0;
     while i < out.len() {
         let t = normalised(Radians(phase));
-        out[i] = polyblep::triangle(t, dt) * scale;
+        out[i] = polyblep::swift_triangle(t, dt) * scale;
         phase = phase + step.0;
         i += 1;
     }
@@ -239,7 +239,7 @@ fn fill_pulse(
     let mut i = 0;
     while i < out.len() {
         let t = normalised(Radians(phase));
-        out[i] = polyblep::pulse(t, dt, duty) * scale;
+        out[i] = polyblep::swift_pulse(t, dt, duty) * scale;
         phase = phase + step.0;
         i += 1;
     }

@@ -23,8 +23,8 @@ loop-holds c = begins _ _ _ _ _
 normalised-requires : tie.Need-normalised-requires Inv-loop μ-loop
 normalised-requires c κs = search needs
 
-pulse-requires : tie.Need-pulse-requires Inv-loop μ-loop
-pulse-requires c κs = search needs
+swift-pulse-requires : tie.Need-swift-pulse-requires Inv-loop μ-loop
+swift-pulse-requires c κs = search needs
 
 mul-out : tie.Need-mul-out Inv-loop μ-loop
 mul-out c = search needs
@@ -43,7 +43,7 @@ unfolding valueOf
 loop-again c =
     let turn = c .before .before in
     let at = turn .before .before in
-    goes-on _ _ _ _ _ _ _ _ _ (at .loop .inv) (turn .before .loop-test .taken) (rw (c .before .pulse .ensures, turn .normalised .ensures, at .before .before .pre) refl)
+    goes-on _ _ _ _ _ _ _ _ _ (at .loop .inv) (turn .before .loop-test .taken) (rw (c .before .swift-pulse .ensures, turn .normalised .ensures, at .before .before .pre) refl)
 
 same-length : tie.Need-same-length Inv-loop μ-loop
 same-length c = c .before .loop .inv .size
@@ -59,7 +59,7 @@ fill-pulse-spec =
     μ-loop
     loop-holds
     normalised-requires
-    pulse-requires
+    swift-pulse-requires
     mul-out
     slice-write-out
     add-i
