@@ -51,7 +51,7 @@ module _ (g : Settings) (t : List ℕ) (v : State) (p : ℕ) (part : List Float)
   call = continueOf g t v p part
 
   -- what a call answers is what the order of refusals gives
-  answer-is : call .result .answer ≡ continueAnswer g t v p n
+  pub answer-is : call .result .answer ≡ continueAnswer g t v p n
   unfolding continueOf
   answer-is = go (continueAnswer g t v p n)
     where
@@ -70,7 +70,7 @@ module _ (g : Settings) (t : List ℕ) (v : State) (p : ℕ) (part : List Float)
   unfolding continueOf
   by-answer a e = rw e refl
 
-  call-leaves : call .result .answer ≡ Done n → call ≡ leavesPart (says (Done n) (stateFrom g t p v n)) (samplesFrom g t p v n)
+  pub call-leaves : call .result .answer ≡ Done n → call ≡ leavesPart (says (Done n) (stateFrom g t p v n)) (samplesFrom g t p v n)
   call-leaves e = by-answer (Done n) (sym answer-is ∙ e)
 
   -- under good settings, in time, with an accepted score, the given state alone counts
