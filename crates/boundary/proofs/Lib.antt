@@ -1,0 +1,15 @@
+-- What was ordered of the calls together, of the calls that C makes, in the order to read it.
+-- number 0 in a word is an answer that is done
+pub mod Zero
+-- a code's waveform
+pub mod Codes
+-- a continuing call on the words of a state is that call on the state
+pub mod Call
+-- so a chain of them in words tells what the chain on states leaves
+pub mod Tells
+-- parts continued in words one after the other are one render
+pub mod DeskChain
+-- any number of edits leave what one render of the last score leaves
+pub mod DeskEdits
+-- a chain and edits that meet the premises
+pub mod Example

@@ -1,0 +1,90 @@
+-- A chain of continuing calls in words tells what the chain on states leaves. At each call the words are those of the state that a render has come to, and are read as it; so number 0 in every word is 0 from every call on the
+-- states, and then the parts are those of that chain and the words left last those of its end state. Assumes nothing.
+use mathlib.Core.Path.{_≡_, refl, sym, ap, subst, _∙_}
+use mathlib.Core.List.{List, [], _∷_, _++_, map}
+use Prim.Native.Nat.{ℕ, _+_}
+use lib.Dec.{T}
+use lib.ListN.{length}
+use lib.Ieee.{Float, binary64, fits}
+use Rattle.answers.specs.declared.Answer.the-variants.{Done}
+use Rattle.envelope.specs.declared.Adsr.{Adsr}
+use Rattle.score.specs.declared.Verdict.the-variants.{Accepted}
+use Rattle.score.specs.Score.{verdictOf}
+use Rattle.score.proofs.Marks.{refusals}
+use Rattle.shelf.specs.Shelf.{entryOf}
+use Rattle.shelf.proofs.There.{encode-decode}
+use Rattle.state.specs.declared.Settings.{Settings}
+use Rattle.state.specs.declared.State.{State}
+use Rattle.state.specs.State.{freshOf}
+use Rattle.state.specs.Heart.{stateFrom, samplesFrom}
+use Rattle.state.proofs.Limits.{fresh-is-state}
+use Rattle.render.specs.Calls.{continueOf}
+use Rattle.demands.specs.Chain.{Step, ChainOutcome, chainFrom, doneAll, AllDone, Grows, NoneBelow}
+use Rattle.demands.proofs.Honest.{fresh-fitting, honest}
+use Rattle.demands.proofs.Link.{PassedCall, call-passed, Reached, acted-is, none-below, goes-on, after, onward, chain-step, first-done, rest-done, all-done}
+use Rattle.desk.specs.Packed.{packedOf}
+use Rattle.boundary.specs.WordsChain.{WordsOutcome, wordsChainFrom, AllZero}
+use Rattle.boundary.proofs.Codes.{under, HasWave}
+use Rattle.boundary.proofs.Call.{Read, zero-whole, words-step}
+
+module _ (rate code : ℕ) (duty : Float) (k : Adsr) (is : HasWave rate duty k code) (sus : T (fits binary64 (k .sustain))) where
+  abbrev g : Settings
+  g = under rate duty k code
+
+  abbrev inWords : State → ℕ → List Step → WordsOutcome
+  inWords v p xs = wordsChainFrom rate code duty k (entryOf v) p xs
+
+  -- what stands at v
+  pub record Stands (s : List ℕ) (p : ℕ) (v : State) : Type 0 where
+    pub records : ℕ
+    pub accepted : verdictOf s ≡ Accepted records
+    pub reached : Reached g s p v
+    pub read : Read v
+
+  -- stands again after the first call, where that is done
+  stands-on : (s : List ℕ) (p : ℕ) (v : State) (x : Step) (xs : List Step) → Stands s p v → Grows s (x ∷ xs) → continueOf g (x .score) v p (x .part) .result .answer ≡ Done (length (x .part))
+      → Stands (x .score) (onward g v p x xs) (after g v p x xs)
+  stands-on s p v x xs h grow e =
+      let t = x .score in
+      let n = length (x .part) in
+      let q : PassedCall g t v p n = call-passed g t v p (x .part) e in
+      let m = h .records in
+      let b : verdictOf t ≡ Accepted (q .records) = q .accepted in
+      let f : NoneBelow s t p = none-below s t m (q .records) (h .accepted) b (grow .0) p (sym (q .acted) ∙ acted-is s t m (q .records) (h .accepted) b (grow .0) p g v (h .reached)) in
+      let r : Reached g t (p + n) (after g v p x xs) = goes-on s t m (q .records) (h .accepted) b (grow .0) p g v (h .reached) f n in
+      record { records = q .records; accepted = b; reached = r; read = subst Read (sym r) (honest g (q .settings) sus t (q .records) b (p + n)) }
+
+  -- number 0 in every word is 0 from every call on the states
+  pub zero-all : (xs : List Step) (s : List ℕ) (p : ℕ) (v : State) → Stands s p v → Grows s xs → AllZero (inWords v p xs .said) → AllDone g v p xs
+  unfolding chainFrom wordsChainFrom
+  zero-all [] s p v h grow z = refl
+  zero-all (x ∷ xs) s p v h grow z =
+      let e = zero-whole rate code duty k is v (h .read) p (x .score) (x .part) (z .0) in
+      let y : AllZero (inWords (after g v p x xs) (onward g v p x xs) xs .said) = subst (λ (o : WordsOutcome). AllZero (o .said)) (words-step rate code duty k is v (h .read) p x xs e) z .1 in
+      all-done g v p x xs e (zero-all xs (x .score) (onward g v p x xs) (after g v p x xs) (stands-on s p v x xs h grow e) (grow .1) y)
+
+  -- and then the words tell what the chain on the states leaves
+  pub record Tells (xs : List Step) (c : ChainOutcome) (o : WordsOutcome) : Type 0 where
+    pub said : o .said ≡ map packedOf (doneAll xs)
+    pub heard : o .heard ≡ c .heard
+    pub stored : o .stored ≡ entryOf (c .state)
+
+  pub tells : (xs : List Step) (s : List ℕ) (p : ℕ) (v : State) → Stands s p v → Grows s xs → AllDone g v p xs → Tells xs (chainFrom g v p xs) (inWords v p xs)
+  unfolding chainFrom wordsChainFrom
+  tells [] s p v h grow d = record { said = refl; heard = refl; stored = refl }
+  tells (x ∷ xs) s p v h grow d =
+      let n = length (x .part) in
+      let e = first-done g v p x xs d in
+      let rest = tells xs (x .score) (onward g v p x xs) (after g v p x xs) (stands-on s p v x xs h grow e) (grow .1) (rest-done g v p x xs d) in
+      let a = words-step rate code duty k is v (h .read) p x xs e in
+      let b = chain-step g v p x xs e in
+      record {
+        said = ap (λ (o : WordsOutcome). o .said) a ∙ ap (λ (l : List ℕ). packedOf (Done n) ∷ l) (rest .said);
+        heard = ap (λ (o : WordsOutcome). o .heard) a ∙ ap (λ (l : List Float). samplesFrom g (x .score) p v n ++ l) (rest .heard) ∙ sym (ap (λ (o : ChainOutcome). o .heard) b);
+        stored = ap (λ (o : WordsOutcome). o .stored) a ∙ rest .stored ∙ sym (ap (λ (o : ChainOutcome). entryOf (o .state)) b);
+      }
+
+  -- before the first score there is none, and the fresh state
+  pub stands-fresh : Stands [] 0 (freshOf 0)
+  unfolding stateFrom
+  stands-fresh = record { records = 0; accepted = refusals .nothing; reached = refl; read = encode-decode (freshOf 0) (fresh-fitting 0) fresh-is-state }

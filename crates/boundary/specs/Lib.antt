@@ -1,0 +1,2 @@
+pub mod WordsChain
+pub mod WordsEdits

@@ -1,0 +1,23 @@
+-- Edits as C makes them: gav_render of a score, then gav_rerender into each next one, on one output and shelf. desk/gavberin.h, of gav_rerender: "old, old_len: the score that out and shelf were rendered of"; "out, n; shelf, words:
+-- as for gav_render, holding what it or the last gav_rerender left". Definitions only.
+use mathlib.Core.List.{List, [], _∷_}
+use Prim.Native.Nat.{ℕ}
+use lib.Ieee.{Float}
+use Rattle.envelope.specs.declared.Adsr.{Adsr}
+use Rattle.desk.specs.Desk.{Outcome, choiceOf, renderFor, rerenderFor}
+use Rattle.boundary.specs.WordsChain.{WordsOutcome}
+
+-- a call, and the rest after it: what the rest leaves stands in the same buffers
+abbrev pub andOver : Outcome → WordsOutcome → WordsOutcome
+andOver c rest = record { said = c .said ∷ rest .said; heard = rest .heard; stored = rest .stored }
+
+-- from what stands in the output and the shelf, and the score that it was made of
+unfoldable pub wordsEditsFrom : ℕ → ℕ → Float → Adsr → List ℕ → List (List ℕ) → List Float → List ℕ → WordsOutcome
+wordsEditsFrom rate code duty k old [] out shelf = record { said = []; heard = out; stored = shelf }
+wordsEditsFrom rate code duty k old (new ∷ rest) out shelf =
+    let c = rerenderFor (choiceOf code duty) rate k old new out shelf in andOver c (wordsEditsFrom rate code duty k new rest (c .heard) (c .stored))
+
+-- a render of the first score, and then the edits
+abbrev pub wordsEdits : ℕ → ℕ → Float → Adsr → List ℕ → List (List ℕ) → List Float → List ℕ → WordsOutcome
+wordsEdits rate code duty k first news out shelf =
+    let c = renderFor (choiceOf code duty) rate k first out shelf in andOver c (wordsEditsFrom rate code duty k first news (c .heard) (c .stored))
