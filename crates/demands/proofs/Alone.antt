@@ -2,21 +2,20 @@
 -- settings, the new score, the number of samples, the mark and its entry alone, not on the old samples or the other entries. Assumes nothing.
 use mathlib.Core.Path.{_≡_, refl, sym, ap, _∙_}
 use mathlib.Core.Bool.{Bool, true, false, cond, _&&_}
-use mathlib.Core.List.{List, [], _∷_, _++_}
-use Prim.Native.Nat.{ℕ, suc, _+_, _-_, _*_, _≤_, _<_}
+use mathlib.Core.List.{List, _++_}
+use Prim.Native.Nat.{ℕ, _+_, _-_, _*_, _≤_, _<_}
 use native.Mathlib.Omega.{arith}
 use lib.Dec.{eqb}
-use lib.ListN.{length, getD, take, drop}
+use lib.ListN.{length, take, drop}
 use lib.Seq.{take-at, drop-append-seam, length-take-le}
 use lib.Ieee.{Float}
 use Rattle.answers.specs.declared.Answer.the-variants.{Done, Refused}
 use Rattle.answers.specs.declared.Refusal.the-variants.{StartEntry}
 use Rattle.score.specs.Below.{countBelow}
-use Rattle.shelf.specs.Shelf.{mark, entryWords, entriesFor, wordsFor, entryOf, stateOf, isEntry, word, shelfOf}
+use Rattle.shelf.specs.Shelf.{mark, entryWords, entriesFor, entryOf, stateOf, isEntry, word, shelfOf}
 use Rattle.shelf.proofs.Digits.{beyond}
 use Rattle.shelf.proofs.Whole.{entry-words}
 use Rattle.shelf.proofs.Back.{decode-encode}
-use Rattle.shelf.proofs.There.{entry-length}
 use Rattle.state.specs.declared.Settings.{Settings}
 use Rattle.state.specs.declared.State.{State}
 use Rattle.state.specs.Heart.{stateFrom, samplesFrom, entriesFrom}

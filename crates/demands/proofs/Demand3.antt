@@ -3,17 +3,16 @@
 -- the new score from sample zero; those before the mark stay as they came; and the count is the number of samples from the mark to the end.
 -- An honest shelf is so never refused with 8. The sustain setting is a value of an f64, which is what owning it tells. Assumes nothing.
 use mathlib.Core.Path.{_≡_, refl, sym, ap, _∙_}
-use mathlib.Core.Bool.{true, _&&_}
-use mathlib.Core.List.{List, [], _++_}
+use mathlib.Core.Bool.{true}
+use mathlib.Core.List.{List, _++_}
 use Prim.Native.Nat.{ℕ, _+_, _-_, _*_, _/_, _≤_, _<_}
 use native.Mathlib.Nat.{zero-add}
 use native.Mathlib.Omega.{arith}
 use borrow.Author.Tests.{le-leb, eq-eqb}
-use lib.Dec.{T, eqb}
-use lib.ListN.{length, take, drop, length-append}
-use lib.Seq.{take-at, length-take-le, drop-append-seam}
+use lib.Dec.{T}
+use lib.ListN.{length, take, drop}
+use lib.Seq.{drop-append-seam}
 use lib.Ieee.{Float, binary64, fits}
-use Rattle.answers.specs.declared.Answer.{Answer}
 use Rattle.answers.specs.declared.Answer.the-variants.{Done}
 use Rattle.score.specs.declared.Difference.the-variants.{At}
 use Rattle.score.specs.declared.Verdict.the-variants.{Accepted}
@@ -23,7 +22,7 @@ use Rattle.score.specs.Apart.{differenceOf}
 use Rattle.score.proofs.Agree.{equal-exactly}
 use Rattle.score.proofs.Cuts.{accepted-few}
 use Rattle.shelf.specs.declared.Entry.{Entry}
-use Rattle.shelf.specs.Shelf.{mark, entryWords, entriesFor, wordsFor, entryOf, stateOf, isEntry, decodedOf, shelfOf}
+use Rattle.shelf.specs.Shelf.{mark, entryWords, entriesFor, wordsFor, entryOf, decodedOf, shelfOf}
 use Rattle.shelf.proofs.Count.{start-there}
 use Rattle.shelf.proofs.Whole.{shelf-append, shelf-length, entry-words}
 use Rattle.state.specs.declared.Settings.{Settings}
@@ -39,8 +38,8 @@ use Rattle.render.specs.Order.{judgedOf}
 use Rattle.render.specs.Calls as render
 use Rattle.render.specs.Calls.{renderOf}
 use Rattle.demands.proofs.Honest.{honest}
-use Rattle.rerender.specs.declared.Plan.the-variants.{Nothing, From}
-use Rattle.rerender.specs.Rerender.{Outcome, leaves, checkedOf, planOf, entryAt, startOf, isStart, madeFrom, fromOf, rerenderOf}
+use Rattle.rerender.specs.declared.Plan.the-variants.{Nothing}
+use Rattle.rerender.specs.Rerender.{Outcome, leaves, checkedOf, planOf, entryAt, startOf, isStart, fromOf, rerenderOf}
 use Rattle.rerender.proofs.Cases.{plan-equal, plan-late, plan-from}
 
 -- what a render of s leaves, of n samples

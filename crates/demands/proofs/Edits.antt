@@ -1,28 +1,24 @@
 -- Five edits that lose nothing, and any number. After one render, and then any edits of the score, each re-rendered into the same output and shelf, these hold what one render of the last score from sample zero leaves.
 -- The sustain setting is a value of an f64, which is what owning it tells. Assumes nothing.
 use mathlib.Core.Path.{_≡_, refl, sym, ap, _∙_}
-use mathlib.Core.List.{List, [], _∷_, _++_, append-assoc, append-nil}
+use mathlib.Core.List.{List, [], _∷_}
 use mathlib.Core.Bool.{true}
 use mathlib.Core.Logic.{⊎-elim}
 use Prim.Native.Nat.{ℕ, _+_, _-_, _*_, _/_, _≤_, _<_}
-use native.Mathlib.Nat.{zero-add}
 use native.Mathlib.Omega.{arith}
-use borrow.Author.Tests.{le-leb, eq-eqb}
 use lib.Dec.{T}
-use lib.ListN.{length, take, drop, take-append-drop}
+use lib.ListN.{length, take, take-append-drop}
 use lib.Seq.{take-at}
 use lib.Ieee.{Float, binary64, fits}
 use Rattle.answers.specs.declared.Answer.{Answer}
 use Rattle.answers.specs.declared.Answer.the-variants.{Done}
 use Rattle.score.specs.declared.Difference.{Difference}
 use Rattle.score.specs.declared.Difference.the-variants.{Equal, At}
-use Rattle.score.specs.declared.Verdict.the-variants.{Accepted}
-use Rattle.score.specs.Score.{verdictOf}
 use Rattle.score.specs.Below.{countBelow}
 use Rattle.score.specs.Apart.{differenceOf}
 use Rattle.score.proofs.Agree.{equal-exactly}
 use Rattle.score.proofs.Cuts.{lt-or-ge}
-use Rattle.shelf.specs.Shelf.{mark, entryWords, entriesFor, wordsFor, entryOf, shelfOf}
+use Rattle.shelf.specs.Shelf.{mark, entryWords, entriesFor, wordsFor, shelfOf}
 use Rattle.shelf.proofs.Count.{start-there}
 use Rattle.shelf.proofs.Whole.{shelf-append, shelf-length}
 use Rattle.state.specs.declared.Settings.{Settings}
@@ -33,11 +29,10 @@ use Rattle.state.specs.Heart.{stateFrom, samplesFrom, entriesFrom}
 use Rattle.state.proofs.RunsOn.{samples-on, samples-length}
 use Rattle.state.proofs.Entries.{entries-on, entries-length}
 use Rattle.state.proofs.Depends.{Shared, samples-shared, entries-shared, differing-shared}
-use Rattle.render.specs.Order.{judgedOf}
 use Rattle.render.specs.Calls as render
 use Rattle.render.specs.Calls.{renderOf}
 use Rattle.rerender.specs.declared.Plan.the-variants.{Nothing}
-use Rattle.rerender.specs.Rerender.{Outcome, leaves, checkedOf, planOf, countFor, rerenderOf}
+use Rattle.rerender.specs.Rerender.{Outcome, leaves, planOf, countFor, rerenderOf}
 use Rattle.demands.specs.Edits.{editsFrom, lastScore, answersFrom, allCounted}
 use Rattle.rerender.proofs.Cases.{plan-equal, plan-late, plan-from}
 use Rattle.demands.proofs.Demand3.{soundOf, shelvedOf, atMark, Taken, Edit, Lent, entry-left, rendered, checked, demand-3}

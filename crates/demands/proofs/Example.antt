@@ -19,7 +19,7 @@ use Rattle.shelf.specs.Shelf.{wordsFor, entryOf}
 use Rattle.shelf.proofs.There.{entry-length}
 use Rattle.demands.proofs.ChainExamples.{plain, plain-ok, begins, begins-accepted}
 use Rattle.rerender.specs.Rerender.{leaves, entryAt, rerenderOf}
-use Rattle.demands.proofs.Demand3.{soundOf, shelvedOf, atMark, Taken, Edit, Lent, demand-3}
+use Rattle.demands.proofs.Demand3.{soundOf, shelvedOf, atMark, Edit, Lent, demand-3}
 
 -- the off at 5,000
 abbrev pub edited : List ℕ

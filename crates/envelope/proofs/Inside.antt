@@ -10,7 +10,7 @@ use lib.Ieee.Bits.{ofBits-fits}
 use lib.Ieee.Order.{round-mono}
 use lib.Ieee.Positive.{positive}
 use lib.Ieee.Scale.{finite}
-use Rattle.floats.specs.Range.{nought, nonneg, within}
+use Rattle.floats.specs.Range.{nought, within}
 use Rattle.floats.specs.Double.{naught, one}
 use Rattle.floats.proofs.Order.{fle-trans, ge0→le, nonneg→finite, under, not-lt-le-any}
 use Rattle.floats.proofs.Rounds.{ge0-round}

@@ -5,7 +5,7 @@ use lib.Dec.{T}
 use lib.Ieee.{Float, Format, add, sub, mul}
 use lib.Ieee.Fits.{and-l, and-r}
 use lib.Ieee.Scale.{finite}
-use Rattle.floats.proofs.Bounded.{Size, size-finite, size-add, size-sub, size-mul}
+use Rattle.floats.proofs.Bounded.{Size, size-add, size-sub, size-mul}
 
 infixl 60 _⊹_ _⊸_
 infixl 70 _⊛_

@@ -1,18 +1,18 @@
 -- floor by the fraction that a number is: what has no fraction, what is below 1, and what lies between, over the format. Assumes nothing.
 use mathlib.Core.Path.{_≡_, refl, sym, ap, _∙_, subst}
 use mathlib.Core.Bool.{Bool, true, false}
-use Prim.Native.Nat.{ℕ, zero, suc, _+_, _-_, _*_, _/_, _^_, _≤_, _<_}
+use Prim.Native.Nat.{ℕ, zero, suc, _+_, _-_, _*_, _^_, _≤_, _<_}
 use native.Mathlib.Nat as nat
 use native.Mathlib.Omega.{arith}
 use lib.IntN.{pos}
-use lib.Dec.{T, lit<, lit≤, le→leb}
+use lib.Dec.{T, lit<, le→leb}
 use lib.Pow.{pow-add, pow-pos, pow-mono}
 use lib.Ieee.{Float, nan, inf, fin, Format, binary32, binary64, prec, emax, low, hid, ones}
 use lib.Ieee.{up, down, round, neg, fits, ofInt, inFloat}
 use lib.Ieee.Fits.{down-pos, round-fits}
 use lib.Ieee.Exact.{HasValue, round-exact}
 use lib.Ieee.Back.{whole-unique}
-use Rattle.floats.specs.Floor.{floorOf, roof, wholeOf}
+use Rattle.floats.specs.Floor.{floorOf, wholeOf}
 use Rattle.floats.proofs.Roof.{whole-same, whole-whole, roof-one}
 use Rattle.floats.proofs.Pattern.{fieldsOf, scaled}
 use Rattle.floats.proofs.Signed.{neg-round}

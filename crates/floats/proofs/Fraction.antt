@@ -1,6 +1,6 @@
 -- x - floor(x), rounded once, lies from 0 to 1, both ends included: the fraction below 1 may round up to it. Over the format. Assumes nothing.
 use mathlib.Core.Path.{_≡_, sym, ap}
-use mathlib.Core.Bool.{Bool, true, false, true≢false}
+use mathlib.Core.Bool.{true, false, true≢false}
 use Prim.Native.Nat.{ℕ, _+_, _-_, _*_, _/_, _≤_, _<_}
 use native.Mathlib.Nat as nat
 use native.Mathlib.Omega.{arith}

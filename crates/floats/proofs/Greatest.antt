@@ -1,19 +1,19 @@
 -- `floorOf` is what its name says: of a finite x, the greatest whole number that is not above x, with x's sign (`IsFloor`), and there is one such value only.
 -- What has no fraction is its own floor. Over the format. Assumes nothing.
 use mathlib.Core.Path.{_≡_, refl, sym, ap, _∙_, subst}
-use mathlib.Core.Bool.{Bool, true, false, true≢false}
+use mathlib.Core.Bool.{Bool, true, false}
 use Prim.Native.Nat.{ℕ, suc, _+_, _-_, _*_, _/_, _%_, _^_, _≤_, _<_}
 use native.Mathlib.Nat as nat
 use native.Mathlib.Omega.{arith}
 use lib.IntN.{ℤ, pos, negsuc}
 use lib.Dec.{T}
 use lib.Pow.{pow-pos}
-use lib.Ieee.{Float, nan, inf, fin, Format, prec, up, down, round, le, fits}
+use lib.Ieee.{Float, nan, inf, fin, Format, up, down, round, le, fits}
 use lib.Ieee.Fits.{down-pos, round-fits}
 use lib.Ieee.Exact.{HasValue}
 use lib.Ieee.Back.{round-whole, whole-unique}
 use lib.Ieee.Scale.{finite}
-use Rattle.floats.specs.Floor.{floorOf, roof, wholeOf, Whole, signOf, IsFloor}
+use Rattle.floats.specs.Floor.{floorOf, wholeOf, Whole, signOf, IsFloor}
 use Rattle.floats.proofs.Order.{Le2, le→Le, Le→le, zero-first}
 use Rattle.floats.proofs.Rounds.{self-value, fits-small}
 use Rattle.floats.proofs.Roof.{whole-le, whole-whole, whole-same, roof-le, le-roof}

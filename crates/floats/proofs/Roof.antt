@@ -1,7 +1,7 @@
 -- Whole parts of a fraction, rounded up or down: natural numbers alone. Assumes nothing.
-use mathlib.Core.Path.{_≡_, sym, ap, _∙_}
+use mathlib.Core.Path.{_≡_, sym}
 use mathlib.Core.Bool.{Bool, true, false}
-use Prim.Native.Nat.{ℕ, zero, suc, _+_, _-_, _*_, _/_, _%_, _^_, _≤_, _<_}
+use Prim.Native.Nat.{ℕ, suc, _+_, _-_, _*_, _≤_, _<_}
 use native.Mathlib.Nat as nat
 use native.Mathlib.Omega.{arith}
 use lib.Ieee.Nearest.{div-same}

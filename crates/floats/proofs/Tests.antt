@@ -6,13 +6,13 @@ use native.Mathlib.Nat as nat
 use native.Mathlib.Omega.{arith}
 use lib.Dec.{T, lit≤}
 use lib.Pow.{pow-pos}
-use lib.Ieee.{Float, nan, inf, fin, Format, binary32, binary64, prec, emax, low, hid, ones, top}
+use lib.Ieee.{Float, nan, inf, fin, Format, binary32, binary64, prec, emax, low, hid, ones}
 use lib.Ieee.{round, neg, ne, fits, isNan, ofBits, toBits}
 use lib.Ieee.Compare.{differs-from-itself, nan-differs}
 use lib.Ieee.Exact.{HasValue}
 use lib.Ieee.Scale.{finite}
 use Rattle.floats.specs.Floor.{floorOf, wholeOf}
-use Rattle.floats.proofs.Pattern.{fieldsOf, unitsOf, negative, sizeBits, value, field-lt, below-one, above-zero}
+use Rattle.floats.proofs.Pattern.{unitsOf, negative, sizeBits, value, field-lt, below-one, above-zero}
 use Rattle.floats.proofs.Floors.{floor-zero, floor-large, floor-small, floor-middle}
 
 -- ---- x != x

@@ -1,12 +1,11 @@
 -- The accumulator of phase.rs. 01, "Accumulator: wrap(x) = x - floor(x), in f32, where floor(-0) is -0"; "Accumulator arguments must be finite, its rate above 0 and the quotient finite";
 -- "Given states: accumulator phase 0 to 1, increment finite"; number 9 for anything else; "any single value as +0 .. hands back state by value as it came". Count is 0: no samples are written.
 -- A given state is judged by every call that takes it, also where the call reads or replaces one field only. Definitions only.
-use mathlib.Core.Bool.{Bool, true, false, _&&_, cond}
+use mathlib.Core.Bool.{Bool, true, false, _&&_}
 use lib.Ieee.{Float, binary32, add, sub, div, lt}
 use lib.Ieee.Scale.{finite}
 use Rattle.floats.specs.Range.{lit0, lit1, within}
 use Rattle.floats.specs.Floor.{floorOf}
-use Rattle.answers.specs.declared.Answer.{Answer}
 use Rattle.answers.specs.declared.Answer.the-variants.{Done, Refused}
 use Rattle.answers.specs.declared.Refusal.the-variants.{Argument}
 use Rattle.phase.specs.declared.Cycles.{Cycles}

@@ -8,12 +8,11 @@ use lib.Ieee.{Float, binary64, ofBits, sub, lt, le, fits}
 use lib.Ieee.Bits.{is-true, is-false}
 use lib.Ieee.Fits.{and-i, and-l, and-r, add-fits}
 use lib.Ieee.Scale.{finite}
-use lib.Ieee.Positive.{positive}
 use Rattle.floats.specs.Range.{nought, within}
 use Rattle.floats.specs.Double.{_⊕_, _⊖_, naught, half, one, two}
 use Rattle.floats.specs.Floor.{floorOf}
 use Rattle.floats.proofs.Literals.{lit0-is}
-use Rattle.floats.proofs.Order.{fle-trans, fle-refl, lt-le, lt-not-le, not-lt-le, between-finite, above-positive, lt-le-lt, le-lt-lt}
+use Rattle.floats.proofs.Order.{fle-trans, fle-refl, lt-le, lt-not-le, between-finite, above-positive, lt-le-lt, le-lt-lt}
 use Rattle.floats.proofs.Near.{add-order, sub-order}
 use Rattle.floats.proofs.Low.{below-one, from-one}
 use Rattle.floats.proofs.Units.{less-nought}

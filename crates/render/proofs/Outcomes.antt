@@ -1,17 +1,15 @@
 -- What a render and a continued one leave where they are done, and where they are refused. Assumes nothing.
-use mathlib.Core.Path.{_≡_, refl, sym, ap, _∙_}
+use mathlib.Core.Path.{_≡_, refl, ap, _∙_}
 use mathlib.Core.Bool.{Bool, true, false, _&&_}
-use mathlib.Core.List.{List, _++_}
-use Prim.Native.Nat.{ℕ, _-_, _*_, _≤_, _<_}
+use mathlib.Core.List.{List}
+use Prim.Native.Nat.{ℕ, _-_}
 use native.Mathlib.Nat.{sub-zero}
 use native.Mathlib.Omega.{arith}
-use lib.ListN.{length, take}
+use lib.ListN.{length}
 use lib.Ieee.{Float}
-use Rattle.answers.specs.declared.Answer.{Answer}
 use Rattle.answers.specs.declared.Answer.the-variants.{Done, Refused}
 use Rattle.answers.specs.declared.Refusal.{Refusal}
 use Rattle.answers.specs.declared.Refusal.the-variants.{GivenState}
-use Rattle.score.specs.Record.{countOf}
 use Rattle.score.specs.Below.{partsAt, Sorted, Cut}
 use Rattle.score.proofs.Codec.{both}
 use Rattle.score.proofs.Cuts.{parts-cut, parts-count}
@@ -26,8 +24,7 @@ use Rattle.spans.specs.Walk.{placeOf, Played}
 use Rattle.spans.proofs.Agrees.{kept, samples-agree}
 use Rattle.sections.specs.Sections as sections
 use Rattle.sections.specs.Sections.{playOnOf}
-use Rattle.sections.proofs.Agrees.{Made, made}
-use Rattle.render.specs.declared.Rendered.{Rendered}
+use Rattle.sections.proofs.Agrees.{made}
 use Rattle.render.specs.Order.{unless, judgedOf, isRoom}
 use Rattle.render.specs.Calls.{says, leaves, renderAnswer, renderOf, leavesPart, isStretch, isGiven, goOn, continueOf}
 use Rattle.render.proofs.Judging.{all-passed, Passed, done-sorted, roomy, refused-before, left-after}

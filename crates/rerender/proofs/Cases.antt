@@ -1,17 +1,16 @@
 -- The plan, its run and the call, case by case. Assumes nothing.
-use mathlib.Core.Path.{_≡_, refl, sym, ap, _∙_}
+use mathlib.Core.Path.{_≡_, refl, sym, _∙_}
 use mathlib.Core.Bool.{Bool, true, false, cond, _&&_}
-use mathlib.Core.List.{List, _++_}
+use mathlib.Core.List.{List}
 use Prim.Native.Nat.{ℕ, suc, _-_, _*_, _/_, _≤_, _<_}
 use native.Mathlib.Omega.{arith}
 use lib.Dec.{ltb}
-use lib.ListN.{length, take}
+use lib.ListN.{length}
 use lib.Ieee.{Float}
 use borrow.Author.Tests.{lt-ltb, le-ltb, ltb-true}
-use Rattle.answers.specs.declared.Answer.{Answer}
 use Rattle.answers.specs.declared.Answer.the-variants.{Done, Refused}
 use Rattle.answers.specs.declared.Refusal.{Refusal}
-use Rattle.answers.specs.declared.Refusal.the-variants.{NewScore, StartEntry}
+use Rattle.answers.specs.declared.Refusal.the-variants.{StartEntry}
 use Rattle.score.specs.declared.Difference.{Difference}
 use Rattle.score.specs.declared.Difference.the-variants.{Equal, At}
 use Rattle.score.specs.declared.Verdict.{Verdict}
@@ -26,17 +25,16 @@ use Rattle.shelf.specs.Shelf.{mark, entriesFor, wordsFor, isEntry}
 use Rattle.shelf.proofs.Count.{start-there}
 use Rattle.state.specs.declared.Settings.{Settings}
 use Rattle.state.specs.Settings.{settingsOk}
-use Rattle.state.specs.Heart.{samplesFrom, entriesFrom}
 use Rattle.spans.specs.declared.Place.{Place}
 use Rattle.spans.specs.Walk.{placeOf}
 use Rattle.sections.specs.Sections as sections
 use Rattle.sections.specs.Sections.{playOnOf}
-use Rattle.sections.proofs.Agrees.{Made, made}
-use Rattle.render.specs.Order.{judgedOf, isRoom}
+use Rattle.sections.proofs.Agrees.{made}
+use Rattle.render.specs.Order.{isRoom}
 use Rattle.render.proofs.Judging.{Passed, all-passed, Roomy, roomy}
 use Rattle.rerender.specs.declared.Plan.{Plan}
 use Rattle.rerender.specs.declared.Plan.the-variants.{Nothing, From}
-use Rattle.rerender.specs.Rerender.{leaves, newScored, checkedOf, planFor, planOf, entryAt, startOf, isStart, madeFrom, fromOf, runOf, rerenderOf}
+use Rattle.rerender.specs.Rerender.{leaves, newScored, checkedOf, planFor, planOf, entryAt, startOf, isStart, fromOf, runOf, rerenderOf}
 
 -- ---- the plan
 module _ (old new : List ℕ) (n : ℕ) where

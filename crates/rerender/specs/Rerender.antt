@@ -2,7 +2,7 @@
 -- floor(P/4096). Equal scores, or P at or above N, write nothing and count 0"; "8 | start entry is no state, or its records acted differ from the new score's records below its position"; "Order: 6, 7, the old or only
 -- score, the new score (same numbers plus 16), then 8"; "Where count is 0 for equal scores or a late P, no entry is read and 8 is not given". Demand 3: "The count is the samples from the mark to the end".
 -- It is decided for every start entry that is a state, a doctored one too: what is made are the steps from it. First the checks, then a plan, then its run. Definitions only.
-use mathlib.Core.Bool.{Bool, true, false, cond, _&&_}
+use mathlib.Core.Bool.{Bool, cond, _&&_}
 use mathlib.Core.List.{List, _++_}
 use Prim.Native.Nat.{ℕ, _-_, _*_, _/_}
 use lib.Dec.{ltb, eqb}

@@ -1,9 +1,7 @@
 -- On a score whose positions never fall, from the first record that is not below a mark, the sections are what the state's definitions say: samples, states and entries. Assumes nothing.
-use mathlib.Core.Path.{_≡_, refl, sym, ap, _∙_}
-use mathlib.Core.Bool.{true}
-use mathlib.Core.List.{List, [], _∷_, _++_}
+use mathlib.Core.Path.{_≡_, refl, ap}
+use mathlib.Core.List.{List, _++_}
 use Prim.Native.Nat.{ℕ, zero, suc, _-_, _*_}
-use lib.Dec.{eqb}
 use lib.ListN.{length, take}
 use lib.Ieee.{Float}
 use borrow.Author.Tests.{eq-eqb}
@@ -11,9 +9,9 @@ use Rattle.score.specs.Below.{Sorted, Cut}
 use Rattle.state.specs.declared.Settings.{Settings}
 use Rattle.state.specs.declared.State.{State}
 use Rattle.state.specs.Heart.{stateFrom, samplesFrom, entriesFrom}
-use Rattle.shelf.specs.Shelf.{mark, entryWords, entriesFor, wordsFor, entryOf, shelfOf}
+use Rattle.shelf.specs.Shelf.{mark, entryWords, entriesFor, wordsFor, shelfOf}
 use Rattle.shelf.proofs.Whole.{shelf-more}
-use Rattle.spans.specs.Walk.{placeOf, placeFrom, playedFrom}
+use Rattle.spans.specs.Walk.{placeOf}
 use Rattle.spans.proofs.Agrees.{kept, samples-agree}
 use Rattle.sections.specs.Sections.{keptFrom, Outcome, playOnOf}
 

@@ -2,7 +2,7 @@
 -- 4096k below N, the output's length". It is a walk (the crate spans) from a place at any mark; where the shelf has not the words that the output asks for, nothing is played and nothing stored. Definitions only.
 use mathlib.Core.Bool.{Bool, true, false}
 use mathlib.Core.Path.{_≡_}
-use mathlib.Core.List.{List, [], _∷_, _++_}
+use mathlib.Core.List.{List, [], _++_}
 use Prim.Native.Nat.{ℕ, zero, suc, _+_, _-_, _*_, _<_, _≤_}
 use lib.Dec.{eqb}
 use lib.ListN.{length, take}

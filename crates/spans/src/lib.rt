@@ -61,6 +61,7 @@ pub fn play(
     play_short(settings, score, place, position, part)
 }
 
+// Span by span; a sine's span makes its own table of the quarter.
 fn play_short(
     settings: Settings,
     score: &[u8],
@@ -83,6 +84,7 @@ fn play_short(
     at
 }
 
+// The same with the whole wave, made once and lent to each span.
 fn play_long(
     settings: Settings,
     score: &[u8],

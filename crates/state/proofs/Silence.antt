@@ -1,6 +1,6 @@
 -- What a sample sounds like. 01, "The score": "A note-on with velocity 0 plays silent, as in the Rust." Of a state within its limits every sample is finite, and where the velocity is 0 it is
 -- 0, with either sign; a key struck with velocity 0 gives such a state. The phase and the sustain setting are values of an f64, which is what owning them tells. Assumes nothing.
-use mathlib.Core.Path.{_≡_, refl, sym, ap, _∙_, subst}
+use mathlib.Core.Path.{_≡_, refl, _∙_}
 use mathlib.Core.Logic.{_⊎_, inl, inr}
 use mathlib.Core.Bool.{Bool, true, false, _&&_}
 use Prim.Native.Nat.{ℕ, _*_, _<_}
@@ -11,19 +11,19 @@ use lib.Ieee.{Float, fin, binary64, ofBits, ofInt, mul, div, neg, round, le, fit
 use lib.Ieee.Fits.{and-i, and-l, and-r, mul-fits, round-fits}
 use lib.Ieee.Scale.{finite}
 use lib.Ieee.Positive.{num, den, den-pos}
-use Rattle.floats.specs.Range.{within, nought}
+use Rattle.floats.specs.Range.{within}
 use Rattle.floats.specs.Double.{_⊗_, naught, one, four}
 use Rattle.floats.proofs.Held.{zero-value}
 use Rattle.floats.proofs.Literals.{lit0-is}
 use Rattle.floats.proofs.Monotone.{mul-mono}
 use Rattle.floats.proofs.Ranges.{mul-ge0}
 use Rattle.floats.proofs.Order.{signed, fle-trans, fle-refl, ge0→le}
-use Rattle.floats.proofs.Operations.{dens-pos, mul-is}
+use Rattle.floats.proofs.Operations.{mul-is}
 use Rattle.floats.proofs.OneWay.{value-is-one}
 use Rattle.envelope.specs.Limits.{ten, eleven, isAdsr, isRate, isEnvelope}
 use Rattle.envelope.proofs.Keeps.{step-keeps}
 use Rattle.voice.specs.Voice.{velocityOf}
-use Rattle.waveform.specs.Waveform.{isWaveform, normalOf, invTau}
+use Rattle.waveform.specs.Waveform.{isWaveform, invTau}
 use Rattle.waveform.specs.Filled.{valueAt}
 use Rattle.waveform.proofs.Values.{value-fits, value-at-finite, scaled-finite}
 use Rattle.state.specs.declared.Settings.{Settings}

@@ -1,21 +1,20 @@
 -- What is made of radians lies where a sample asks it: the normalised phase from 0 to 1, for every finite phase that is not negative; dt from 0 to 4, for a frequency to 20,000 Hz and a rate from 8,000 Hz on;
 -- a reduced phase, of such a one, from 0 up to, not including, TAU. An upper bound is the same operation at the worst literals, computed. Assumes nothing.
-use mathlib.Core.Path.{_≡_, refl, sym, subst}
-use mathlib.Core.Bool.{Bool, true, false, not}
-use Prim.Native.Nat.{ℕ, suc, _*_, _≤_, _<_}
+use mathlib.Core.Path.{_≡_, refl, subst}
+use mathlib.Core.Bool.{Bool, true, false}
+use Prim.Native.Nat.{ℕ, _≤_, _<_}
 use native.Mathlib.Nat as nat
-use native.Mathlib.Omega.{arith}
 use lib.IntN.{pos}
 use lib.Dec.{T, lit<}
 use lib.Ieee.{Float, binary64, ofBits, ofInt, round, rem, mul, div, lt, le, fits}
-use lib.Ieee.Fits.{and-i, and-l, and-r}
+use lib.Ieee.Fits.{and-i, and-r}
 use lib.Ieee.Order.{round-mono}
 use lib.Ieee.Scale.{finite}
 use lib.Ieee.Positive.{positive}
-use Rattle.floats.specs.Range.{nought, unity, nonneg, within, lit0, lit1}
-use Rattle.floats.specs.Double.{_⊕_, _⊗_, _⊘_, naught, one, four}
-use Rattle.floats.proofs.Literals.{lit0-is, lit1-is}
-use Rattle.floats.proofs.Order.{fle-trans, fle-refl, ge0→le, le→ge0, nonneg→ge0, nonneg→finite, under, positive-nonneg, lt-not-le}
+use Rattle.floats.specs.Range.{nought, nonneg, within}
+use Rattle.floats.specs.Double.{_⊗_, _⊘_, naught, one, four}
+use Rattle.floats.proofs.Literals.{lit0-is}
+use Rattle.floats.proofs.Order.{fle-trans, fle-refl, ge0→le, nonneg→ge0, nonneg→finite, under, lt-not-le}
 use Rattle.floats.proofs.Monotone.{mul-mono, div-mono}
 use Rattle.floats.proofs.Ranges.{mul-ge0, div-ge0, rem-ge0, rem-le, within-nonneg, ge0-positive}
 use Rattle.floats.proofs.Remainder.{rem-lt}

@@ -1,13 +1,12 @@
 -- `floats::whole` meets its contract: `1 << k` loses nothing, and a shift down is a division. Assumes nothing.
 use borrow.Author.Needs.{needs}
-use mathlib.Core.Path.{_≡_, refl, sym, ap, _∙_, subst}
+use mathlib.Core.Path.{_≡_, refl, ap, _∙_}
 use mathlib.Core.Bool.{true, false}
-use Prim.Native.Nat.{ℕ, _+_, _-_, _*_, _/_, _%_, _^_, _≤_, _<_}
+use Prim.Native.Nat.{ℕ, _-_, _*_, _%_, _^_, _≤_, _<_}
 use native.Mathlib.Nat as nat
 use native.Mathlib.Omega.{arith}
-use lib.Dec.{lit<, lit≤}
+use lib.Dec.{lit<}
 use lib.Pow.{pow-pos, pow-mono}
-use Rattle.floats.specs.Floor.{roof, wholeOf}
 use Rattle.floats.proofs.Roof.{whole-le}
 use Rattle.floats.proofs.whole.Statement.{statement}
 use Rattle.floats.proofs.whole.Tie as tie

@@ -1,5 +1,5 @@
 -- `render::continue_render` meets its contract. Assumes nothing.
-use mathlib.Core.Path.{_≡_, refl, sym, _∙_}
+use mathlib.Core.Path.{sym, _∙_}
 use Rattle.render.proofs.Judging.{done-sorted}
 use Rattle.render.proofs.Outcomes.{continue-refused, continue-goes}
 use borrow.Author.Needs.{needs}

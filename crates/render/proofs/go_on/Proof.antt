@@ -1,5 +1,4 @@
 -- `render::go_on` meets its contract. Assumes nothing.
-use mathlib.Core.Path.{_≡_, refl, sym, _∙_}
 use mathlib.Core.Bool.{_&&_}
 use borrow.Author.Tests.{not-true, not-false}
 use Rattle.render.proofs.Outcomes.{goes-refused, goes-on}

@@ -1,5 +1,5 @@
 -- `render::judged` meets its contract. Assumes nothing.
-use mathlib.Core.Path.{_≡_, refl, sym, _∙_}
+use mathlib.Core.Path.{sym, _∙_}
 use borrow.Author.Tests.{not-true, not-false}
 use Rattle.render.proofs.Judging.{no-settings, no-room, by-score}
 use borrow.Author.Needs.{needs}

@@ -1,5 +1,5 @@
 -- `render::render` meets its contract. Assumes nothing.
-use mathlib.Core.Path.{_≡_, refl, sym, _∙_}
+use mathlib.Core.Path.{sym, _∙_}
 use Rattle.render.proofs.Outcomes.{render-refused, render-done}
 use borrow.Author.Needs.{needs}
 use Rattle.render.proofs.render.Statement.{statement}

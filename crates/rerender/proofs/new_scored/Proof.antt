@@ -1,5 +1,5 @@
 -- `rerender::new_scored` meets its contract. Assumes nothing.
-use mathlib.Core.Path.{_≡_, refl, sym, _∙_}
+use mathlib.Core.Path.{sym, _∙_}
 use Rattle.rerender.proofs.Cases.{newly-refused}
 use borrow.Author.Needs.{needs}
 use Rattle.rerender.proofs.new_scored.Statement.{statement}

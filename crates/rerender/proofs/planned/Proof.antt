@@ -1,5 +1,5 @@
 -- `rerender::planned` meets its contract. Assumes nothing.
-use mathlib.Core.Path.{_≡_, refl, sym, _∙_}
+use mathlib.Core.Path.{sym, _∙_}
 use Rattle.rerender.proofs.Cases.{plan-equal, plan-late, plan-from}
 use borrow.Author.Needs.{needs}
 use Rattle.rerender.proofs.planned.Statement.{statement}

@@ -1,5 +1,5 @@
 -- `rerender::rerender` meets its contract. Assumes nothing.
-use mathlib.Core.Path.{_≡_, refl, sym, _∙_}
+use mathlib.Core.Path.{sym, _∙_}
 use Rattle.score.proofs.Cuts.{accepted-sorted}
 use Rattle.rerender.proofs.Cases.{plan-there, all-checked, checks-refuse, checks-pass}
 use borrow.Author.Needs.{needs}

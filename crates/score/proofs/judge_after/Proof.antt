@@ -1,7 +1,6 @@
 -- `score::judge_after` meets its contract. Assumes nothing.
 use borrow.Author.Needs.{needs}
-use mathlib.Core.Path.{_≡_, refl, sym, _∙_}
-use mathlib.Core.Bool.{true}
+use mathlib.Core.Path.{sym, _∙_}
 use Rattle.score.proofs.Codec.{both}
 use Rattle.score.proofs.Verdicts.{right-accepted}
 use Rattle.score.proofs.judge_after.Statement.{statement}

@@ -1,6 +1,5 @@
 -- `score::position` meets its contract. Assumes nothing.
 use borrow.Author.Needs.{needs}
-use mathlib.Core.Path.{refl}
 use Rattle.score.specs.Record.{positionAt}
 use Rattle.score.proofs.position.Statement.{statement}
 use Rattle.score.proofs.position.Tie as tie

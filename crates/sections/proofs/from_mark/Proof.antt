@@ -1,7 +1,7 @@
 -- `sections::from_mark` meets its contract. The loop's invariant is `Walked` of proofs/Turns.antt. Assumes nothing.
 use borrow.Author.Needs.{needs}
-use mathlib.Core.Path.{_≡_, refl, sym, ap, _∙_}
-use Prim.Native.Nat.{_≤_, _<_, _-_, _+_, _*_}
+use mathlib.Core.Path.{_≡_}
+use Prim.Native.Nat.{_<_, _-_, _+_, _*_}
 use native.Mathlib.Omega.{arith}
 use lib.ListN.{length}
 use Rattle.sections.proofs.Turns.{Walked, walk-first, room, walk-on, walk-last}

@@ -1,6 +1,5 @@
 -- `sections::play_on` meets its contract. Assumes nothing.
-use mathlib.Core.Path.{_≡_, refl, sym, ap, _∙_}
-use Prim.Native.Nat.{_≤_, _<_}
+use mathlib.Core.Path.{sym, _∙_}
 use Rattle.sections.proofs.Turns.{unfit, past-the-end, fit}
 use borrow.Author.Needs.{needs}
 use Rattle.sections.proofs.play_on.Statement.{statement}

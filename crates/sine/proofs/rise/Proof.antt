@@ -1,7 +1,7 @@
 -- `sine::rise` meets its contract: the first k points are written. Assumes nothing.
 use borrow.Author.Needs.{needs}
-use mathlib.Core.Path.{_≡_, sym, _∙_}
-use Prim.Native.Nat.{_+_, _-_, _≤_}
+use mathlib.Core.Path.{_≡_, sym}
+use Prim.Native.Nat.{_-_, _≤_}
 use native.Mathlib.Omega.{arith}
 use Rattle.sine.specs.Whole.{Unfolded}
 use Rattle.sine.proofs.Levels.{level-rise, written}
