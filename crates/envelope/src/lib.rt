@@ -1,5 +1,6 @@
 // envelope.rs of the original: an ADSR level, one step a sample, in f64. State goes in by value and is handed back; the
-// part that moves, `Envelope`, stands apart from the settings, `Adsr`, so that a render can hold it alone.
+// part that moves, `Envelope`, stands apart from the settings, `Adsr`, so that a render can hold it alone. Left out, as
+// 01 says: `Block`, parameter names and modulation, and `prepare`.
 ghost use mathlib.Core.Path.{_≡_};
 ghost use mathlib.Core.Bool.{not};
 ghost use lib.ListN.{length};

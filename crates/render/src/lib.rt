@@ -1,6 +1,6 @@
 // The arranger's render, every sample from sample zero, and the stage player's, part by part from the state in the air.
 // From the fresh state at sample zero both are the samples that the score's records give; from another state, the samples
-// that they give from there. The end of a part reduces nothing.
+// that they give from there. The end of a part reduces nothing. 01, "Making sample n" and "What a call says".
 ghost use mathlib.Core.Path.{_≡_};
 ghost use Rattle.score.specs.Below.{Sorted};
 ghost use Rattle.render.specs.Order.{judgedOf, isRoom};

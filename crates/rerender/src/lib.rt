@@ -1,5 +1,6 @@
-// The re-render: each edit of a score carries on from what the score says, not from the air. The checks, then a plan, which
-// is the last mark at or before the first changed record, and then its run, from the state that the shelf keeps there.
+// The re-render: each edit of a score carries on from what the score says, not from the air. The checks, then a plan,
+// which is the last mark at or before the first changed record, and then its run, from the state that the shelf keeps
+// there. 01, "The shelf", and demand 3. No state is answered: the shelf has them.
 ghost use mathlib.Core.Path.{_≡_};
 ghost use Prim.Native.Nat.{_<_};
 ghost use lib.ListN.{length};

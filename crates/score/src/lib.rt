@@ -1,5 +1,5 @@
-// The score: records of ten bytes, as document 01 writes them. A score is a slice of bytes; every public function takes
-// any slice, and reads past its end as 0.
+// The score: records of ten bytes, as document 01 writes them ("The score"). A score is a slice of bytes; every public
+// function takes any slice, and reads past its end as 0. Listing is left to `listing`.
 ghost use mathlib.Core.Path.{_≡_};
 ghost use mathlib.Core.Bool.{true};
 ghost use Prim.Native.Nat.{_<_, _≤_, min};

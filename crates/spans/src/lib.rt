@@ -1,6 +1,7 @@
-// Plays a part of the output, span by span. A span begins at a multiple of 64 and where a record stands; there the phase is
-// reduced and the records act. It ends where the next one begins, or at the part's end, which reduces nothing.
-// Samples are counted as an offset in the part from its position in the output, so that no sum is too large for a word.
+// Plays a part of the output, span by span (01, "Making sample n"). A span begins at a multiple of 64 and where a record
+// stands; there the phase is reduced and the records act. It ends where the next one begins, or at the part's end, which
+// reduces nothing. Samples are counted as an offset in the part from its position in the output, so that no sum is too
+// large for a word. Judging is left to the calls above.
 ghost use mathlib.Core.Path.{_≡_};
 ghost use mathlib.Core.Bool.{cond, false};
 ghost use Prim.Native.Nat.{_+_, _-_, _%_, _<_, _≤_};

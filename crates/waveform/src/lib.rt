@@ -1,5 +1,6 @@
 // waveform.rs of the original: one sample of a waveform, and the inner loop of a block. Phases are radians here; what a
-// single sample takes is a phase and a step of it as parts of a cycle, and `normalised` makes the first of radians.
+// single sample takes is a phase and a step of it as parts of a cycle, and `normalised` makes the first of radians. Left
+// out, as 01 says: noise and the simd paths.
 ghost use mathlib.Core.Path.{_≡_};
 ghost use Prim.Native.Nat.{_*_, _^_};
 ghost use lib.Dec.{T};
