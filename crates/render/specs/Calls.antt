@@ -69,7 +69,7 @@ abbrev pub continuedOf : Answer → Settings → List ℕ → State → ℕ → 
 continuedOf (Done n) g s v p part = leavesPart (says (Done n) (stateFrom g s p v n)) (samplesFrom g s p v n)
 continuedOf (Refused why) g s v p part = leavesPart (says (Refused why) v) part
 
--- what is left of the call where 6, 7 and the score's numbers are not given
+-- what is left of the call where 6, 7 and the score's numbers are not given. It serves a private function; no public statement cites it
 abbrev pub goOn : Settings → List ℕ → State → ℕ → List Float → PartOutcome
 goOn g s v p part = continuedOf (unless (isGiven s p v) GivenState (Done (length part))) g s v p part
 
