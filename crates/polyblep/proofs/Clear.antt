@@ -87,13 +87,13 @@ module _ (low high dt x : Float) (w : T (fits binary64 x)) (a : T (le low x)) (b
       either false b t = inr t
 
 -- ---- a phase in a stretch, and one moved on with it
-abbrev InUnit : Float → Type 0
+abbrev pub InUnit : Float → Type 0
 InUnit x = T (within naught one x)
 
 naught-finite : T (finite naught)
 naught-finite = unfold ofBits in tt
 
-unit-finite : (x : Float) → InUnit x → T (finite x)
+pub unit-finite : (x : Float) → InUnit x → T (finite x)
 unit-finite x h = between-finite naught x one naught-finite one-finite (and-l (le naught x) (le x one) h) (and-r (le naught x) (le x one) h)
 
 -- 0 - 1 ≤ x - y ≤ 1 - 0
@@ -162,18 +162,13 @@ duty-away phase low high dt duty d l f = (l .side, f (phase ⊖ duty ⊕ one) (a
         let k = unit-finite duty d in
         on (x ⊖ duty) (y ⊖ duty) one (less-finite x duty p d) (less-finite y duty q d) one-finite (sub-order binary64 x y duty duty (unit-finite x p) (unit-finite y q) k k h (fle-refl duty k))
 
--- one stretch or the other
-pub either-stretch : (A : Type 0) (a b c d : Bool) → (a ≡ true → b ≡ true → A) → (c ≡ true → d ≡ true → A) → (a && b || c && d) ≡ true → A
-either-stretch A true true c d f g e = f refl refl
-either-stretch A true false true true f g e = g refl refl
-either-stretch A false b true true f g e = g refl refl
-either-stretch A true false false d f g e = absurd (true≢false (sym e))
-either-stretch A true false true false f g e = absurd (true≢false (sym e))
-either-stretch A false b false d f g e = absurd (true≢false (sym e))
-either-stretch A false b true false f g e = absurd (true≢false (sym e))
-
 -- a test a, known as t, and another
 pub and-true : {t : Bool} (a b : Bool) → a ≡ t → (a && b) ≡ true → T t × (b ≡ true)
 and-true true true k e = (subst T k tt, refl)
 and-true true false k e = absurd (true≢false (sym e))
 and-true false b k e = absurd (true≢false (sym e))
+
+pub both-true : (a b : Bool) → (a && b) ≡ true → (a ≡ true) × (b ≡ true)
+both-true true true e = (refl, refl)
+both-true true false e = absurd (true≢false (sym e))
+both-true false b e = absurd (true≢false (sym e))

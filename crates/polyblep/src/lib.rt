@@ -2,12 +2,6 @@
 // The calls of document 01 judge their arguments; the plain functions under them take any number and are what a
 // waveform's inner loop uses. Left out: the simd lanes.
 ghost use mathlib.Core.Path.{_≡_};
-ghost use mathlib.Core.Bool.{true, _&&_};
-ghost use lib.Dec.{T};
-ghost use lib.Ieee.{Float, binary64, fits, le};
-ghost use Rattle.floats.specs.Range.{within};
-ghost use Rattle.floats.specs.Double.{_⊕_, _⊖_, naught, half, one};
-ghost use Rattle.polyblep.specs.declared.Side.the-variants.{Away};
 ghost use Rattle.polyblep.specs.Polyblep.{sideOf, blepOf, blampOf, fractOf, stepOf, rampOf, sawOf, squareOf, pulseOf, triangleOf};
 ghost use Rattle.polyblep.specs.Calls.{isPhase, isDuty, polyBlepOf, polyBlampOf, polyblepSawOf, polyblepSquareOf, polyblepPulseOf, polyblampTriangleOf};
 use answers::Refusal;
@@ -134,81 +128,6 @@ pub fn triangle(phase: f64, dt: f64) -> f64
     let low = blamp(phase, dt);
     let high = blamp(fract(phase + 0.5), dt);
     ramp(phase) + 8.0 * low - 8.0 * high
-}
-
-// The same three with a shortcut where no correction is due. They are for loops: what dt alone decides is then asked once.
-pub fn swift_square(phase: f64, dt: f64) -> f64
-    ensures { λ r. ⌜ r ≡ squareOf phase dt ⌝ }
-{
-    if clear_of_half(phase, dt) {
-        return step(phase, 0.5) + 0.0 - 0.0;
-    }
-    square(phase, dt)
-}
-
-pub fn swift_pulse(phase: f64, dt: f64, duty: f64) -> f64
-    ensures { λ r. ⌜ r ≡ pulseOf phase dt duty ⌝ }
-{
-    if clear_of_duty(phase, dt, duty) {
-        return step(phase, duty) + 0.0 - 0.0;
-    }
-    pulse(phase, dt, duty)
-}
-
-pub fn swift_triangle(phase: f64, dt: f64) -> f64
-    ensures { λ r. ⌜ r ≡ triangleOf phase dt ⌝ }
-{
-    if clear_of_half(phase, dt) {
-        return ramp(phase) + 8.0 * 0.0 - 8.0 * 0.0;
-    }
-    triangle(phase, dt)
-}
-
-// Whether the phase and the one half a cycle on are both away from a step. A no says nothing: two stretches are looked at,
-// one on each side of the half, and what is asked of their ends depends on dt alone, so that a loop asks it once.
-fn clear_of_half(phase: f64, dt: f64) -> bool
-    ensures { λ r. ⌜ (r ≡ true → (sideOf phase dt ≡ Away) × (sideOf (fractOf (phase ⊕ half)) dt ≡ Away)) ⌝ }
-{
-    let low = 0.5 - 2.0 * dt;
-    let high = 0.5 + 2.0 * dt;
-    let far = 1.0 - dt;
-    let first = lies_clear(phase, dt, low, dt) & ends_clear(dt + 0.5, low + 0.5, dt);
-    let second = lies_clear(phase, high, far, dt) & ends_clear(high + 0.5, far + 0.5, dt);
-    first | second
-}
-
-// The same with the duty in the place of the half.
-fn clear_of_duty(phase: f64, dt: f64, duty: f64) -> bool
-    ensures { λ r. ⌜ (r ≡ true → (sideOf phase dt ≡ Away) × (sideOf (fractOf (phase ⊖ duty ⊕ one)) dt ≡ Away)) ⌝ }
-{
-    let low = duty - 2.0 * dt;
-    let high = duty + 2.0 * dt;
-    let far = 1.0 - dt;
-    let first = lies_clear(phase, dt, low, dt) & ends_clear(dt - duty + 1.0, low - duty + 1.0, dt);
-    let second = lies_clear(phase, high, far, dt)
-        & ends_clear(high - duty + 1.0, far - duty + 1.0, dt);
-    is_duty(duty) & (first | second)
-}
-
-// Whether a phase lies in a stretch that is away from its own step.
-fn lies_clear(phase: f64, low: f64, high: f64, dt: f64) -> bool
-    ensures { λ r. ⌜ r ≡ (within naught one dt && le dt low && le low phase && le phase high && le high (one ⊖ dt)) ⌝ }
-{
-    ((0.0 <= dt) & (dt <= 1.0))
-        & (dt <= low)
-        & (low <= phase)
-        & (phase <= high)
-        & (high <= 1.0 - dt)
-}
-
-// Whether, by its ends, the fraction of all that lies in a stretch is away from the step.
-fn ends_clear(low: f64, high: f64, dt: f64) -> bool
-    ensures { λ r. ⌜ (r ≡ true → (x : Float) → T (fits binary64 x) → T (le low x) → T (le x high) → sideOf (fractOf x) dt ≡ Away) ⌝ }
-{
-    let far = 1.0 - dt;
-    let below_one = (0.0 < low) & (high < 1.0) & (dt <= low) & (high <= far);
-    let from_one = (1.0 <= low) & (high < 2.0) & (dt <= low - 1.0) & (high - 1.0 <= far);
-    below_one | from_one
 }
 
 // Where the phase t lies from a step at 0 and 1: x samples after it, x (not above 0) before it, or a sample or farther.

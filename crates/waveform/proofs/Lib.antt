@@ -9,6 +9,8 @@ pub mod Loops
 pub mod Normal
 -- the remainder of a phase by whole numbers
 pub mod Turns
+-- a waveform between two corrections
+pub mod Stretches
 -- a value is an f64, and every sample of a block is finite
 pub mod Values
 -- two outcomes of a public function are equal

@@ -30,7 +30,7 @@ tau-positive = unfold ofBits in tt
 pub tau-nonneg : T (nonneg tau)
 tau-nonneg = unfold ofBits in tt
 
-inv-nonneg : T (nonneg invTau)
+pub inv-nonneg : T (nonneg invTau)
 inv-nonneg = unfold ofBits in tt
 
 -- 0 ≤ x, by the literal
@@ -39,7 +39,7 @@ from-naught x h = rw (lit0-is binary64) h
 
 -- ---- the normalised phase
 module _ (p : Float) (w : T (fits binary64 p)) (h : T (nonneg p)) where
-  rem-nonneg : T (nonneg (rem binary64 p tau))
+  pub rem-nonneg : T (nonneg (rem binary64 p tau))
   rem-nonneg = under (rem binary64 p tau) tau (rem-ge0 binary64 p tau h tau-positive) (nonneg→finite tau tau-nonneg) (rem-le binary64 p tau tau-fits h tau-positive)
 
   pub normal-in : T (within naught one (normalOf p))

@@ -23,7 +23,7 @@ use Rattle.waveform.specs.Waveform.{tau}
 use Rattle.waveform.proofs.Normal.{tau-positive, tau-nonneg}
 
 -- 2^14, and 2^50
-abbrev far : Float
+abbrev pub far : Float
 far = ofBits binary64 0x40d0_0000_0000_0000
 
 abbrev unit : Float

@@ -1,2 +1,3 @@
 pub mod Waveform
 pub mod Filled
+pub mod Lines

@@ -6,7 +6,8 @@ use native.Mathlib.Omega.{arith}
 use lib.ListN.{length}
 use Rattle.waveform.specs.declared.Waveform.the-variants.{Sine}
 use Rattle.waveform.specs.Filled.{valueIn}
-use Rattle.waveform.proofs.Loops.{Upto, begins, goes-on, ends-by}
+use Rattle.waveform.specs.Lines.{Upto}
+use Rattle.waveform.proofs.Loops.{begins, goes-on, ends-by}
 use Rattle.waveform.proofs.fill_wave.Statement.{statement}
 use Rattle.waveform.proofs.fill_wave.Tie as tie
 

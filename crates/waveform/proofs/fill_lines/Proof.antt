@@ -1,0 +1,90 @@
+-- `waveform::fill_lines` meets its contract. The loop's invariant is `Upto` of specs/Lines.antt. Assumes nothing.
+use borrow.Author.Needs.{needs}
+use mathlib.Core.Path.{refl}
+use Prim.Native.Nat.{_-_}
+use native.Mathlib.Omega.{arith}
+use lib.ListN.{length, length-set}
+use Rattle.waveform.specs.Filled.{valueAt}
+use Rattle.waveform.specs.Lines.{Upto}
+use Rattle.waveform.proofs.Loops.{begins, goes-on, ends}
+use Rattle.waveform.proofs.fill_lines.Statement.{statement}
+use Rattle.waveform.proofs.fill_lines.Tie as tie
+
+abbrev Inv-loop : tie.InvT-loop
+Inv-loop out₀ waveform step scale dt phase₀ i₀ out phase i = Upto (valueAt waveform (step .0)) (step .0) scale phase₀ out₀ out phase i
+
+abbrev μ-loop : tie.MeasureT-loop
+μ-loop out₀ waveform step scale dt phase₀ i₀ out phase i = length out₀ - i
+
+in-cycles-requires : tie.Need-in-cycles-requires Inv-loop μ-loop
+in-cycles-requires c κs = search needs
+
+loop-holds : tie.Need-loop-holds Inv-loop μ-loop
+loop-holds c = begins _ _ _ _ _
+
+normalised-requires : tie.Need-normalised-requires Inv-loop μ-loop
+normalised-requires c κs = search needs
+
+value-at-requires : tie.Need-value-at-requires Inv-loop μ-loop
+value-at-requires c κs = search needs
+
+mul-out : tie.Need-mul-out Inv-loop μ-loop
+mul-out c = search needs
+
+slice-write-out : tie.Need-slice-write-out Inv-loop μ-loop
+slice-write-out c = search needs
+
+add-t12 : tie.Need-add-t12 Inv-loop μ-loop
+add-t12 c = omega arith
+
+stretch-from-requires : tie.Need-stretch-from-requires Inv-loop μ-loop
+stretch-from-requires c κs = search needs
+
+run-on-requires : tie.Need-run-on-requires Inv-loop μ-loop
+run-on-requires c κs = search needs
+
+loop-less : tie.Need-loop-less Inv-loop μ-loop
+loop-less c =
+    let ran = c .before .before in
+    let made = ran .before .before .before .before in
+    let at = made .before .before .before in
+    let a = at .before .before .before .args in
+    let straight = rw (at .before .in-cycles .ensures) at (ran .before .before .stretch-from .ensures) in
+    let one-more = goes-on (valueAt (a .waveform) (a .step .0)) (a .step .0) (a .scale) (a .start .0) (a .out .now) (at .loop .out) (at .loop .phase) (made .value-at .result) (at .loop .i) (at .loop .inv) (made .before .before .loop-test .taken) (rw (made .value-at .ensures, made .before .normalised .ensures, at .before .in-cycles .ensures) refl) in
+    omega (arith, ran .run-on .ensures .0, made .before .before .loop-test .taken, at .loop .inv .size)
+
+loop-again : tie.Need-loop-again Inv-loop μ-loop
+loop-again c =
+    let ran = c .before .before in
+    let made = ran .before .before .before .before in
+    let at = made .before .before .before in
+    let a = at .before .before .before .args in
+    let straight = rw (at .before .in-cycles .ensures) at (ran .before .before .stretch-from .ensures) in
+    let one-more = goes-on (valueAt (a .waveform) (a .step .0)) (a .step .0) (a .scale) (a .start .0) (a .out .now) (at .loop .out) (at .loop .phase) (made .value-at .result) (at .loop .i) (at .loop .inv) (made .before .before .loop-test .taken) (rw (made .value-at .ensures, made .before .normalised .ensures, at .before .in-cycles .ensures) refl) in
+    ran .run-on .ensures .1 (valueAt (a .waveform) (a .step .0)) straight (a .start .0) (a .out .now) one-more
+
+same-length : tie.Need-same-length Inv-loop μ-loop
+same-length c = c .before .loop .inv .size
+
+returns : tie.Need-returns Inv-loop μ-loop
+returns c = ends _ _ _ _ _ _ _ _ (c .before .loop .inv) (omega arith)
+
+pub fill-lines-spec : {M : Type 1} → statement M
+fill-lines-spec =
+    tie.close
+    (tie.spec
+    Inv-loop
+    μ-loop
+    in-cycles-requires
+    loop-holds
+    normalised-requires
+    value-at-requires
+    mul-out
+    slice-write-out
+    add-t12
+    stretch-from-requires
+    run-on-requires
+    loop-less
+    loop-again
+    same-length
+    returns)

@@ -1,0 +1,23 @@
+-- `waveform::run_along` meets its contract: the two go on, one after the other. Assumes nothing.
+use borrow.Author.Needs.{needs}
+use native.Mathlib.Nat as nat
+use Rattle.waveform.proofs.run_along.Statement.{statement}
+use Rattle.waveform.proofs.run_along.Tie as tie
+
+run-fours-requires : tie.Need-run-fours-requires
+run-fours-requires c κs = search needs
+
+run-requires : tie.Need-run-requires
+run-requires c κs = search needs
+
+same-length : tie.Need-same-length
+same-length c = search needs
+
+returns : tie.Need-returns
+returns c =
+    let first = c .before .before .before .before .before .before .run-fours .ensures in
+    let then = c .before .before .run .ensures in
+    (nat.le-trans (first .0) (then .0), λ value straight p₀ xs u. then .1 value straight p₀ xs (first .1 value straight p₀ xs u))
+
+pub run-along-spec : {M : Type 1} → statement M
+run-along-spec = tie.close (tie.spec run-fours-requires run-requires same-length returns)

@@ -1,0 +1,62 @@
+-- A waveform between two corrections: the lines that it is made of, the phases on which it is one, and how far an inner loop has come. These serve private functions; no public statement cites them. Definitions only.
+use mathlib.Core.Bool.{Bool, cond, _&&_}
+use mathlib.Core.List.{List}
+use mathlib.Core.Path.{_≡_}
+use Prim.Native.Nat.{ℕ, _≤_}
+use lib.Dec.{T}
+use lib.ListN.{length, take}
+use lib.Ieee.{Float, binary64, ofBits, neg, lt, le, fits}
+use Rattle.floats.specs.Double.{_⊕_, _⊖_, _⊗_, naught, half, one, two, three, four}
+use Rattle.polyblep.specs.declared.Side.the-variants.{Away}
+use Rattle.polyblep.specs.Polyblep.{sideOf, fractOf}
+use Rattle.waveform.specs.declared.Line.{Line}
+use Rattle.waveform.specs.declared.Line.the-variants.{High, Low, Climb, Rise, Fall}
+use Rattle.waveform.specs.declared.Stretch.{Stretch}
+use Rattle.waveform.specs.declared.Reach.{Reach}
+use Rattle.waveform.specs.Waveform.{tau, invTau}
+use Rattle.waveform.specs.Filled.{phaseFrom, samplesBy}
+
+-- the value on a line at the part t of a cycle
+abbrev pub lineOf : Line → Float → Float
+lineOf High t = one
+lineOf Low t = neg one
+lineOf Climb t = two ⊗ t ⊖ one ⊖ naught
+lineOf Rise t = four ⊗ t ⊖ one ⊕ naught ⊖ naught
+lineOf Fall t = three ⊖ four ⊗ t ⊕ naught ⊖ naught
+
+-- ---- the first two cycles
+abbrev pub twoTau : Float
+twoTau = ofBits binary64 0x4029_21fb_5444_2d18
+
+abbrev pub baseOf : Bool → Float
+baseOf first = cond first naught tau
+
+abbrev pub isOneCycle : Bool → Float → Float → Bool
+isOneCycle first low high = cond first (lt naught low && le high tau) (le tau low && le high twoTau)
+
+-- the part of the cycle from base that a phase is
+abbrev pub partOf : Float → Float → Float
+partOf base q = (q ⊖ base) ⊗ invTau
+
+-- ---- a stretch of phases
+abbrev pub Inside : Stretch → Float → Type 0
+Inside s q = T (fits binary64 q) × T (le (s .low) q) × T (lt q (s .high))
+
+-- the values on it are those of its line
+abbrev pub Straight : (Float → Float) → Stretch → Type 0
+Straight value s = (q : Float) → Inside s q → value q ≡ lineOf (s .line) (partOf (s .base) q)
+
+-- with a second edge at the half, the values are those of one of two lines where neither correction is due
+abbrev pub TwoLines : (Float → Float) → Float → Line → Line → Type 0
+TwoLines value dt before behind = (t : Float) → sideOf t dt ≡ Away → sideOf (fractOf (t ⊕ half)) dt ≡ Away → value t ≡ lineOf (cond (lt t half) before behind) t
+
+-- ---- an inner loop: the first i samples are written over what stood before, and the phase stands before sample i
+pub record Upto (value : Float → Float) (step scale p₀ : Float) (before out : List Float) (p : Float) (i : ℕ) : Type 0 where
+  pub size : length out ≡ length before
+  pub within : i ≤ length out
+  pub phase : p ≡ phaseFrom step p₀ i
+  pub samples : take i out ≡ samplesBy value step scale p₀ i
+
+-- from ys and a to zs and b: where the values are the stretch's, a loop that had come to the one has come to the other
+abbrev pub Onward : Stretch → Float → Float → List Float → Reach → List Float → Reach → Type 0
+Onward s step scale ys a zs b = (value : Float → Float) → Straight value s → (p₀ : Float) (xs : List Float) → Upto value step scale p₀ xs ys (a .phase) (a .count) → Upto value step scale p₀ xs zs (b .phase) (b .count)
