@@ -205,7 +205,7 @@ fn fill_sine(out: &mut [f64], start: Radians, step: Radians, scale: f64) -> Radi
     Radians(angle)
 }
 
-// Every other waveform is a line between two corrections: a sample as it is made anywhere, then all on the line from there.
+// Every other waveform is a line between two corrections: the samples on the line, then one as it is made anywhere.
 fn fill_lines(
     out: &mut [f64],
     waveform: Waveform,
@@ -219,15 +219,17 @@ fn fill_lines(
     let mut phase = start.0;
     let mut i = 0;
     while i < out.len() {
-        let t = normalised(Radians(phase));
-        out[i] = value_at(waveform, t, dt) * scale;
-        let at = Reach {
-            phase: phase + step.0,
-            count: i + 1,
-        };
-        let reach = run_on(stretch_from(waveform, phase, dt), at, step.0, scale, out);
+        let stretch = stretch_from(waveform, phase, dt);
+        let reach = run_on(stretch, Reach { phase, count: i }, step.0, scale, out);
         phase = reach.phase;
         i = reach.count;
+        if out.len() <= i {
+            return Radians(phase);
+        }
+        let t = normalised(Radians(phase));
+        out[i] = value_at(waveform, t, dt) * scale;
+        phase = phase + step.0;
+        i += 1;
     }
     Radians(phase)
 }

@@ -1,9 +1,9 @@
 -- `waveform::fill_lines` meets its contract. The loop's invariant is `Upto` of specs/Lines.antt. Assumes nothing.
 use borrow.Author.Needs.{needs}
 use mathlib.Core.Path.{refl}
-use Prim.Native.Nat.{_-_}
+use Prim.Native.Nat.{_-_, _<_}
 use native.Mathlib.Omega.{arith}
-use lib.ListN.{length, length-set}
+use lib.ListN.{length}
 use Rattle.waveform.specs.Filled.{valueAt}
 use Rattle.waveform.specs.Lines.{Upto}
 use Rattle.waveform.proofs.Loops.{begins, goes-on, ends}
@@ -22,6 +22,30 @@ in-cycles-requires c κs = search needs
 loop-holds : tie.Need-loop-holds Inv-loop μ-loop
 loop-holds c = begins _ _ _ _ _
 
+stretch-from-requires : tie.Need-stretch-from-requires Inv-loop μ-loop
+stretch-from-requires c κs = search needs
+
+run-on-requires : tie.Need-run-on-requires Inv-loop μ-loop
+run-on-requires c κs = search needs
+
+same-length : tie.Need-same-length Inv-loop μ-loop
+same-length c =
+    let ran = c .before .before .before in
+    let at = ran .before .before .before .before in
+    let a = at .before .before .before .args in
+    let straight = rw (at .before .in-cycles .ensures) at (ran .before .before .stretch-from .ensures) in
+    let u = ran .run-on .ensures .1 (valueAt (a .waveform) (a .step .0)) straight (a .start .0) (a .out .now) (at .loop .inv) in
+    u .size
+
+returns : tie.Need-returns Inv-loop μ-loop
+returns c =
+    let ran = c .before .before .before in
+    let at = ran .before .before .before .before in
+    let a = at .before .before .before .args in
+    let straight = rw (at .before .in-cycles .ensures) at (ran .before .before .stretch-from .ensures) in
+    let u = ran .run-on .ensures .1 (valueAt (a .waveform) (a .step .0)) straight (a .start .0) (a .out .now) (at .loop .inv) in
+    ends _ _ _ _ _ _ _ _ u (c .if1 .taken)
+
 normalised-requires : tie.Need-normalised-requires Inv-loop μ-loop
 normalised-requires c κs = search needs
 
@@ -34,40 +58,34 @@ mul-out c = search needs
 slice-write-out : tie.Need-slice-write-out Inv-loop μ-loop
 slice-write-out c = search needs
 
-add-t12 : tie.Need-add-t12 Inv-loop μ-loop
-add-t12 c = omega arith
-
-stretch-from-requires : tie.Need-stretch-from-requires Inv-loop μ-loop
-stretch-from-requires c κs = search needs
-
-run-on-requires : tie.Need-run-on-requires Inv-loop μ-loop
-run-on-requires c κs = search needs
+add-i : tie.Need-add-i Inv-loop μ-loop
+add-i c = omega arith
 
 loop-less : tie.Need-loop-less Inv-loop μ-loop
 loop-less c =
-    let ran = c .before .before in
-    let made = ran .before .before .before .before in
-    let at = made .before .before .before in
+    let ran = c .before .before .before .before .before .before in
+    let at = ran .before .before .before .before in
     let a = at .before .before .before .args in
     let straight = rw (at .before .in-cycles .ensures) at (ran .before .before .stretch-from .ensures) in
-    let one-more = goes-on (valueAt (a .waveform) (a .step .0)) (a .step .0) (a .scale) (a .start .0) (a .out .now) (at .loop .out) (at .loop .phase) (made .value-at .result) (at .loop .i) (at .loop .inv) (made .before .before .loop-test .taken) (rw (made .value-at .ensures, made .before .normalised .ensures, at .before .in-cycles .ensures) refl) in
-    omega (arith, ran .run-on .ensures .0, made .before .before .loop-test .taken, at .loop .inv .size)
+    let u = ran .run-on .ensures .1 (valueAt (a .waveform) (a .step .0)) straight (a .start .0) (a .out .now) (at .loop .inv) in
+    let more : ran .run-on .result .count < length (a .out .now) = rw (u .size) at (c .before .before .before .if1 .left) in
+    omega (arith, ran .run-on .ensures .0, more)
 
 loop-again : tie.Need-loop-again Inv-loop μ-loop
 loop-again c =
-    let ran = c .before .before in
-    let made = ran .before .before .before .before in
-    let at = made .before .before .before in
+    let ran = c .before .before .before .before .before .before in
+    let at = ran .before .before .before .before in
     let a = at .before .before .before .args in
     let straight = rw (at .before .in-cycles .ensures) at (ran .before .before .stretch-from .ensures) in
-    let one-more = goes-on (valueAt (a .waveform) (a .step .0)) (a .step .0) (a .scale) (a .start .0) (a .out .now) (at .loop .out) (at .loop .phase) (made .value-at .result) (at .loop .i) (at .loop .inv) (made .before .before .loop-test .taken) (rw (made .value-at .ensures, made .before .normalised .ensures, at .before .in-cycles .ensures) refl) in
-    ran .run-on .ensures .1 (valueAt (a .waveform) (a .step .0)) straight (a .start .0) (a .out .now) one-more
+    let u = ran .run-on .ensures .1 (valueAt (a .waveform) (a .step .0)) straight (a .start .0) (a .out .now) (at .loop .inv) in
+    goes-on (valueAt (a .waveform) (a .step .0)) (a .step .0) (a .scale) (a .start .0) (a .out .now) _ (ran .run-on .result .phase) (c .before .value-at .result) (ran .run-on .result .count) u (c .before .before .before .if1 .left)
+    (rw (c .before .value-at .ensures, c .before .before .normalised .ensures, at .before .in-cycles .ensures) refl)
 
-same-length : tie.Need-same-length Inv-loop μ-loop
-same-length c = c .before .loop .inv .size
+same-length-2 : tie.Need-same-length-2 Inv-loop μ-loop
+same-length-2 c = c .before .loop .inv .size
 
-returns : tie.Need-returns Inv-loop μ-loop
-returns c = ends _ _ _ _ _ _ _ _ (c .before .loop .inv) (omega arith)
+returns-2 : tie.Need-returns-2 Inv-loop μ-loop
+returns-2 c = ends _ _ _ _ _ _ _ _ (c .before .loop .inv) (omega arith)
 
 pub fill-lines-spec : {M : Type 1} → statement M
 fill-lines-spec =
@@ -77,14 +95,16 @@ fill-lines-spec =
     μ-loop
     in-cycles-requires
     loop-holds
+    stretch-from-requires
+    run-on-requires
+    same-length
+    returns
     normalised-requires
     value-at-requires
     mul-out
     slice-write-out
-    add-t12
-    stretch-from-requires
-    run-on-requires
+    add-i
     loop-less
     loop-again
-    same-length
-    returns)
+    same-length-2
+    returns-2)
