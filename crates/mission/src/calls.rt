@@ -3,177 +3,68 @@
 use crate::compared;
 use crate::compared::Report;
 use crate::given;
+use crate::lent;
+use crate::lent::Lent;
 use crate::play;
-use crate::rubbish;
-use crate::settings;
+use crate::play::Played;
+use crate::settings::PAD;
+use crate::sheets;
+use crate::sheets::Score;
 use crate::sheets::Sheet;
 use answers::Numbers;
 use state::State;
 
-// The most words that are lent, and the most samples of a part.
-const WORDS: usize = 36;
-
-const LONGEST: usize = 8300;
-
-// What is lent to a render or a re-render beside the scores: the settings, so many words, and the entry at the first mark.
-pub struct Case {
-    pub setup: u64,
-    pub words: usize,
-    pub entry: [u64; 12],
-}
-
 // A re-render of 4,400 samples from the first mark, refused, or done by the steps of the edited score.
-pub fn again(report: Report, case: Case, old: &[u8], new: &[u8], wanted: Numbers) -> Report {
-    let m = case.words;
-    if m > WORDS {
-        return compared::judged(report, false);
-    }
-    let mut out = [0.0; 4400];
-    let mut shelf = [0u64; 36];
-    again_in(report, case, old, new, wanted, &mut out, &mut shelf[0..m])
-}
-
-fn again_in(
+pub fn again(
     report: Report,
-    case: Case,
-    old: &[u8],
-    new: &[u8],
-    wanted: Numbers,
-    out: &mut [f64],
-    shelf: &mut [u64],
+    setup: u64,
+    lent: Lent,
+    old: Score,
+    new: Score,
+    says: Numbers,
 ) -> Report {
-    let entry = case.entry;
-    lend(out, shelf, entry);
-    let answer = rerender::rerender(settings::of(case.setup), old, new, out, shelf);
-    let start = before(out.len(), wanted.count);
-    as_lent(
-        compared::answered(report, answer, wanted),
-        entry,
-        start,
-        out,
-        shelf,
-    )
+    let got = play::again(setup, old, new, lent);
+    let shelf = lent.shelf;
+    let wanted = play::stepped(PAD, given::edited(), given::state_of(shelf), 0, lent, says);
+    compared::rerendered(report, got, wanted)
 }
 
 // A render that is refused: it hands back the fresh state.
-pub fn whole(report: Report, case: Case, score: &[u8], wanted: Numbers) -> Report {
-    let m = case.words;
-    if m > WORDS {
-        return compared::judged(report, false);
-    }
-    let mut out = [0.0; 4400];
-    let mut shelf = [0u64; 36];
-    whole_in(report, case, score, wanted, &mut out, &mut shelf[0..m])
+pub fn whole(report: Report, setup: u64, lent: Lent, score: Score, says: Numbers) -> Report {
+    let got = play::whole(setup, score, lent);
+    let state = state::fresh();
+    compared::rendered(report, got, Played { says, state, lent })
 }
 
-fn whole_in(
-    report: Report,
-    case: Case,
-    score: &[u8],
-    wanted: Numbers,
-    out: &mut [f64],
-    shelf: &mut [u64],
-) -> Report {
-    let entry = case.entry;
-    lend(out, shelf, entry);
-    let got = render::render(settings::of(case.setup), score, out, shelf);
-    let told = compared::compared_ends(report, got, wanted, state::fresh());
-    as_lent(told, entry, 4400, out, shelf)
-}
-
-// A part of so many samples, refused, which hands back the state as it came, or done by the steps of the sheet.
+// A part of so many samples, done by the steps of the sheet, or refused.
 pub fn part(
     report: Report,
     setup: u64,
     sheet: Sheet,
-    score: &[u8],
     state: State,
     position: u64,
     length: usize,
-    wanted: Numbers,
+    says: Numbers,
 ) -> Report {
-    if length > LONGEST {
-        return compared::judged(report, false);
-    }
-    let mut out = [0.0; 8300];
-    let mut was = [0.0; 8300];
-    part_in(
+    let lent = lent::spoiled(lent::zeros(length, 0), length, 0, lent::NONE);
+    let got = play::part(setup, sheets::written(sheet), state, position, lent);
+    let wanted = play::stepped(setup, sheet, state, position, lent, says);
+    compared::rendered(report, got, wanted)
+}
+
+// A part of a score that is refused: it hands back the state as it came.
+pub fn no_part(report: Report, setup: u64, lent: Lent, score: Score, says: Numbers) -> Report {
+    let shelf = lent.shelf;
+    let state = given::state_of(shelf);
+    let rubbish = lent::spoiled(lent::zeros(304, 0), 304, 0, lent::NONE);
+    let got = play::part(setup, score, state, 4096, rubbish);
+    compared::rendered(
         report,
-        setup,
-        sheet,
-        score,
-        state,
-        position,
-        wanted,
-        &mut out[0..length],
-        &mut was[0..length],
+        got,
+        Played {
+            says,
+            state,
+            lent: rubbish,
+        },
     )
-}
-
-fn part_in(
-    report: Report,
-    setup: u64,
-    sheet: Sheet,
-    score: &[u8],
-    state: State,
-    position: u64,
-    wanted: Numbers,
-    out: &mut [f64],
-    was: &mut [f64],
-) -> Report {
-    let n = out.len();
-    rubbish::spoil_samples(out, n);
-    rubbish::spoil_samples(was, n);
-    let got = render::continue_render(settings::of(setup), score, state, position, out);
-    let end = play::steps_from(setup, sheet, state, position, before(n, wanted.count), was);
-    let told = compared::compared_ends(report, got, wanted, end);
-    compared::compared_samples(told, out, was)
-}
-
-// Where the last samples begin.
-fn before(n: usize, count: usize) -> usize {
-    if count <= n {
-        return n - count;
-    }
-    n
-}
-
-// Rubbish, but for the entry at the first mark.
-fn lend(out: &mut [f64], shelf: &mut [u64], entry: [u64; 12]) {
-    rubbish::spoil_samples(out, out.len());
-    rubbish::spoil_words(shelf, shelf.len());
-    rubbish::put_entry(shelf, 12, &entry, 0);
-}
-
-// All is as it was lent; but from `start` on the samples are the steps of the edited score.
-fn as_lent(report: Report, entry: [u64; 12], start: usize, out: &[f64], shelf: &[u64]) -> Report {
-    let m = shelf.len();
-    if m > WORDS {
-        return compared::judged(report, false);
-    }
-    let mut was = [0.0; 4400];
-    let mut words = [0u64; 36];
-    as_was(report, entry, start, out, shelf, &mut was, &mut words[0..m])
-}
-
-fn as_was(
-    report: Report,
-    entry: [u64; 12],
-    start: usize,
-    out: &[f64],
-    shelf: &[u64],
-    was: &mut [f64],
-    words: &mut [u64],
-) -> Report {
-    lend(was, words, entry);
-    play::steps_from(
-        settings::PAD,
-        given::edited(),
-        given::state_of(entry),
-        0,
-        start,
-        was,
-    );
-    let heard = compared::compared_samples(report, out, was);
-    compared::compared_words(heard, shelf, words)
 }

@@ -4,18 +4,13 @@ use crate::compared;
 use crate::compared::Report;
 use crate::dice;
 use crate::edits;
-use crate::play;
+use crate::lent;
 use crate::settings::PLAYED;
 use crate::sheets;
 use crate::sheets::OFF;
 use crate::sheets::ON;
 use crate::sheets::RESET;
 use crate::sheets::Sheet;
-
-// The longest output here and its shelf.
-const LONGEST: usize = 12289;
-
-const WORDS: usize = 48;
 
 // The edits of a chain: four at each of nine places, and then those by the dice.
 const PLACED: u64 = 36;
@@ -44,54 +39,39 @@ pub fn late() -> Report {
     report
 }
 
+// Each edit over rubbish first, from the shelf that the edits before it have left.
 fn chain(k: u64) -> Report {
     let n = length(k);
-    let m = shelf::words_for(n);
-    let mut out = [0.0; 12289];
-    let mut shelf = [0u64; 48];
-    if n > LONGEST {
-        return compared::judged(compared::nothing(), false);
-    }
-    if m > WORDS {
-        return compared::judged(compared::nothing(), false);
-    }
-    chained(k, &mut out[0..n], &mut shelf[0..m])
-}
-
-// Each edit over rubbish first, from the shelf that the edits before it have left.
-fn chained(k: u64, out: &mut [f64], shelf: &mut [u64]) -> Report {
-    let n = out.len();
-    let mut report = compared::nothing();
-    let mut score = first(k);
+    let mut chain = edits::begun(k, first(k), n);
     let mut seed = dice::thrown(k, 1);
-    play::from_zero(k, score, out, shelf);
     let mut turn = 0;
     while turn < EDITS {
+        let score = chain.score;
         let next = edited(score, turn, seed, n as u64);
-        report = edits::edit_over_rubbish(report, k, score, next, n, shelf);
-        report = edits::edit(report, k, score, next, out, shelf);
-        score = next;
+        let report = edits::edit_over_rubbish(chain.report, k, score, next, chain.lent);
+        chain.report = report;
+        chain = edits::edit(chain, k, next);
         seed = dice::thrown(seed, 8);
         turn += 1;
     }
-    report
+    chain.report
 }
 
 // No word is read: the whole shelf is rubbish.
 fn late_by(report: Report, k: u64) -> Report {
-    let none = [0u64; 12];
     let n = length(k);
+    let none = lent::zeros(n, shelf::words_for(n));
     let score = sheets::with(first(k), sheets::record(n as u64, ON, 70, 70));
     let last = sheets::last_at(score, n as u64);
     let gone = sheets::removed(score, last);
     let later = sheets::moved(score, last, 0xffff_ffff);
     let quieter = sheets::revalued(score, last, 1);
     let longer = sheets::with(later, sheets::record(0xffff_ffff, OFF, 70, 0));
-    let one = edits::edit_over_rubbish(report, k, score, score, n, &none);
-    let two = edits::edit_over_rubbish(one, k, score, gone, n, &none);
-    let three = edits::edit_over_rubbish(two, k, score, later, n, &none);
-    let four = edits::edit_over_rubbish(three, k, score, quieter, n, &none);
-    edits::edit_over_rubbish(four, k, later, longer, n, &none)
+    let one = edits::edit_over_rubbish(report, k, score, score, none);
+    let two = edits::edit_over_rubbish(one, k, score, gone, none);
+    let three = edits::edit_over_rubbish(two, k, score, later, none);
+    let four = edits::edit_over_rubbish(three, k, score, quieter, none);
+    edits::edit_over_rubbish(four, k, later, longer, none)
 }
 
 // The length of an output: three marks and beside them, one mark more, and none of these.

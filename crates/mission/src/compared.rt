@@ -1,27 +1,26 @@
-// What a line of the program tells: how many answers of calls, samples and words were compared and how many of them were
-// equal, and how many samples the edits changed. Floats are compared by their bits.
-use answers::Answer;
+// What a line of the program tells: how many answers of calls, samples and words were compared and how many of them differ,
+// and how many samples the edits changed. Floats are compared by their bits.
+use crate::lent;
+use crate::lent::Lent;
+use crate::play::Played;
 use answers::Numbers;
 use libc::STDOUT_FILENO;
-use render::Rendered;
 use state::State;
-use tally::Tally;
-
-// No f64's bits, as `words` answers them.
-const NONE: u64 = 0xffff_ffff_ffff_ffff;
 
 pub struct Report {
-    pub answers: Tally,
-    pub samples: Tally,
-    pub words: Tally,
+    pub calls: u64,
+    pub samples: u64,
+    pub words: u64,
+    pub differ: u64,
     pub changed: u64,
 }
 
 pub fn nothing() -> Report {
     Report {
-        answers: tally::none(),
-        samples: tally::none(),
-        words: tally::none(),
+        calls: 0,
+        samples: 0,
+        words: 0,
+        differ: 0,
         changed: 0,
     }
 }
@@ -43,106 +42,89 @@ pub fn refused(number: u8, place: usize) -> Numbers {
     }
 }
 
-pub fn answered(report: Report, answer: Answer, wanted: Numbers) -> Report {
-    let got = answers::in_numbers(answer);
+// What a re-render says and leaves.
+pub fn rerendered(report: Report, got: Played, wanted: Played) -> Report {
+    let told = answered(report, got.says, wanted.says);
+    lents(told, got.lent, wanted.lent)
+}
+
+// What a render or a part says and leaves, and the state that it hands back.
+pub fn rendered(report: Report, got: Played, wanted: Played) -> Report {
+    let ended = states(report, got.state, wanted.state);
+    rerendered(ended, got, wanted)
+}
+
+pub fn answered(report: Report, got: Numbers, wanted: Numbers) -> Report {
+    let mut next = report;
+    next.calls = tally::one_more(report.calls);
     let equal = (got.number == wanted.number)
         & (got.place == wanted.place)
         & (got.count == wanted.count);
-    judged(report, equal)
-}
-
-// A call's answer is right or not.
-pub fn judged(report: Report, equal: bool) -> Report {
-    let samples = report.samples;
-    let words = report.words;
-    Report {
-        answers: tally::counted(report.answers, equal),
-        samples,
-        words,
-        changed: report.changed,
-    }
-}
-
-pub fn compared_samples(report: Report, got: &[f64], wanted: &[f64]) -> Report {
-    let answers = report.answers;
-    let samples = count_samples(report.samples, got, wanted);
-    let words = report.words;
-    let equal = got.len() == wanted.len();
-    all_there(
-        Report {
-            answers,
-            samples,
-            words,
-            changed: report.changed,
-        },
-        equal,
-    )
-}
-
-pub fn compared_words(report: Report, got: &[u64], wanted: &[u64]) -> Report {
-    let answers = report.answers;
-    let samples = report.samples;
-    let words = count_words(report.words, got, wanted);
-    let equal = got.len() == wanted.len();
-    all_there(
-        Report {
-            answers,
-            samples,
-            words,
-            changed: report.changed,
-        },
-        equal,
-    )
+    judged(next, equal)
 }
 
 // Two states, as the twelve words of each.
-pub fn compared_states(report: Report, got: State, wanted: State) -> Report {
+pub fn states(report: Report, got: State, wanted: State) -> Report {
     let these = shelf::encode(got);
     let those = shelf::encode(wanted);
-    compared_words(report, &these, &those)
+    words(report, &these, &those)
 }
 
-// What a render or a part says, and the state that it hands back.
-pub fn compared_ends(report: Report, got: Rendered, wanted: Numbers, state: State) -> Report {
-    let answer = got.answer;
-    let end = got.state;
-    compared_states(answered(report, answer, wanted), end, state)
+pub fn samples(before: Report, got: Lent, wanted: Lent) -> Report {
+    let these = got.out;
+    let those = wanted.out;
+    let end = lent::at_most(got.samples, 20000);
+    let mut report = before;
+    let mut i = 0;
+    while i < end {
+        report.samples = tally::one_more(report.samples);
+        report = judged(
+            report,
+            words::f64_bits(these[i]) == words::f64_bits(those[i]),
+        );
+        i += 1;
+    }
+    report
+}
+
+// A wrong length differs once.
+pub fn words(before: Report, got: &[u64], wanted: &[u64]) -> Report {
+    let mut report = judged(before, got.len() == wanted.len());
+    let mut i = 0;
+    while i < got.len() {
+        report.words = tally::one_more(report.words);
+        report = judged(report, is_at(wanted, i, got[i]));
+        i += 1;
+    }
+    report
 }
 
 // Counts the samples that are others before an edit than after it.
-pub fn heard(report: Report, before: Report) -> Report {
-    let answers = report.answers;
-    let samples = report.samples;
-    let words = report.words;
-    Report {
-        answers,
-        samples,
-        words,
-        changed: sum(report.changed, unequal(before.samples)),
-    }
+pub fn heard(report: Report, before: Lent, after: Lent) -> Report {
+    let unlike = samples(nothing(), before, after);
+    let mut next = report;
+    next.changed = sum(report.changed, unlike.differ);
+    next
 }
 
 pub fn added(a: Report, b: Report) -> Report {
     Report {
-        answers: tallies(a.answers, b.answers),
-        samples: tallies(a.samples, b.samples),
-        words: tallies(a.words, b.words),
+        calls: sum(a.calls, b.calls),
+        samples: sum(a.samples, b.samples),
+        words: sum(a.words, b.words),
+        differ: sum(a.differ, b.differ),
         changed: sum(a.changed, b.changed),
     }
 }
 
 pub fn tell(report: Report) {
-    let answers = report.answers;
-    let samples = report.samples;
-    let words = report.words;
-    io::print_decimal(STDOUT_FILENO, answers.rows);
+    io::print_decimal(STDOUT_FILENO, report.calls);
     io::write_all(STDOUT_FILENO, b" calls, ");
-    io::print_decimal(STDOUT_FILENO, samples.rows);
+    io::print_decimal(STDOUT_FILENO, report.samples);
     io::write_all(STDOUT_FILENO, b" samples and ");
-    io::print_decimal(STDOUT_FILENO, words.rows);
+    io::print_decimal(STDOUT_FILENO, report.words);
     io::write_all(STDOUT_FILENO, b" words compared, ");
-    let differ = sum(unequal(answers), sum(unequal(samples), unequal(words)));
-    io::print_decimal(STDOUT_FILENO, differ);
+    io::print_decimal(STDOUT_FILENO, report.differ);
     io::write_all(STDOUT_FILENO, b" differ\n");
 }
 
@@ -152,39 +134,16 @@ pub fn tell_edits(report: Report) {
     tell(report);
 }
 
-// A wrong length tells as a wrong answer.
-fn all_there(report: Report, equal: bool) -> Report {
-    if equal {
-        return report;
-    }
-    judged(report, false)
+fn lents(report: Report, got: Lent, wanted: Lent) -> Report {
+    let heard = samples(report, got, wanted);
+    let these = got.shelf;
+    let those = wanted.shelf;
+    shelves(heard, these, those, got.words)
 }
 
-fn count_samples(before: Tally, got: &[f64], wanted: &[f64]) -> Tally {
-    let mut tally = before;
-    let mut i = 0;
-    while i < got.len() {
-        tally = tally::counted(tally, bits_at(got, i) == bits_at(wanted, i));
-        i += 1;
-    }
-    tally
-}
-
-fn count_words(before: Tally, got: &[u64], wanted: &[u64]) -> Tally {
-    let mut tally = before;
-    let mut i = 0;
-    while i < got.len() {
-        tally = tally::counted(tally, is_at(wanted, i, got[i]));
-        i += 1;
-    }
-    tally
-}
-
-fn bits_at(samples: &[f64], i: usize) -> u64 {
-    if i < samples.len() {
-        return words::f64_bits(samples[i]);
-    }
-    NONE
+fn shelves(report: Report, got: [u64; 60], wanted: [u64; 60], count: usize) -> Report {
+    let m = lent::at_most(count, 60);
+    words(report, &got[0..m], &wanted[0..m])
 }
 
 fn is_at(words: &[u64], i: usize, word: u64) -> bool {
@@ -194,18 +153,12 @@ fn is_at(words: &[u64], i: usize, word: u64) -> bool {
     false
 }
 
-fn unequal(tally: Tally) -> u64 {
-    if tally.equal < tally.rows {
-        return tally.rows - tally.equal;
+fn judged(report: Report, equal: bool) -> Report {
+    let mut next = report;
+    if !equal {
+        next.differ = tally::one_more(report.differ);
     }
-    0
-}
-
-fn tallies(a: Tally, b: Tally) -> Tally {
-    Tally {
-        rows: sum(a.rows, b.rows),
-        equal: sum(a.equal, b.equal),
-    }
+    next
 }
 
 // The sum, or the largest number.

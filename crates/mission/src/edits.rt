@@ -2,31 +2,45 @@
 ghost use Prim.Native.Nat.{_≤_};
 use crate::compared;
 use crate::compared::Report;
+use crate::lent;
+use crate::lent::Lent;
 use crate::play;
-use crate::rubbish;
+use crate::play::Played;
 use crate::sheets;
 use crate::sheets::Sheet;
 
-// The longest output and its shelf.
-const LONGEST: usize = 20000;
+// What a chain of edits carries on: the last score, and the output and the shelf that its re-render left.
+pub struct Chain {
+    pub report: Report,
+    pub score: Sheet,
+    pub lent: Lent,
+}
 
-const WORDS: usize = 60;
+pub fn begun(setup: u64, score: Sheet, n: usize) -> Chain {
+    let first = play::from_zero(setup, score, n);
+    let report = compared::nothing();
+    let lent = first.lent;
+    Chain {
+        report,
+        score,
+        lent,
+    }
+}
 
 // Over an output and a shelf that hold what the edits before have left.
-pub fn edit(
-    report: Report,
-    setup: u64,
-    old: Sheet,
-    new: Sheet,
-    out: &mut [f64],
-    shelf: &mut [u64],
-) -> Report {
-    let n = out.len();
-    let before = beside_zero(compared::nothing(), setup, new, 0, out, shelf);
-    let answer = play::again(setup, old, new, out, shelf);
-    let wanted = compared::done(n - start_of(old, new, n));
-    let told = compared::answered(compared::heard(report, before), answer, wanted);
-    beside_zero(told, setup, new, 0, out, shelf)
+pub fn edit(chain: Chain, setup: u64, new: Sheet) -> Chain {
+    let old = chain.score;
+    let before = chain.lent;
+    let wanted = by_zero(setup, old, new, before.samples);
+    let got = play::again(setup, sheets::written(old), sheets::written(new), before);
+    let heard = compared::heard(chain.report, before, wanted.lent);
+    let report = compared::rerendered(heard, got, wanted);
+    let lent = got.lent;
+    Chain {
+        report,
+        score: new,
+        lent,
+    }
 }
 
 // Over rubbish in every sample, and in every word but those of the start entry, which is that of an honest shelf: what
@@ -36,96 +50,25 @@ pub fn edit_over_rubbish(
     setup: u64,
     old: Sheet,
     new: Sheet,
-    n: usize,
-    honest: &[u64],
+    honest: Lent,
 ) -> Report {
-    let m = shelf::words_for(n);
-    if n > LONGEST {
-        return compared::judged(report, false);
-    }
-    if m > WORDS {
-        return compared::judged(report, false);
-    }
-    let mut out = [0.0; 20000];
-    let mut words = [0u64; 60];
-    over_rubbish(
-        report,
-        setup,
-        old,
-        new,
-        honest,
-        &mut out[0..n],
-        &mut words[0..m],
-    )
-}
-
-fn over_rubbish(
-    report: Report,
-    setup: u64,
-    old: Sheet,
-    new: Sheet,
-    honest: &[u64],
-    out: &mut [f64],
-    shelf: &mut [u64],
-) -> Report {
-    let n = out.len();
-    let m = shelf.len();
+    let n = honest.samples;
     let from = start_of(old, new, n);
-    let word = entry_of(from, n, m);
-    rubbish::spoil_samples(out, n);
-    rubbish::spoil_words(shelf, m);
-    rubbish::put_entry(shelf, word, honest, word);
-    let answer = play::again(setup, old, new, out, shelf);
-    let told = compared::answered(report, answer, compared::done(n - from));
-    beside_zero(told, setup, new, from, out, shelf)
+    let entry = entry_of(from, n);
+    let rubbish = lent::spoiled(honest, n, 60, entry);
+    let got = play::again(setup, sheets::written(old), sheets::written(new), rubbish);
+    let mut wanted = by_zero(setup, old, new, n);
+    let left = lent::spoiled(wanted.lent, from, 12 * entry, lent::NONE);
+    wanted.lent = left;
+    compared::rerendered(report, got, wanted)
 }
 
-// Rubbish before a mark, and from there on a render from zero.
-fn beside_zero(
-    report: Report,
-    setup: u64,
-    new: Sheet,
-    from: usize,
-    out: &[f64],
-    shelf: &[u64],
-) -> Report {
-    let n = out.len();
-    let m = shelf.len();
-    if n > LONGEST {
-        return compared::judged(report, false);
-    }
-    if m > WORDS {
-        return compared::judged(report, false);
-    }
-    let mut whole = [0.0; 20000];
-    let mut entries = [0u64; 60];
-    beside(
-        report,
-        setup,
-        new,
-        from,
-        out,
-        shelf,
-        &mut whole[0..n],
-        &mut entries[0..m],
-    )
-}
-
-fn beside(
-    report: Report,
-    setup: u64,
-    new: Sheet,
-    from: usize,
-    out: &[f64],
-    shelf: &[u64],
-    whole: &mut [f64],
-    entries: &mut [u64],
-) -> Report {
-    play::from_zero(setup, new, whole, entries);
-    rubbish::spoil_samples(whole, from);
-    rubbish::spoil_words(entries, entry_of(from, out.len(), shelf.len()));
-    let heard = compared::compared_samples(report, out, whole);
-    compared::compared_words(heard, shelf, entries)
+// A render of the new score from zero, with what a re-render says.
+fn by_zero(setup: u64, old: Sheet, new: Sheet, n: usize) -> Played {
+    let mut wanted = play::from_zero(setup, new, n);
+    let says = compared::done(n - start_of(old, new, n));
+    wanted.says = says;
+    wanted
 }
 
 // The mark from which on a re-render writes, or the end where it writes nothing.
@@ -139,10 +82,12 @@ fn start_of(old: Sheet, new: Sheet, n: usize) -> usize
     n
 }
 
-// The first word of the entry at a mark, or the shelf's end.
-fn entry_of(from: usize, n: usize, m: usize) -> usize {
+// The entry at a mark, or none.
+fn entry_of(from: usize, n: usize) -> usize
+    ensures { λ r. ⌜ r ≤ 5 ⌝ }
+{
     if from < n {
-        return from / 4096 * 12;
+        return lent::at_most(from / 4096, lent::NONE);
     }
-    m
+    lent::NONE
 }

@@ -1,5 +1,7 @@
 // An edit behind the first mark, and the entry there, as it is or doctored: what refused calls and given states are played
 // on.
+use crate::lent;
+use crate::lent::Lent;
 use crate::play;
 use crate::settings;
 use crate::sheets;
@@ -39,29 +41,29 @@ pub fn edited() -> Sheet {
     sheets::revalued(score(), 2, 127)
 }
 
-// The state before sample 4096, from sample zero on, in words.
-pub fn entry() -> [u64; 12] {
-    let mut out = [0.0; 4096];
-    let mut shelf = [0u64; 12];
-    let end = play::from_zero(settings::PAD, score(), &mut out, &mut shelf);
-    let state = end.state;
-    shelf::encode(state)
-}
-
-// The state that an entry is read as.
-pub fn state_of(entry: [u64; 12]) -> State {
-    let held = shelf::decode(&entry);
-    held.state
-}
-
-// One word changed.
-pub fn changed(entry: [u64; 12], by: Change) -> [u64; 12] {
-    let mut words = entry;
+// Rubbish in 4,400 samples and in so many words, but for the entry at the first mark, of which one word is changed.
+pub fn lent(words: usize, by: Change) -> Lent {
+    let zero = play::from_zero(settings::PAD, score(), 4400);
+    let mut lent = zero.lent;
+    let mut shelf = lent.shelf;
     let word = by.word;
     if word < 12 {
-        words[word] = by.bits;
+        shelf[12 + word] = by.bits;
     }
-    words
+    lent.shelf = shelf;
+    lent.words = words;
+    lent::spoiled(lent, 4400, words, 1)
+}
+
+// The state that the entry is read as.
+pub fn state_of(shelf: [u64; 60]) -> State {
+    let entry = shelf::decode(&shelf[12..24]);
+    entry.state
+}
+
+// No word changed.
+pub fn honest() -> Change {
+    at(12, 0)
 }
 
 // Entries within the limits: their ends, and what no render leads to.

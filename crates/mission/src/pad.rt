@@ -1,8 +1,6 @@
 // What the voice exists for: a slowly falling pad, edited five times, each time re-rendered where it stands.
-use crate::compared;
 use crate::compared::Report;
 use crate::edits;
-use crate::play;
 use crate::settings::PAD;
 use crate::sheets;
 use crate::sheets::OFF;
@@ -10,23 +8,14 @@ use crate::sheets::ON;
 use crate::sheets::Sheet;
 
 pub fn played() -> Report {
-    let mut out = [0.0; 20000];
-    let mut shelf = [0u64; 60];
-    played_in(&mut out, &mut shelf)
-}
-
-fn played_in(out: &mut [f64], shelf: &mut [u64]) -> Report {
-    let mut report = compared::nothing();
-    let mut score = chord();
-    play::from_zero(PAD, score, out, shelf);
+    let mut chain = edits::begun(PAD, chord(), 20000);
     let mut k = 0;
     while k < 5 {
-        let next = edited(score, k);
-        report = edits::edit(report, PAD, score, next, out, shelf);
-        score = next;
+        let score = chain.score;
+        chain = edits::edit(chain, PAD, edited(score, k));
         k += 1;
     }
-    report
+    chain.report
 }
 
 // A chord that is held from sample zero, its highest note lifted late.

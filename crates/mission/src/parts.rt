@@ -1,11 +1,11 @@
 // A score in parts of each length beside one render of it from zero, the score growing on the way; and what these are held
 // to in turn.
 ghost use Prim.Native.Nat.{_≤_};
-ghost use lib.ListN.{length};
 use crate::calls;
 use crate::compared;
 use crate::compared::Report;
 use crate::dice;
+use crate::lent;
 use crate::play;
 use crate::settings;
 use crate::settings::PLAYED;
@@ -49,69 +49,37 @@ pub fn stepped() -> Report {
 }
 
 fn by_steps(report: Report, setup: u64) -> Report {
-    let sheet = tune();
-    let bytes = sheets::bytes_of(sheet);
     let state = state::fresh();
-    calls::part(
-        report,
-        setup,
-        sheet,
-        &bytes[0..140],
-        state,
-        0,
-        8300,
-        compared::done(8300),
-    )
+    calls::part(report, setup, tune(), state, 0, 8300, compared::done(8300))
 }
 
 fn by_ends(report: Report, setup: u64) -> Report {
-    let mut out = [0.0; 8300];
-    let mut shelf = [0u64; 36];
-    play::from_zero(setup, tune(), &mut out, &mut shelf);
-    let entries = &shelf[0..36];
-    let one = by_end(report, setup, 4096, &entries[12..24]);
-    by_end(one, setup, 8192, &entries[24..36])
+    let whole = play::from_zero(setup, tune(), 8300);
+    let lent = whole.lent;
+    let shelf = lent.shelf;
+    entries(report, setup, shelf)
 }
 
-fn by_end(report: Report, setup: u64, n: usize, entry: &[u64]) -> Report {
-    let m = shelf::words_for(n);
-    if n > 8192 {
-        return compared::judged(report, false);
-    }
-    if m > 24 {
-        return compared::judged(report, false);
-    }
-    let mut out = [0.0; 8192];
-    let mut shelf = [0u64; 24];
-    let shorter = play::from_zero(setup, tune(), &mut out[0..n], &mut shelf[0..m]);
-    let end = shorter.state;
-    let wanted = shelf::encode(end);
-    compared::compared_words(report, entry, &wanted)
+fn entries(report: Report, setup: u64, shelf: [u64; 60]) -> Report {
+    let one = compared::words(report, &shelf[12..24], &end_of(setup, 4096));
+    compared::words(one, &shelf[24..36], &end_of(setup, 8192))
 }
 
-fn cut(report: Report, k: u64, way: u64) -> Report {
-    let mut whole = [0.0; 8300];
-    let mut shelf = [0u64; 36];
-    let mut out = [0.0; 8300];
-    cut_in(report, k, way, &mut whole, &mut shelf, &mut out)
+fn end_of(setup: u64, n: usize) -> [u64; 12] {
+    let shorter = play::from_zero(setup, tune(), n);
+    shelf::encode(shorter.state)
 }
 
 // The samples, and the end state.
-fn cut_in(
-    report: Report,
-    setup: u64,
-    way: u64,
-    whole: &mut [f64],
-    shelf: &mut [u64],
-    out: &mut [f64],
-) -> Report {
-    let rendered = play::from_zero(setup, tune(), whole, shelf);
-    let end = rendered.state;
-    let air = in_parts(report, setup, way, out);
-    let told = air.report;
-    let got = air.state;
-    let stated = compared::compared_states(told, got, end);
-    compared::compared_samples(stated, out, whole)
+fn cut(report: Report, setup: u64, way: u64) -> Report {
+    let mut out = [0.0; 20000];
+    let air = in_parts(report, setup, way, &mut out[0..8300]);
+    let whole = play::from_zero(setup, tune(), 8300);
+    let ended = compared::states(air.report, air.state, whole.state);
+    let lent = whole.lent;
+    let mut got = lent;
+    got.out = out;
+    compared::samples(ended, got, lent)
 }
 
 // A proved loop has to end: there are no more parts than samples.
@@ -143,12 +111,13 @@ fn next(air: Air, setup: u64, sheet: Sheet, bytes: &[u8], end: usize, out: &mut 
     let state = air.state;
     let position = air.position as u64;
     let records = grown(sheet, air.records, end as u64, air.seed);
-    let size = size_in(bytes, records);
+    let size = lent::at_most(10 * records, bytes.len());
     let got = render::continue_render(settings::of(setup), &bytes[0..size], state, position, out);
-    let answer = got.answer;
     let after = got.state;
+    let answer = got.answer;
+    let says = answers::in_numbers(answer);
     Air {
-        report: compared::answered(report, answer, compared::done(out.len())),
+        report: compared::answered(report, says, compared::done(out.len())),
         state: after,
         position: end,
         records,
@@ -157,29 +126,21 @@ fn next(air: Air, setup: u64, sheet: Sheet, bytes: &[u8], end: usize, out: &mut 
 }
 
 // How many records the score has by now: all below the part's end, and one more now and then.
-fn grown(sheet: Sheet, before: usize, end: u64, seed: u64) -> usize {
+fn grown(sheet: Sheet, before: usize, end: u64, seed: u64) -> usize
+    ensures { λ r. ⌜ r ≤ 24 ⌝ }
+{
     let needed = sheets::below(sheet, end);
     if before < needed {
         return needed;
     }
-    if before >= sheets::count(sheet) {
-        return before;
+    let all = sheets::count(sheet);
+    if before >= all {
+        return all;
     }
     if dice::thrown(seed, 2) % 50 == 0 {
         return before + 1;
     }
     before
-}
-
-// The bytes of so many records.
-fn size_in(bytes: &[u8], records: usize) -> usize
-    ensures { λ r. ⌜ r ≤ length (now (bytes .entry)) ⌝ }
-{
-    let size = sheets::size_of(records);
-    if size <= bytes.len() {
-        return size;
-    }
-    bytes.len()
 }
 
 // The length of the next part; by the dice it may be 0.

@@ -1,20 +1,19 @@
 // Refused calls: each number and place, and every lent sample and word as it was, which is rubbish but for one entry.
 use crate::calls;
-use crate::calls::Case;
 use crate::compared;
 use crate::compared::Report;
 use crate::compared::refused;
 use crate::given;
 use crate::given::Change;
+use crate::lent::Lent;
 use crate::settings::PAD;
 use crate::settings::PLAYED;
 use crate::settings::REFUSED;
 use crate::sheets;
+use crate::sheets::Score;
 use answers::Numbers;
 
-// The bytes of the score, and the words of the shelf.
-const SIZE: usize = 60;
-
+// The words of the shelf.
 const WORDS: usize = 24;
 
 // A byte of the score, what stands there instead, and what the call then says.
@@ -26,140 +25,123 @@ struct Fault {
 }
 
 pub fn played() -> Report {
-    let old = sheets::bytes_of(given::score());
-    let new = sheets::bytes_of(given::edited());
-    all_played(given::entry(), &old[0..SIZE], &new[0..SIZE])
-}
-
-fn all_played(entry: [u64; 12], old: &[u8], new: &[u8]) -> Report {
-    let six = settings_refused(compared::nothing(), entry, old, new);
-    let seven = sizes_refused(six, entry, old, new);
-    let one = lengths_refused(seven, entry, old, new);
-    let five = scores_refused(one, entry, old, new);
-    let eight = entries_refused(five, entry, old, new);
-    in_order(eight, given::changed(entry, given::outside(0)), old, new)
+    let six = settings_refused(compared::nothing());
+    let seven = sizes_refused(six);
+    let one = lengths_refused(seven);
+    let five = scores_refused(one);
+    let eight = entries_refused(five);
+    in_order(eight)
 }
 
 // 6
-fn settings_refused(before: Report, entry: [u64; 12], old: &[u8], new: &[u8]) -> Report {
+fn settings_refused(before: Report) -> Report {
     let mut report = before;
     let mut k = 0;
     while k < REFUSED {
-        let case = of(PLAYED + k, WORDS, entry);
-        report = all_refused(report, case, old, new, refused(6, 0));
+        report = all_refused(report, PLAYED + k, old(), refused(6, 0));
         k += 1;
     }
     report
 }
 
 // 7
-fn sizes_refused(before: Report, entry: [u64; 12], old: &[u8], new: &[u8]) -> Report {
+fn sizes_refused(before: Report) -> Report {
     let mut report = before;
     let mut k = 0;
     while k < 6 {
-        let case = of(PAD, wrong_size(k), entry);
-        report = calls::again(report, case, old, new, refused(7, 0));
-        report = calls::whole(report, case, old, refused(7, 0));
+        report = size_refused(report, wrong_size(k));
         k += 1;
     }
     report
+}
+
+fn size_refused(report: Report, words: usize) -> Report {
+    let lent = given::lent(words, given::honest());
+    let again = calls::again(report, PAD, lent, old(), new(), refused(7, 0));
+    calls::whole(again, PAD, lent, old(), refused(7, 0))
 }
 
 // 1 and 17: a record that is cut short, a byte too many, and more than 4,096 records.
-fn lengths_refused(report: Report, entry: [u64; 12], old: &[u8], new: &[u8]) -> Report {
-    let many = [0u8; 40970];
-    let long = [0u8; 61];
-    let case = of(PAD, WORDS, entry);
-    let first = length_refused(report, case, old, new, &many);
-    let second = length_refused(first, case, old, new, &long);
-    length_refused(second, case, old, new, &long[0..59])
-}
-
-fn length_refused(report: Report, case: Case, old: &[u8], new: &[u8], wrong: &[u8]) -> Report {
-    let first = all_refused(report, case, wrong, new, refused(1, 0));
-    calls::again(first, case, old, wrong, refused(17, 0))
+fn lengths_refused(report: Report) -> Report {
+    let many = score_refused(report, zeros(40970), 1, 0);
+    let long = score_refused(many, zeros(61), 1, 0);
+    score_refused(long, zeros(59), 1, 0)
 }
 
 // 2 to 5, and 18 to 21
-fn scores_refused(before: Report, entry: [u64; 12], old: &[u8], new: &[u8]) -> Report {
+fn scores_refused(before: Report) -> Report {
     let mut report = before;
     let mut k = 0;
     while k < 11 {
-        report = score_refused(report, of(PAD, WORDS, entry), old, new, fault_of(k));
+        let fault = fault_of(k);
+        report = score_refused(report, faulty(fault), fault.number, fault.place);
         k += 1;
     }
     report
 }
 
-fn score_refused(report: Report, case: Case, old: &[u8], new: &[u8], fault: Fault) -> Report {
-    let bytes = faulty(fault);
-    let wrong = &bytes[0..SIZE];
-    let first = all_refused(report, case, wrong, new, refused(fault.number, fault.place));
-    let number = new_number(fault.number);
-    calls::again(first, case, old, wrong, refused(number, fault.place))
+// As the old or only score, and as the new one.
+fn score_refused(report: Report, wrong: Score, number: u8, place: usize) -> Report {
+    let first = all_refused(report, PAD, wrong, refused(number, place));
+    calls::again(
+        first,
+        PAD,
+        lent(),
+        old(),
+        wrong,
+        refused(new_number(number), place),
+    )
 }
 
 // 8
-fn entries_refused(before: Report, entry: [u64; 12], old: &[u8], new: &[u8]) -> Report {
+fn entries_refused(before: Report) -> Report {
     let mut report = before;
     let mut k = 0;
     while k < given::OUTSIDE + given::STAGES {
-        let doctored = given::changed(entry, no_entry(k));
-        let case = of(PAD, WORDS, doctored);
-        report = calls::again(report, case, old, new, refused(8, 0));
+        let doctored = given::lent(WORDS, no_entry(k));
+        report = calls::again(report, PAD, doctored, old(), new(), refused(8, 0));
         k += 1;
     }
     report
 }
 
 // Every fault at once, and then one fewer each time: the first in the order of the table is told.
-fn in_order(report: Report, entry: [u64; 12], old: &[u8], new: &[u8]) -> Report {
+fn in_order(report: Report) -> Report {
     let third = faulty(fault_of(2));
     let sixth = faulty(fault_of(4));
-    fewer_faults(report, entry, &third[0..SIZE], &sixth[0..SIZE], old, new)
-}
-
-fn fewer_faults(
-    report: Report,
-    entry: [u64; 12],
-    third: &[u8],
-    sixth: &[u8],
-    old: &[u8],
-    new: &[u8],
-) -> Report {
-    let every = of(PLAYED, 12, entry);
-    let size = of(PAD, 12, entry);
-    let rest = of(PAD, WORDS, entry);
-    let six = calls::again(report, every, third, sixth, refused(6, 0));
-    let seven = calls::again(six, size, third, sixth, refused(7, 0));
-    let three = calls::again(seven, rest, third, sixth, refused(3, 2));
-    let twenty = calls::again(three, rest, old, sixth, refused(20, 5));
-    calls::again(twenty, rest, old, new, refused(8, 0))
+    let short = given::lent(12, given::outside(0));
+    let lent = given::lent(WORDS, given::outside(0));
+    let six = calls::again(report, PLAYED, short, third, sixth, refused(6, 0));
+    let seven = calls::again(six, PAD, short, third, sixth, refused(7, 0));
+    let three = calls::again(seven, PAD, lent, third, sixth, refused(3, 2));
+    let twenty = calls::again(three, PAD, lent, old(), sixth, refused(20, 5));
+    calls::again(twenty, PAD, lent, old(), new(), refused(8, 0))
 }
 
 // The old or only score, in each of the three calls.
-fn all_refused(report: Report, case: Case, score: &[u8], new: &[u8], wanted: Numbers) -> Report {
-    let again = calls::again(report, case, score, new, wanted);
-    let whole = calls::whole(again, case, score, wanted);
-    let entry = case.entry;
-    let state = given::state_of(entry);
-    calls::part(
-        whole,
-        case.setup,
-        given::score(),
-        score,
-        state,
-        4096,
-        304,
-        wanted,
-    )
+fn all_refused(report: Report, setup: u64, score: Score, wanted: Numbers) -> Report {
+    let lent = lent();
+    let again = calls::again(report, setup, lent, score, new(), wanted);
+    let whole = calls::whole(again, setup, lent, score, wanted);
+    calls::no_part(whole, setup, lent, score, wanted)
 }
 
-fn of(setup: u64, words: usize, entry: [u64; 12]) -> Case {
-    Case {
-        setup,
-        words,
-        entry,
+fn lent() -> Lent {
+    given::lent(WORDS, given::honest())
+}
+
+fn old() -> Score {
+    sheets::written(given::score())
+}
+
+fn new() -> Score {
+    sheets::written(given::edited())
+}
+
+fn zeros(size: usize) -> Score {
+    Score {
+        bytes: [0u8; 40970],
+        size,
     }
 }
 
@@ -209,13 +191,15 @@ fn wrong(at: usize, byte: u8, number: u8, place: usize) -> Fault {
     }
 }
 
-fn faulty(fault: Fault) -> [u8; 240] {
-    let mut bytes = sheets::bytes_of(given::score());
+fn faulty(fault: Fault) -> Score {
+    let mut score = old();
+    let mut bytes = score.bytes;
     let at = fault.at;
-    if at < 240 {
+    if at < 60 {
         bytes[at] = fault.byte;
     }
-    bytes
+    score.bytes = bytes;
+    score
 }
 
 fn new_number(number: u8) -> u8 {

@@ -17,6 +17,12 @@ pub const RESET: u64 = 3;
 
 pub type Sheet = [u64; 24];
 
+// The first bytes of these, as many as a record more than a score may have.
+pub struct Score {
+    pub bytes: [u8; 40970],
+    pub size: usize,
+}
+
 pub fn blank() -> Sheet {
     [EMPTY; 24]
 }
@@ -144,20 +150,30 @@ pub fn revalued(sheet: Sheet, at: usize, velocity: u64) -> Sheet {
 pub fn parting(old: Sheet, new: Sheet) -> u64 {
     let mut i = 0;
     while i < SLOTS {
-        if old[i] < new[i] {
-            return position_of(old[i]);
+        let was = old[i];
+        let is = new[i];
+        if was < is {
+            return position_of(was);
         }
-        if new[i] < old[i] {
-            return position_of(new[i]);
+        if is < was {
+            return position_of(is);
         }
         i += 1;
     }
     EMPTY
 }
 
-// The bytes of the score, and how many of them there are.
-pub fn bytes_of(sheet: Sheet) -> [u8; 240] {
-    let mut bytes = [0u8; 240];
+pub fn written(sheet: Sheet) -> Score {
+    let bytes = bytes_of(sheet);
+    Score {
+        bytes,
+        size: 10 * count(sheet),
+    }
+}
+
+// Those of all slots, and zeros.
+pub fn bytes_of(sheet: Sheet) -> [u8; 40970] {
+    let mut bytes = [0u8; 40970];
     let mut k = 0;
     while k < 240 {
         let ten = score::encode(record_of(sheet[k / 10]));
@@ -165,15 +181,6 @@ pub fn bytes_of(sheet: Sheet) -> [u8; 240] {
         k += 1;
     }
     bytes
-}
-
-pub fn size_of(records: usize) -> usize
-    ensures { λ r. ⌜ r ≤ 240 ⌝ }
-{
-    if records < SLOTS {
-        return 10 * records;
-    }
-    240
 }
 
 pub fn record_of(record: u64) -> Record {

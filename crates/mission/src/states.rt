@@ -1,12 +1,12 @@
 // Given states and positions.
 ghost use Prim.Native.Nat.{_≤_};
 use crate::calls;
-use crate::calls::Case;
 use crate::compared;
 use crate::compared::Report;
 use crate::compared::done;
 use crate::compared::refused;
 use crate::given;
+use crate::given::Change;
 use crate::settings::PAD;
 use crate::sheets;
 use crate::sheets::OFF;
@@ -20,18 +20,9 @@ const LAST: u64 = 16_777_216;
 
 // Doctored states, and one that the score has overtaken: a record was added before the position already reached.
 pub fn played() -> Report {
-    let entry = given::entry();
-    let taken = all_taken(compared::nothing(), entry);
-    let refused = all_refused(taken, entry);
+    let refused = all_refused(all_taken(compared::nothing()));
     let late = sheets::with(given::score(), sheets::record(4000, ON, 70, 70));
-    part(
-        refused,
-        late,
-        given::state_of(entry),
-        4096,
-        304,
-        compared::refused(10, 0),
-    )
+    part(refused, late, given::honest(), compared::refused(10, 0))
 }
 
 // At the end of the longest output, and beyond it.
@@ -47,75 +38,48 @@ pub fn positions() -> Report {
 }
 
 // Within the limits: a part from such a state, and a re-render from such an entry.
-fn all_taken(before: Report, entry: [u64; 12]) -> Report {
+fn all_taken(before: Report) -> Report {
     let mut report = before;
     let mut k = 0;
     while k < given::WITHIN {
-        let words = given::changed(entry, given::within(k));
-        report = part(
-            report,
-            given::score(),
-            given::state_of(words),
-            4096,
-            304,
-            done(304),
-        );
-        report = again(report, words);
+        report = part(report, given::score(), given::within(k), done(304));
+        report = again(report, given::within(k));
         k += 1;
     }
     report
 }
 
 // Outside of them.
-fn all_refused(before: Report, entry: [u64; 12]) -> Report {
+fn all_refused(before: Report) -> Report {
     let mut report = before;
     let mut k = 0;
     while k < given::OUTSIDE {
-        let words = given::changed(entry, given::outside(k));
-        report = part(
-            report,
-            given::score(),
-            given::state_of(words),
-            4096,
-            304,
-            refused(10, 0),
-        );
+        report = part(report, given::score(), given::outside(k), refused(10, 0));
         k += 1;
     }
     report
 }
 
-fn again(report: Report, entry: [u64; 12]) -> Report {
-    let old = sheets::bytes_of(given::score());
-    let new = sheets::bytes_of(given::edited());
-    let case = Case {
-        setup: PAD,
-        words: 24,
-        entry,
-    };
-    calls::again(report, case, &old[0..60], &new[0..60], done(304))
+fn part(report: Report, sheet: Sheet, by: Change, wanted: Numbers) -> Report {
+    let lent = given::lent(24, by);
+    let shelf = lent.shelf;
+    let state = given::state_of(shelf);
+    calls::part(report, PAD, sheet, state, 4096, 304, wanted)
+}
+
+fn again(report: Report, by: Change) -> Report {
+    let old = sheets::written(given::score());
+    let new = sheets::written(given::edited());
+    calls::again(report, PAD, given::lent(24, by), old, new, done(304))
 }
 
 // So many samples up to the last position, or one sample more than there is room for.
 fn up_to(report: Report, k: u64) -> Report {
     let length = samples(k);
     let position = LAST - length as u64;
-    let played = part(
-        report,
-        ending(),
-        before(position),
-        position,
-        length,
-        done(length),
-    );
-    part(
-        played,
-        ending(),
-        before(position),
-        position + 1,
-        length,
-        refused(7, 0),
-    )
+    let state = before(position);
+    let played = at(report, state, position, length, done(length));
+    at(played, state, position + 1, length, refused(7, 0))
 }
 
 // Positions that no output has.
@@ -128,22 +92,13 @@ fn past(report: Report, k: u64) -> Report {
         4 => u64::MAX - 1,
         _ => u64::MAX,
     };
-    let empty = part(
-        report,
-        ending(),
-        before(position),
-        position,
-        0,
-        refused(7, 0),
-    );
-    part(
-        empty,
-        ending(),
-        before(position),
-        position,
-        3,
-        refused(7, 0),
-    )
+    let state = before(position);
+    let empty = at(report, state, position, 0, refused(7, 0));
+    at(empty, state, position, 3, refused(7, 0))
+}
+
+fn at(report: Report, state: State, position: u64, length: usize, wanted: Numbers) -> Report {
+    calls::part(report, PAD, ending(), state, position, length, wanted)
 }
 
 fn samples(k: u64) -> usize
@@ -173,26 +128,4 @@ fn before(position: u64) -> State {
     let mut state = state::fresh();
     state.acted = sheets::below(ending(), position) as u64;
     state
-}
-
-fn part(
-    report: Report,
-    sheet: Sheet,
-    state: State,
-    position: u64,
-    length: usize,
-    wanted: Numbers,
-) -> Report {
-    let bytes = sheets::bytes_of(sheet);
-    let size = sheets::size_of(sheets::count(sheet));
-    calls::part(
-        report,
-        PAD,
-        sheet,
-        &bytes[0..size],
-        state,
-        position,
-        length,
-        wanted,
-    )
 }

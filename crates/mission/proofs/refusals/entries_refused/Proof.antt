@@ -1,14 +1,14 @@
--- `mission::refusals::entries_refused` is safe and ends: what is left of the cases falls. Assumes nothing.
+-- `mission::refusals::entries_refused` is safe and ends: what is left of the entries falls. Assumes nothing.
 use borrow.Author.Needs.{needs}
 use Prim.Native.Nat.{_-_}
 use Rattle.mission.proofs.refusals.entries_refused.Statement.{statement}
 use Rattle.mission.proofs.refusals.entries_refused.Tie as tie
 
 abbrev Inv-loop : tie.InvT-loop
-Inv-loop entry old new report₀ k₀ report k = Unit
+Inv-loop report₀ k₀ report k = Unit
 
 abbrev μ-loop : tie.MeasureT-loop
-μ-loop entry old new report₀ k₀ report k = 36 - k
+μ-loop report₀ k₀ report k = 36 - k
 
 loop-holds : tie.Need-loop-holds Inv-loop μ-loop
 loop-holds c = search needs
@@ -19,11 +19,14 @@ add-loop c = search needs
 no-entry-requires : tie.Need-no-entry-requires Inv-loop μ-loop
 no-entry-requires c κs = search needs
 
-changed-requires : tie.Need-changed-requires Inv-loop μ-loop
-changed-requires c κs = search needs
+lent-requires : tie.Need-lent-requires Inv-loop μ-loop
+lent-requires c κs = search needs
 
-of-requires : tie.Need-of-requires Inv-loop μ-loop
-of-requires c κs = search needs
+old-requires : tie.Need-old-requires Inv-loop μ-loop
+old-requires c κs = search needs
+
+new-requires : tie.Need-new-requires Inv-loop μ-loop
+new-requires c κs = search needs
 
 refused-requires : tie.Need-refused-requires Inv-loop μ-loop
 refused-requires c κs = search needs
@@ -52,8 +55,9 @@ entries-refused-spec =
     loop-holds
     add-loop
     no-entry-requires
-    changed-requires
-    of-requires
+    lent-requires
+    old-requires
+    new-requires
     refused-requires
     again-requires
     add-k

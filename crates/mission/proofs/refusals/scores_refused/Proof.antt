@@ -1,23 +1,23 @@
--- `mission::refusals::scores_refused` is safe and ends: what is left of the cases falls. Assumes nothing.
+-- `mission::refusals::scores_refused` is safe and ends: what is left of the faults falls. Assumes nothing.
 use borrow.Author.Needs.{needs}
 use Prim.Native.Nat.{_-_}
 use Rattle.mission.proofs.refusals.scores_refused.Statement.{statement}
 use Rattle.mission.proofs.refusals.scores_refused.Tie as tie
 
 abbrev Inv-loop : tie.InvT-loop
-Inv-loop entry old new report₀ k₀ report k = Unit
+Inv-loop report₀ k₀ report k = Unit
 
 abbrev μ-loop : tie.MeasureT-loop
-μ-loop entry old new report₀ k₀ report k = 11 - k
+μ-loop report₀ k₀ report k = 11 - k
 
 loop-holds : tie.Need-loop-holds Inv-loop μ-loop
 loop-holds c = search needs
 
-of-requires : tie.Need-of-requires Inv-loop μ-loop
-of-requires c κs = search needs
-
 fault-of-requires : tie.Need-fault-of-requires Inv-loop μ-loop
 fault-of-requires c κs = search needs
+
+faulty-requires : tie.Need-faulty-requires Inv-loop μ-loop
+faulty-requires c κs = search needs
 
 score-refused-requires : tie.Need-score-refused-requires Inv-loop μ-loop
 score-refused-requires c κs = search needs
@@ -41,8 +41,8 @@ scores-refused-spec =
     Inv-loop
     μ-loop
     loop-holds
-    of-requires
     fault-of-requires
+    faulty-requires
     score-refused-requires
     add-k
     loop-less

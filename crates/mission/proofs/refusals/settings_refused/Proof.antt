@@ -1,23 +1,23 @@
--- `mission::refusals::settings_refused` is safe and ends: what is left of the cases falls. Assumes nothing.
+-- `mission::refusals::settings_refused` is safe and ends: what is left of the settings falls. Assumes nothing.
 use borrow.Author.Needs.{needs}
 use Prim.Native.Nat.{_-_}
 use Rattle.mission.proofs.refusals.settings_refused.Statement.{statement}
 use Rattle.mission.proofs.refusals.settings_refused.Tie as tie
 
 abbrev Inv-loop : tie.InvT-loop
-Inv-loop entry old new report₀ k₀ report k = Unit
+Inv-loop report₀ k₀ report k = Unit
 
 abbrev μ-loop : tie.MeasureT-loop
-μ-loop entry old new report₀ k₀ report k = 9 - k
+μ-loop report₀ k₀ report k = 9 - k
 
 loop-holds : tie.Need-loop-holds Inv-loop μ-loop
 loop-holds c = search needs
 
-add-of : tie.Need-add-of Inv-loop μ-loop
-add-of c = search needs
+add-all-refused : tie.Need-add-all-refused Inv-loop μ-loop
+add-all-refused c = search needs
 
-of-requires : tie.Need-of-requires Inv-loop μ-loop
-of-requires c κs = search needs
+old-requires : tie.Need-old-requires Inv-loop μ-loop
+old-requires c κs = search needs
 
 refused-requires : tie.Need-refused-requires Inv-loop μ-loop
 refused-requires c κs = search needs
@@ -44,8 +44,8 @@ settings-refused-spec =
     Inv-loop
     μ-loop
     loop-holds
-    add-of
-    of-requires
+    add-all-refused
+    old-requires
     refused-requires
     all-refused-requires
     add-k

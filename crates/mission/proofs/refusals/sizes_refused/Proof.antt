@@ -1,14 +1,14 @@
--- `mission::refusals::sizes_refused` is safe and ends: what is left of the cases falls. Assumes nothing.
+-- `mission::refusals::sizes_refused` is safe and ends: what is left of the sizes falls. Assumes nothing.
 use borrow.Author.Needs.{needs}
 use Prim.Native.Nat.{_-_}
 use Rattle.mission.proofs.refusals.sizes_refused.Statement.{statement}
 use Rattle.mission.proofs.refusals.sizes_refused.Tie as tie
 
 abbrev Inv-loop : tie.InvT-loop
-Inv-loop entry old new report₀ k₀ report k = Unit
+Inv-loop report₀ k₀ report k = Unit
 
 abbrev μ-loop : tie.MeasureT-loop
-μ-loop entry old new report₀ k₀ report k = 6 - k
+μ-loop report₀ k₀ report k = 6 - k
 
 loop-holds : tie.Need-loop-holds Inv-loop μ-loop
 loop-holds c = search needs
@@ -16,20 +16,8 @@ loop-holds c = search needs
 wrong-size-requires : tie.Need-wrong-size-requires Inv-loop μ-loop
 wrong-size-requires c κs = search needs
 
-of-requires : tie.Need-of-requires Inv-loop μ-loop
-of-requires c κs = search needs
-
-refused-requires : tie.Need-refused-requires Inv-loop μ-loop
-refused-requires c κs = search needs
-
-again-requires : tie.Need-again-requires Inv-loop μ-loop
-again-requires c κs = search needs
-
-refused-requires-2 : tie.Need-refused-requires-2 Inv-loop μ-loop
-refused-requires-2 c κs = search needs
-
-whole-requires : tie.Need-whole-requires Inv-loop μ-loop
-whole-requires c κs = search needs
+size-refused-requires : tie.Need-size-refused-requires Inv-loop μ-loop
+size-refused-requires c κs = search needs
 
 add-k : tie.Need-add-k Inv-loop μ-loop
 add-k c = search needs
@@ -51,11 +39,7 @@ sizes-refused-spec =
     μ-loop
     loop-holds
     wrong-size-requires
-    of-requires
-    refused-requires
-    again-requires
-    refused-requires-2
-    whole-requires
+    size-refused-requires
     add-k
     loop-less
     loop-again

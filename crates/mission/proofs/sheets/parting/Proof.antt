@@ -13,47 +13,23 @@ abbrev μ-loop : tie.MeasureT-loop
 loop-holds : tie.Need-loop-holds Inv-loop μ-loop
 loop-holds c = search needs
 
-mul-if1 : tie.Need-mul-if1 Inv-loop μ-loop
-mul-if1 c = search needs
+mul-was : tie.Need-mul-was Inv-loop μ-loop
+mul-was c = search needs
 
-array-read-if1 : tie.Need-array-read-if1 Inv-loop μ-loop
-array-read-if1 c = search needs
+array-read-was : tie.Need-array-read-was Inv-loop μ-loop
+array-read-was c = search needs
 
-mul-if1-2 : tie.Need-mul-if1-2 Inv-loop μ-loop
-mul-if1-2 c = search needs
+mul-is : tie.Need-mul-is Inv-loop μ-loop
+mul-is c = search needs
 
-array-read-if1-2 : tie.Need-array-read-if1-2 Inv-loop μ-loop
-array-read-if1-2 c = search needs
-
-mul-position-of : tie.Need-mul-position-of Inv-loop μ-loop
-mul-position-of c = search needs
-
-array-read-position-of : tie.Need-array-read-position-of Inv-loop μ-loop
-array-read-position-of c = search needs
+array-read-is : tie.Need-array-read-is Inv-loop μ-loop
+array-read-is c = search needs
 
 position-of-requires : tie.Need-position-of-requires Inv-loop μ-loop
 position-of-requires c κs = search needs
 
 returns : tie.Need-returns Inv-loop μ-loop
 returns c = search needs
-
-mul-if2 : tie.Need-mul-if2 Inv-loop μ-loop
-mul-if2 c = search needs
-
-array-read-if2 : tie.Need-array-read-if2 Inv-loop μ-loop
-array-read-if2 c = search needs
-
-mul-if2-2 : tie.Need-mul-if2-2 Inv-loop μ-loop
-mul-if2-2 c = search needs
-
-array-read-if2-2 : tie.Need-array-read-if2-2 Inv-loop μ-loop
-array-read-if2-2 c = search needs
-
-mul-position-of-2 : tie.Need-mul-position-of-2 Inv-loop μ-loop
-mul-position-of-2 c = search needs
-
-array-read-position-of-2 : tie.Need-array-read-position-of-2 Inv-loop μ-loop
-array-read-position-of-2 c = search needs
 
 position-of-requires-2 : tie.Need-position-of-requires-2 Inv-loop μ-loop
 position-of-requires-2 c κs = search needs
@@ -80,20 +56,12 @@ parting-spec =
     Inv-loop
     μ-loop
     loop-holds
-    mul-if1
-    array-read-if1
-    mul-if1-2
-    array-read-if1-2
-    mul-position-of
-    array-read-position-of
+    mul-was
+    array-read-was
+    mul-is
+    array-read-is
     position-of-requires
     returns
-    mul-if2
-    array-read-if2
-    mul-if2-2
-    array-read-if2-2
-    mul-position-of-2
-    array-read-position-of-2
     position-of-requires-2
     returns-2
     add-i

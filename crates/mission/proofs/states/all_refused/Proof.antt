@@ -1,29 +1,23 @@
--- `mission::states::all_refused` is safe and ends: what is left of the cases falls. Assumes nothing.
+-- `mission::states::all_refused` is safe and ends: what is left of the entries falls. Assumes nothing.
 use borrow.Author.Needs.{needs}
 use Prim.Native.Nat.{_-_}
 use Rattle.mission.proofs.states.all_refused.Statement.{statement}
 use Rattle.mission.proofs.states.all_refused.Tie as tie
 
 abbrev Inv-loop : tie.InvT-loop
-Inv-loop entry report₀ k₀ report k = Unit
+Inv-loop report₀ k₀ report k = Unit
 
 abbrev μ-loop : tie.MeasureT-loop
-μ-loop entry report₀ k₀ report k = 33 - k
+μ-loop report₀ k₀ report k = 33 - k
 
 loop-holds : tie.Need-loop-holds Inv-loop μ-loop
 loop-holds c = search needs
 
-outside-requires : tie.Need-outside-requires Inv-loop μ-loop
-outside-requires c κs = search needs
-
-changed-requires : tie.Need-changed-requires Inv-loop μ-loop
-changed-requires c κs = search needs
-
 score-requires : tie.Need-score-requires Inv-loop μ-loop
 score-requires c κs = search needs
 
-state-of-requires : tie.Need-state-of-requires Inv-loop μ-loop
-state-of-requires c κs = search needs
+outside-requires : tie.Need-outside-requires Inv-loop μ-loop
+outside-requires c κs = search needs
 
 refused-requires : tie.Need-refused-requires Inv-loop μ-loop
 refused-requires c κs = search needs
@@ -50,10 +44,8 @@ all-refused-spec =
     Inv-loop
     μ-loop
     loop-holds
-    outside-requires
-    changed-requires
     score-requires
-    state-of-requires
+    outside-requires
     refused-requires
     part-requires
     add-k

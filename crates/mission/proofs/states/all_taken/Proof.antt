@@ -1,35 +1,32 @@
--- `mission::states::all_taken` is safe and ends: what is left of the cases falls. Assumes nothing.
+-- `mission::states::all_taken` is safe and ends: what is left of the entries falls. Assumes nothing.
 use borrow.Author.Needs.{needs}
 use Prim.Native.Nat.{_-_}
 use Rattle.mission.proofs.states.all_taken.Statement.{statement}
 use Rattle.mission.proofs.states.all_taken.Tie as tie
 
 abbrev Inv-loop : tie.InvT-loop
-Inv-loop entry report₀ k₀ report k = Unit
+Inv-loop report₀ k₀ report k = Unit
 
 abbrev μ-loop : tie.MeasureT-loop
-μ-loop entry report₀ k₀ report k = 20 - k
+μ-loop report₀ k₀ report k = 20 - k
 
 loop-holds : tie.Need-loop-holds Inv-loop μ-loop
 loop-holds c = search needs
 
-within-requires : tie.Need-within-requires Inv-loop μ-loop
-within-requires c κs = search needs
-
-changed-requires : tie.Need-changed-requires Inv-loop μ-loop
-changed-requires c κs = search needs
-
 score-requires : tie.Need-score-requires Inv-loop μ-loop
 score-requires c κs = search needs
 
-state-of-requires : tie.Need-state-of-requires Inv-loop μ-loop
-state-of-requires c κs = search needs
+within-requires : tie.Need-within-requires Inv-loop μ-loop
+within-requires c κs = search needs
 
 done-requires : tie.Need-done-requires Inv-loop μ-loop
 done-requires c κs = search needs
 
 part-requires : tie.Need-part-requires Inv-loop μ-loop
 part-requires c κs = search needs
+
+within-requires-2 : tie.Need-within-requires-2 Inv-loop μ-loop
+within-requires-2 c κs = search needs
 
 again-requires : tie.Need-again-requires Inv-loop μ-loop
 again-requires c κs = search needs
@@ -53,12 +50,11 @@ all-taken-spec =
     Inv-loop
     μ-loop
     loop-holds
-    within-requires
-    changed-requires
     score-requires
-    state-of-requires
+    within-requires
     done-requires
     part-requires
+    within-requires-2
     again-requires
     add-k
     loop-less

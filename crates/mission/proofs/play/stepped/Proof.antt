@@ -1,17 +1,26 @@
--- `mission::play::steps` is safe and ends: what is left of the output falls. Assumes nothing.
+-- `mission::play::stepped` is safe and ends: what is left of the samples falls. Assumes nothing.
 use borrow.Author.Needs.{needs}
-use mathlib.Core.Path.{_≡_}
 use Prim.Native.Nat.{_-_}
-use lib.ListN.{length}
-use native.Mathlib.Omega.{arith}
-use Rattle.mission.proofs.play.steps.Statement.{statement}
-use Rattle.mission.proofs.play.steps.Tie as tie
+use Rattle.mission.proofs.play.stepped.Statement.{statement}
+use Rattle.mission.proofs.play.stepped.Tie as tie
 
 abbrev Inv-loop : tie.InvT-loop
-Inv-loop settings sheet position out₀ state₀ i₀ out state i = length out ≡ length out₀
+Inv-loop setup sheet position lent says settings n out₀ state₀ i₀ out state i = Unit
 
 abbrev μ-loop : tie.MeasureT-loop
-μ-loop settings sheet position out₀ state₀ i₀ out state i = length out₀ - i
+μ-loop setup sheet position lent says settings n out₀ state₀ i₀ out state i = n - i
+
+of-requires : tie.Need-of-requires Inv-loop μ-loop
+of-requires c κs = search needs
+
+at-most-requires : tie.Need-at-most-requires Inv-loop μ-loop
+at-most-requires c κs = search needs
+
+at-most-requires-2 : tie.Need-at-most-requires-2 Inv-loop μ-loop
+at-most-requires-2 c κs = search needs
+
+sub-i : tie.Need-sub-i Inv-loop μ-loop
+sub-i c = search needs
 
 loop-holds : tie.Need-loop-holds Inv-loop μ-loop
 loop-holds c = search needs
@@ -28,46 +37,42 @@ sample-of-requires c κs = search needs
 mul-out : tie.Need-mul-out Inv-loop μ-loop
 mul-out c = search needs
 
-slice-write-out : tie.Need-slice-write-out Inv-loop μ-loop
-slice-write-out c = search needs
+array-write-out : tie.Need-array-write-out Inv-loop μ-loop
+array-write-out c = search needs
 
 advance-requires : tie.Need-advance-requires Inv-loop μ-loop
 advance-requires c κs = search needs
 
 add-i : tie.Need-add-i Inv-loop μ-loop
-add-i c =
-    let at = c .before .before .before .before in
-    omega (arith, at .loop-test .taken, at .before .loop .inv, at .before .before .before .good .1 .1 .1 .1 .0 .0)
+add-i c = search needs
 
 loop-less : tie.Need-loop-less Inv-loop μ-loop
-loop-less c =
-    let at = c .before .before .before .before in
-    omega (arith, at .loop-test .taken, at .before .loop .inv)
+loop-less c = search needs
 
 loop-again : tie.Need-loop-again Inv-loop μ-loop
 loop-again c = search needs
 
-same-length : tie.Need-same-length Inv-loop μ-loop
-same-length c = search needs
-
 returns : tie.Need-returns Inv-loop μ-loop
 returns c = search needs
 
-pub steps-spec : {M : Type 1} → statement M
-steps-spec =
+pub stepped-spec : {M : Type 1} → statement M
+stepped-spec =
     tie.close
     (tie.spec
     Inv-loop
     μ-loop
+    of-requires
+    at-most-requires
+    at-most-requires-2
+    sub-i
     loop-holds
     wrapping-add-u64-requires
     begun-requires
     sample-of-requires
     mul-out
-    slice-write-out
+    array-write-out
     advance-requires
     add-i
     loop-less
     loop-again
-    same-length
     returns)

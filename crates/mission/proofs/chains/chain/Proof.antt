@@ -1,28 +1,26 @@
--- `mission::chains::chained` is safe and ends: what is left of the edits falls. Assumes nothing.
+-- `mission::chains::chain` is safe and ends: what is left of the edits falls. Assumes nothing.
 use borrow.Author.Needs.{needs}
-use mathlib.Core.Path.{_≡_}
 use Prim.Native.Nat.{_-_}
-use lib.ListN.{length}
-use Rattle.mission.proofs.chains.chained.Statement.{statement}
-use Rattle.mission.proofs.chains.chained.Tie as tie
+use Rattle.mission.proofs.chains.chain.Statement.{statement}
+use Rattle.mission.proofs.chains.chain.Tie as tie
 
 abbrev Inv-loop : tie.InvT-loop
-Inv-loop k out₀ shelf₀ n report₀ score₀ seed₀ turn₀ out shelf report score seed turn = (length out ≡ length out₀) × (length shelf ≡ length shelf₀)
+Inv-loop k n chain₀ seed₀ turn₀ chain seed turn = Unit
 
 abbrev μ-loop : tie.MeasureT-loop
-μ-loop k out₀ shelf₀ n report₀ score₀ seed₀ turn₀ out shelf report score seed turn = 60 - turn
+μ-loop k n chain₀ seed₀ turn₀ chain seed turn = 60 - turn
 
-nothing-requires : tie.Need-nothing-requires Inv-loop μ-loop
-nothing-requires c κs = search needs
+length-requires : tie.Need-length-requires Inv-loop μ-loop
+length-requires c κs = search needs
 
 first-requires : tie.Need-first-requires Inv-loop μ-loop
 first-requires c κs = search needs
 
+begun-requires : tie.Need-begun-requires Inv-loop μ-loop
+begun-requires c κs = search needs
+
 thrown-requires : tie.Need-thrown-requires Inv-loop μ-loop
 thrown-requires c κs = search needs
-
-from-zero-requires : tie.Need-from-zero-requires Inv-loop μ-loop
-from-zero-requires c κs = search needs
 
 loop-holds : tie.Need-loop-holds Inv-loop μ-loop
 loop-holds c = search needs
@@ -48,25 +46,19 @@ loop-less c = search needs
 loop-again : tie.Need-loop-again Inv-loop μ-loop
 loop-again c = search needs
 
-same-length : tie.Need-same-length Inv-loop μ-loop
-same-length c = search needs
-
-same-length-2 : tie.Need-same-length-2 Inv-loop μ-loop
-same-length-2 c = search needs
-
 returns : tie.Need-returns Inv-loop μ-loop
 returns c = search needs
 
-pub chained-spec : {M : Type 1} → statement M
-chained-spec =
+pub chain-spec : {M : Type 1} → statement M
+chain-spec =
     tie.close
     (tie.spec
     Inv-loop
     μ-loop
-    nothing-requires
+    length-requires
     first-requires
+    begun-requires
     thrown-requires
-    from-zero-requires
     loop-holds
     edited-requires
     edit-over-rubbish-requires
@@ -75,6 +67,4 @@ chained-spec =
     add-turn
     loop-less
     loop-again
-    same-length
-    same-length-2
     returns)

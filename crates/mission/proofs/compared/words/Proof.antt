@@ -1,18 +1,24 @@
--- `mission::compared::count_words` is safe and ends: what is left of the words falls. Assumes nothing.
+-- `mission::compared::words` is safe and ends: what is left of the words falls. Assumes nothing.
 use borrow.Author.Needs.{needs}
 use Prim.Native.Nat.{_-_}
 use lib.ListN.{length}
-use Rattle.mission.proofs.compared.count_words.Statement.{statement}
-use Rattle.mission.proofs.compared.count_words.Tie as tie
+use Rattle.mission.proofs.compared.words.Statement.{statement}
+use Rattle.mission.proofs.compared.words.Tie as tie
 
 abbrev Inv-loop : tie.InvT-loop
-Inv-loop got wanted tally₀ i₀ tally i = Unit
+Inv-loop got wanted report₀ i₀ report i = Unit
 
 abbrev μ-loop : tie.MeasureT-loop
-μ-loop got wanted tally₀ i₀ tally i = length got - i
+μ-loop got wanted report₀ i₀ report i = length got - i
+
+judged-requires : tie.Need-judged-requires Inv-loop μ-loop
+judged-requires c κs = search needs
 
 loop-holds : tie.Need-loop-holds Inv-loop μ-loop
 loop-holds c = search needs
+
+one-more-requires : tie.Need-one-more-requires Inv-loop μ-loop
+one-more-requires c κs = search needs
 
 mul-is-at : tie.Need-mul-is-at Inv-loop μ-loop
 mul-is-at c = search needs
@@ -23,8 +29,8 @@ shared-slice-read-is-at c = search needs
 is-at-requires : tie.Need-is-at-requires Inv-loop μ-loop
 is-at-requires c κs = search needs
 
-counted-requires : tie.Need-counted-requires Inv-loop μ-loop
-counted-requires c κs = search needs
+judged-requires-2 : tie.Need-judged-requires-2 Inv-loop μ-loop
+judged-requires-2 c κs = search needs
 
 add-i : tie.Need-add-i Inv-loop μ-loop
 add-i c = search needs
@@ -38,17 +44,19 @@ loop-again c = search needs
 returns : tie.Need-returns Inv-loop μ-loop
 returns c = search needs
 
-pub count-words-spec : {M : Type 1} → statement M
-count-words-spec =
+pub words-spec : {M : Type 1} → statement M
+words-spec =
     tie.close
     (tie.spec
     Inv-loop
     μ-loop
+    judged-requires
     loop-holds
+    one-more-requires
     mul-is-at
     shared-slice-read-is-at
     is-at-requires
-    counted-requires
+    judged-requires-2
     add-i
     loop-less
     loop-again
