@@ -22,7 +22,7 @@ pub fn played() -> Report {
     let mut report = compared::nothing();
     let mut k = 0;
     while k < PLAYED {
-        report = compared::added(report, chain(k));
+        report = chain(report, k);
         k += 1;
     }
     report
@@ -40,38 +40,44 @@ pub fn late() -> Report {
 }
 
 // Each edit over rubbish first, from the shelf that the edits before it have left.
-fn chain(k: u64) -> Report {
+fn chain(report: Report, k: u64) -> Report {
     let n = length(k);
-    let mut chain = edits::begun(k, first(k), n);
+    let mut chain = edits::begun(report, k, first(k), n);
     let mut seed = dice::thrown(k, 1);
     let mut turn = 0;
     while turn < EDITS {
         let score = chain.score;
         let next = edited(score, turn, seed, n as u64);
-        let report = edits::edit_over_rubbish(chain.report, k, score, next, chain.lent);
-        chain.report = report;
-        chain = edits::edit(chain, k, next);
+        let wanted = edits::by_zero(k, score, next, n);
+        let told = edits::over_rubbish(chain.report, k, score, next, chain.lent, wanted);
+        chain.report = told;
+        chain = edits::edit(chain, k, next, wanted);
         seed = dice::thrown(seed, 8);
         turn += 1;
     }
     chain.report
 }
 
-// No word is read: the whole shelf is rubbish.
 fn late_by(report: Report, k: u64) -> Report {
     let n = length(k);
-    let none = lent::zeros(n, shelf::words_for(n));
     let score = sheets::with(first(k), sheets::record(n as u64, ON, 70, 70));
     let last = sheets::last_at(score, n as u64);
     let gone = sheets::removed(score, last);
     let later = sheets::moved(score, last, 0xffff_ffff);
     let quieter = sheets::revalued(score, last, 1);
     let longer = sheets::with(later, sheets::record(0xffff_ffff, OFF, 70, 0));
-    let one = edits::edit_over_rubbish(report, k, score, score, none);
-    let two = edits::edit_over_rubbish(one, k, score, gone, none);
-    let three = edits::edit_over_rubbish(two, k, score, later, none);
-    let four = edits::edit_over_rubbish(three, k, score, quieter, none);
-    edits::edit_over_rubbish(four, k, later, longer, none)
+    let one = unheard(report, k, score, score);
+    let two = unheard(one, k, score, gone);
+    let three = unheard(two, k, score, later);
+    let four = unheard(three, k, score, quieter);
+    unheard(four, k, later, longer)
+}
+
+// No word is read: the whole shelf is rubbish.
+fn unheard(report: Report, k: u64, old: Sheet, new: Sheet) -> Report {
+    let n = length(k);
+    let none = lent::zeros(n, shelf::words_for(n));
+    edits::over_rubbish(report, k, old, new, none, edits::by_zero(k, old, new, n))
 }
 
 // The length of an output: three marks and beside them, one mark more, and none of these.
@@ -90,12 +96,12 @@ fn first(k: u64) -> Sheet {
     if k == 2 {
         return many();
     }
-    let one = sheets::with(sheets::blank(), sheets::record(0, ON, 45, 100));
-    let two = sheets::with(one, sheets::record(70, ON, 52, 90));
-    let three = sheets::with(two, sheets::record(3000, OFF, 52, 0));
-    let four = sheets::with(three, sheets::record(4096, ON, 59, 127));
-    let five = sheets::with(four, sheets::record(8000, OFF, 59, 64));
-    sheets::with(five, sheets::record(9000, OFF, 45, 0))
+    let one = sheets::with(sheets::blank(), 0_1_045_100);
+    let two = sheets::with(one, 70_1_052_090);
+    let three = sheets::with(two, 3000_2_052_000);
+    let four = sheets::with(three, 4096_1_059_127);
+    let five = sheets::with(four, 8000_2_059_064);
+    sheets::with(five, 9000_2_045_000)
 }
 
 fn many() -> Sheet {

@@ -107,14 +107,17 @@ pub fn heard(report: Report, before: Lent, after: Lent) -> Report {
     next
 }
 
-pub fn added(a: Report, b: Report) -> Report {
-    Report {
-        calls: sum(a.calls, b.calls),
-        samples: sum(a.samples, b.samples),
-        words: sum(a.words, b.words),
-        differ: sum(a.differ, b.differ),
-        changed: sum(a.changed, b.changed),
-    }
+// A line of what was compared, and the sum.
+pub fn told(all: Report, title: &[u8], report: Report) -> Report {
+    io::write_all(STDOUT_FILENO, title);
+    tell(report);
+    added(all, report)
+}
+
+pub fn told_edits(all: Report, title: &[u8], report: Report) -> Report {
+    io::write_all(STDOUT_FILENO, title);
+    io::print_decimal(STDOUT_FILENO, report.changed);
+    told(all, b" samples changed by edits; ", report)
 }
 
 pub fn tell(report: Report) {
@@ -126,12 +129,6 @@ pub fn tell(report: Report) {
     io::write_all(STDOUT_FILENO, b" words compared, ");
     io::print_decimal(STDOUT_FILENO, report.differ);
     io::write_all(STDOUT_FILENO, b" differ\n");
-}
-
-pub fn tell_edits(report: Report) {
-    io::print_decimal(STDOUT_FILENO, report.changed);
-    io::write_all(STDOUT_FILENO, b" samples changed by edits; ");
-    tell(report);
 }
 
 fn lents(report: Report, got: Lent, wanted: Lent) -> Report {
@@ -159,6 +156,16 @@ fn judged(report: Report, equal: bool) -> Report {
         next.differ = tally::one_more(report.differ);
     }
     next
+}
+
+fn added(a: Report, b: Report) -> Report {
+    Report {
+        calls: sum(a.calls, b.calls),
+        samples: sum(a.samples, b.samples),
+        words: sum(a.words, b.words),
+        differ: sum(a.differ, b.differ),
+        changed: sum(a.changed, b.changed),
+    }
 }
 
 // The sum, or the largest number.

@@ -16,9 +16,8 @@ pub struct Chain {
     pub lent: Lent,
 }
 
-pub fn begun(setup: u64, score: Sheet, n: usize) -> Chain {
+pub fn begun(report: Report, setup: u64, score: Sheet, n: usize) -> Chain {
     let first = play::from_zero(setup, score, n);
-    let report = compared::nothing();
     let lent = first.lent;
     Chain {
         report,
@@ -27,11 +26,18 @@ pub fn begun(setup: u64, score: Sheet, n: usize) -> Chain {
     }
 }
 
+// A render of the new score from zero, with what a re-render says: to this an edit is held.
+pub fn by_zero(setup: u64, old: Sheet, new: Sheet, n: usize) -> Played {
+    let mut wanted = play::from_zero(setup, new, n);
+    let says = compared::done(n - start_of(old, new, n));
+    wanted.says = says;
+    wanted
+}
+
 // Over an output and a shelf that hold what the edits before have left.
-pub fn edit(chain: Chain, setup: u64, new: Sheet) -> Chain {
+pub fn edit(chain: Chain, setup: u64, new: Sheet, wanted: Played) -> Chain {
     let old = chain.score;
     let before = chain.lent;
-    let wanted = by_zero(setup, old, new, before.samples);
     let got = play::again(setup, sheets::written(old), sheets::written(new), before);
     let heard = compared::heard(chain.report, before, wanted.lent);
     let report = compared::rerendered(heard, got, wanted);
@@ -45,30 +51,23 @@ pub fn edit(chain: Chain, setup: u64, new: Sheet) -> Chain {
 
 // Over rubbish in every sample, and in every word but those of the start entry, which is that of an honest shelf: what
 // stands before the mark stays rubbish, and where nothing is to be written, all of it.
-pub fn edit_over_rubbish(
+pub fn over_rubbish(
     report: Report,
     setup: u64,
     old: Sheet,
     new: Sheet,
     honest: Lent,
+    by_zero: Played,
 ) -> Report {
     let n = honest.samples;
     let from = start_of(old, new, n);
     let entry = entry_of(from, n);
     let rubbish = lent::spoiled(honest, n, 60, entry);
     let got = play::again(setup, sheets::written(old), sheets::written(new), rubbish);
-    let mut wanted = by_zero(setup, old, new, n);
-    let left = lent::spoiled(wanted.lent, from, 12 * entry, lent::NONE);
+    let left = lent::spoiled(by_zero.lent, from, 12 * entry, lent::NONE);
+    let mut wanted = by_zero;
     wanted.lent = left;
     compared::rerendered(report, got, wanted)
-}
-
-// A render of the new score from zero, with what a re-render says.
-fn by_zero(setup: u64, old: Sheet, new: Sheet, n: usize) -> Played {
-    let mut wanted = play::from_zero(setup, new, n);
-    let says = compared::done(n - start_of(old, new, n));
-    wanted.says = says;
-    wanted
 }
 
 // The mark from which on a re-render writes, or the end where it writes nothing.

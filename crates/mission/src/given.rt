@@ -5,35 +5,92 @@ use crate::lent::Lent;
 use crate::play;
 use crate::settings;
 use crate::sheets;
-use crate::sheets::OFF;
-use crate::sheets::ON;
-use crate::sheets::RESET;
 use crate::sheets::Sheet;
 use state::State;
-
-// A word of an entry, and what stands there instead.
-pub struct Change {
-    pub word: usize,
-    pub bits: u64,
-}
-
-// How many changes leave an entry within the limits, how many lead outside, and how many to a stage that no state has.
-pub const WITHIN: u64 = 20;
-
-pub const OUTSIDE: u64 = 33;
-
-pub const STAGES: u64 = 3;
 
 // The entry's word of note, gate, held count and records acted: note 55, the gate up, two held, two records.
 const PACKED: u64 = 55 + 256 + 512 * 2 + 65536 * 2;
 
+// Changes of the entry: those up to here leave it within the limits, those up to there lead outside, and the last ones to a
+// stage that no state has. After them there is none.
+pub const WITHIN: usize = 20;
+
+pub const OUTSIDE: usize = 53;
+
+pub const HONEST: usize = 56;
+
+// What stands in a word of the entry instead, floats by their bits.
+const BITS: [u64; 56] = [
+    // The ends of the limits, and what no render leads to.
+    0, // 0.0
+    0x8000_0000_0000_0000, // -0.0
+    0x408f_3f33_3333_3333, // 999.9
+    0,
+    1,
+    3,
+    4,
+    0x3ff0_0000_0000_0000, // 1.0
+    0x8000_0000_0000_0000, // -0.0
+    0, // 0.0
+    0x4026_0000_0000_0000, // 11.0
+    0x3ff0_0000_0000_0000, // 1.0
+    PACKED - 55 - 256 + 255,
+    PACKED + 72,
+    0x40c8_8000_0000_0000, // 12544.0
+    0x407b_8199_9999_999a, // 440.1
+    1,
+    0, // 0.0
+    0x3ff0_0000_0000_0000, // 1.0
+    0x7f7f_0000,
+    // Floats just past their ends, NaNs, an infinity, pairs out of range or beyond the count.
+    0x408f_4000_0000_0000, // 1000.0
+    0x8000_0000_0000_0001,
+    0x7ff8_0000_0000_0000,
+    0xfff0_0000_0000_0001,
+    0x7ff0_0000_0000_0000,
+    0x3ff0_0000_0000_0001,
+    0x8000_0000_0000_0001,
+    0x7ff8_0000_0000_0000,
+    0x4026_0000_0000_0001,
+    0xbff0_0000_0000_0000, // -1.0
+    0x3ff8_0000_0000_0000, // 1.5
+    0x7ff8_0000_0000_0001,
+    0, // 0.0
+    0x8000_0000_0000_0000, // -0.0
+    0x40c8_8000_0000_0001,
+    0x3ff0_0000_0000_0001,
+    0xbfe0_0000_0000_0000, // -0.5
+    0x80,
+    0x8000,
+    0x1_0000_0000,
+    1,
+    0x100,
+    0x0100_0000_0000_0000,
+    // A note above 127, a gate that does not fit it, more held than there are, fewer than there are pairs, and records acted
+    // that are not those of the score.
+    PACKED + 73,
+    PACKED - 55 + 254,
+    PACKED - 256,
+    PACKED - 55 + 255,
+    PACKED + 512 * 15,
+    PACKED - 512,
+    PACKED - 65536,
+    PACKED + 65536,
+    PACKED + 0x1_0000_0000_0000,
+    0xffff_ffff_ffff_ffff,
+    // A stage above 4.
+    5,
+    0x1_0000_0000,
+    0xffff_ffff_ffff_ffff,
+];
+
 pub fn score() -> Sheet {
-    let one = sheets::with(sheets::blank(), sheets::record(0, ON, 48, 100));
-    let two = sheets::with(one, sheets::record(1000, ON, 55, 90));
-    let three = sheets::with(two, sheets::record(4200, ON, 60, 80));
-    let four = sheets::with(three, sheets::record(4300, RESET, 0, 0));
-    let five = sheets::with(four, sheets::record(4350, ON, 62, 70));
-    sheets::with(five, sheets::record(4390, OFF, 62, 0))
+    let one = sheets::with(sheets::blank(), 0_1_048_100);
+    let two = sheets::with(one, 1000_1_055_090);
+    let three = sheets::with(two, 4200_1_060_080);
+    let four = sheets::with(three, 4300_3_000_000);
+    let five = sheets::with(four, 4350_1_062_070);
+    sheets::with(five, 4390_2_062_000)
 }
 
 // The third record louder.
@@ -41,16 +98,13 @@ pub fn edited() -> Sheet {
     sheets::revalued(score(), 2, 127)
 }
 
-// Rubbish in 4,400 samples and in so many words, but for the entry at the first mark, of which one word is changed.
-pub fn lent(words: usize, by: Change) -> Lent {
+// Rubbish in 4,400 samples and in so many words, but for the entry at the first mark, with a change.
+pub fn lent(words: usize, change: usize) -> Lent {
     let zero = play::from_zero(settings::PAD, score(), 4400);
     let mut lent = zero.lent;
-    let mut shelf = lent.shelf;
-    let word = by.word;
-    if word < 12 {
-        shelf[12 + word] = by.bits;
-    }
-    lent.shelf = shelf;
+    let shelf = lent.shelf;
+    let doctored = changed(shelf, change);
+    lent.shelf = doctored;
     lent.words = words;
     lent::spoiled(lent, 4400, words, 1)
 }
@@ -61,100 +115,13 @@ pub fn state_of(shelf: [u64; 60]) -> State {
     entry.state
 }
 
-// No word changed.
-pub fn honest() -> Change {
-    at(12, 0)
-}
-
-// Entries within the limits: their ends, and what no render leads to.
-pub fn within(k: u64) -> Change {
-    match k {
-        0 => float(0, 0.0),
-        1 => float(0, -0.0),
-        2 => float(0, 999.9),
-        3 => at(1, 0),
-        4 => at(1, 1),
-        5 => at(1, 3),
-        6 => at(1, 4),
-        7 => float(2, 1.0),
-        8 => float(2, -0.0),
-        9 => float(3, 0.0),
-        10 => float(3, 11.0),
-        11 => float(4, 1.0),
-        12 => at(5, PACKED - 55 - 256 + 255),
-        13 => at(5, PACKED + 72),
-        14 => float(6, 12544.0),
-        15 => float(6, 440.1),
-        16 => at(6, 1),
-        17 => float(7, 0.0),
-        18 => float(7, 1.0),
-        _ => at(8, 0x7f7f_0000),
+// The word of each change is a letter: a is the first of the entry.
+fn changed(shelf: [u64; 60], change: usize) -> [u64; 60] {
+    let words = b"aaabbbbccddeffggghhiaaaaacccddeeggghhiiijklffffffffffbbb";
+    let mut next = shelf;
+    if change < HONEST {
+        let word = 11 + (words[change] % 32) as usize;
+        next[word] = BITS[change];
     }
-}
-
-// Entries outside the limits: floats just past their ends, NaNs, an infinity, pairs out of range or beyond the count.
-pub fn outside(k: u64) -> Change {
-    match k {
-        0 => float(0, 1000.0),
-        1 => at(0, 0x8000_0000_0000_0001),
-        2 => at(0, 0x7ff8_0000_0000_0000),
-        3 => at(0, 0xfff0_0000_0000_0001),
-        4 => at(0, 0x7ff0_0000_0000_0000),
-        5 => at(2, 0x3ff0_0000_0000_0001),
-        6 => at(2, 0x8000_0000_0000_0001),
-        7 => at(2, 0x7ff8_0000_0000_0000),
-        8 => at(3, 0x4026_0000_0000_0001),
-        9 => float(3, -1.0),
-        10 => float(4, 1.5),
-        11 => at(4, 0x7ff8_0000_0000_0001),
-        12 => float(6, 0.0),
-        13 => float(6, -0.0),
-        14 => at(6, 0x40c8_8000_0000_0001),
-        15 => at(7, 0x3ff0_0000_0000_0001),
-        16 => float(7, -0.5),
-        17 => at(8, 0x80),
-        18 => at(8, 0x8000),
-        19 => at(8, 0x1_0000_0000),
-        20 => at(9, 1),
-        21 => at(10, 0x100),
-        22 => at(11, 0x0100_0000_0000_0000),
-        _ => packed(k),
-    }
-}
-
-// A note above 127, a gate that does not fit it, more held than there are, fewer than there are pairs, and records acted that
-// are not those of the score.
-fn packed(k: u64) -> Change {
-    match k {
-        23 => at(5, PACKED + 73),
-        24 => at(5, PACKED - 55 + 254),
-        25 => at(5, PACKED - 256),
-        26 => at(5, PACKED - 55 + 255),
-        27 => at(5, PACKED + 512 * 15),
-        28 => at(5, PACKED - 512),
-        29 => at(5, PACKED - 65536),
-        30 => at(5, PACKED + 65536),
-        31 => at(5, PACKED + 0x1_0000_0000_0000),
-        _ => at(5, 0xffff_ffff_ffff_ffff),
-    }
-}
-
-// A stage above 4.
-pub fn no_stage(k: u64) -> Change {
-    match k {
-        0 => at(1, 5),
-        1 => at(1, 0x1_0000_0000),
-        _ => at(1, 0xffff_ffff_ffff_ffff),
-    }
-}
-
-fn at(word: usize, bits: u64) -> Change {
-    Change { word, bits }
-}
-
-fn float(word: usize, x: f64) -> Change {
-    Change {
-        word,
-        bits: words::f64_bits(x),
-    }
+    next
 }

@@ -20,45 +20,29 @@ mod sheets;
 mod states;
 
 fn main() {
-    let edits = edits_played();
-    let parts = parts_played();
+    let all = parts_told(edits_told(compared::nothing()));
     io::write_all(STDOUT_FILENO, b"in all: ");
-    compared::tell(compared::added(edits, parts));
+    compared::tell(all);
 }
 
-fn edits_played() -> Report {
-    let pad = pad::played();
-    io::write_all(STDOUT_FILENO, b"a pad, edited five times: ");
-    compared::tell_edits(pad);
-    let chains = chains::played();
-    io::write_all(STDOUT_FILENO, b"chains of edits, also over rubbish: ");
-    compared::tell_edits(chains);
-    let late = chains::late();
-    io::write_all(STDOUT_FILENO, b"equal scores and late changes: ");
-    compared::tell(late);
-    let refusals = refusals::played();
-    io::write_all(STDOUT_FILENO, b"refused calls: ");
-    compared::tell(refusals);
-    let played = compared::added(pad, chains);
-    compared::added(played, compared::added(late, refusals))
-}
-
-fn parts_played() -> Report {
-    let stepped = parts::stepped();
-    io::write_all(
-        STDOUT_FILENO,
-        b"steps of each sample, and ends of shorter renders: ",
+fn edits_told(all: Report) -> Report {
+    let pad = compared::told_edits(all, b"a pad, edited five times: ", pad::played());
+    let chains = compared::told_edits(
+        pad,
+        b"chains of edits, also over rubbish: ",
+        chains::played(),
     );
-    compared::tell(stepped);
-    let parts = parts::played();
-    io::write_all(STDOUT_FILENO, b"parts: ");
-    compared::tell(parts);
-    let states = states::played();
-    io::write_all(STDOUT_FILENO, b"given states: ");
-    compared::tell(states);
-    let positions = states::positions();
-    io::write_all(STDOUT_FILENO, b"positions: ");
-    compared::tell(positions);
-    let played = compared::added(stepped, parts);
-    compared::added(played, compared::added(states, positions))
+    let late = compared::told(chains, b"equal scores and late changes: ", chains::late());
+    compared::told(late, b"refused calls: ", refusals::played())
+}
+
+fn parts_told(all: Report) -> Report {
+    let stepped = compared::told(
+        all,
+        b"steps of each sample, and ends of shorter renders: ",
+        parts::stepped(),
+    );
+    let parts = compared::told(stepped, b"parts: ", parts::played());
+    let states = compared::told(parts, b"given states: ", states::played());
+    compared::told(states, b"positions: ", states::positions())
 }

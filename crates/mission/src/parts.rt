@@ -10,9 +10,6 @@ use crate::play;
 use crate::settings;
 use crate::settings::PLAYED;
 use crate::sheets;
-use crate::sheets::OFF;
-use crate::sheets::ON;
-use crate::sheets::RESET;
 use crate::sheets::Sheet;
 use state::State;
 
@@ -111,7 +108,7 @@ fn next(air: Air, setup: u64, sheet: Sheet, bytes: &[u8], end: usize, out: &mut 
     let state = air.state;
     let position = air.position as u64;
     let records = grown(sheet, air.records, end as u64, air.seed);
-    let size = lent::at_most(10 * records, bytes.len());
+    let size = lent::at_most(10 * lent::at_most(records, 24), bytes.len());
     let got = render::continue_render(settings::of(setup), &bytes[0..size], state, position, out);
     let after = got.state;
     let answer = got.answer;
@@ -126,16 +123,13 @@ fn next(air: Air, setup: u64, sheet: Sheet, bytes: &[u8], end: usize, out: &mut 
 }
 
 // How many records the score has by now: all below the part's end, and one more now and then.
-fn grown(sheet: Sheet, before: usize, end: u64, seed: u64) -> usize
-    ensures { λ r. ⌜ r ≤ 24 ⌝ }
-{
+fn grown(sheet: Sheet, before: usize, end: u64, seed: u64) -> usize {
     let needed = sheets::below(sheet, end);
     if before < needed {
         return needed;
     }
-    let all = sheets::count(sheet);
-    if before >= all {
-        return all;
+    if before >= sheets::count(sheet) {
+        return before;
     }
     if dice::thrown(seed, 2) % 50 == 0 {
         return before + 1;
@@ -165,18 +159,18 @@ fn samples(way: u64, seed: u64, left: usize) -> usize
 
 // Records at and beside the ends of parts and the marks, two at one sample, a reset, and records after the end.
 fn tune() -> Sheet {
-    let one = sheets::with(sheets::blank(), sheets::record(0, ON, 40, 100));
-    let two = sheets::with(one, sheets::record(17, ON, 47, 90));
-    let three = sheets::with(two, sheets::record(63, ON, 52, 80));
-    let four = sheets::with(three, sheets::record(64, OFF, 52, 0));
-    let five = sheets::with(four, sheets::record(65, ON, 127, 127));
-    let six = sheets::with(five, sheets::record(200, OFF, 127, 0));
-    let seven = sheets::with(six, sheets::record(1000, OFF, 47, 0));
-    let eight = sheets::with(seven, sheets::record(1000, OFF, 40, 0));
-    let nine = sheets::with(eight, sheets::record(4095, ON, 60, 60));
-    let ten = sheets::with(nine, sheets::record(4096, ON, 64, 70));
-    let eleven = sheets::with(ten, sheets::record(6000, RESET, 0, 0));
-    let twelve = sheets::with(eleven, sheets::record(6001, ON, 33, 111));
-    let last = sheets::with(twelve, sheets::record(8299, OFF, 33, 0));
-    sheets::with(last, sheets::record(8300, ON, 69, 99))
+    let one = sheets::with(sheets::blank(), 0_1_040_100);
+    let two = sheets::with(one, 17_1_047_090);
+    let three = sheets::with(two, 63_1_052_080);
+    let four = sheets::with(three, 64_2_052_000);
+    let five = sheets::with(four, 65_1_127_127);
+    let six = sheets::with(five, 200_2_127_000);
+    let seven = sheets::with(six, 1000_2_047_000);
+    let eight = sheets::with(seven, 1000_2_040_000);
+    let nine = sheets::with(eight, 4095_1_060_060);
+    let ten = sheets::with(nine, 4096_1_064_070);
+    let eleven = sheets::with(ten, 6000_3_000_000);
+    let twelve = sheets::with(eleven, 6001_1_033_111);
+    let last = sheets::with(twelve, 8299_2_033_000);
+    sheets::with(last, 8300_1_069_099)
 }

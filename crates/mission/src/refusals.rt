@@ -4,7 +4,6 @@ use crate::compared;
 use crate::compared::Report;
 use crate::compared::refused;
 use crate::given;
-use crate::given::Change;
 use crate::lent::Lent;
 use crate::settings::PAD;
 use crate::settings::PLAYED;
@@ -56,7 +55,7 @@ fn sizes_refused(before: Report) -> Report {
 }
 
 fn size_refused(report: Report, words: usize) -> Report {
-    let lent = given::lent(words, given::honest());
+    let lent = given::lent(words, given::HONEST);
     let again = calls::again(report, PAD, lent, old(), new(), refused(7, 0));
     calls::whole(again, PAD, lent, old(), refused(7, 0))
 }
@@ -96,9 +95,9 @@ fn score_refused(report: Report, wrong: Score, number: u8, place: usize) -> Repo
 // 8
 fn entries_refused(before: Report) -> Report {
     let mut report = before;
-    let mut k = 0;
-    while k < given::OUTSIDE + given::STAGES {
-        let doctored = given::lent(WORDS, no_entry(k));
+    let mut k = given::WITHIN;
+    while k < given::HONEST {
+        let doctored = given::lent(WORDS, k);
         report = calls::again(report, PAD, doctored, old(), new(), refused(8, 0));
         k += 1;
     }
@@ -109,8 +108,8 @@ fn entries_refused(before: Report) -> Report {
 fn in_order(report: Report) -> Report {
     let third = faulty(fault_of(2));
     let sixth = faulty(fault_of(4));
-    let short = given::lent(12, given::outside(0));
-    let lent = given::lent(WORDS, given::outside(0));
+    let short = given::lent(12, given::WITHIN);
+    let lent = given::lent(WORDS, given::WITHIN);
     let six = calls::again(report, PLAYED, short, third, sixth, refused(6, 0));
     let seven = calls::again(six, PAD, short, third, sixth, refused(7, 0));
     let three = calls::again(seven, PAD, lent, third, sixth, refused(3, 2));
@@ -127,7 +126,7 @@ fn all_refused(report: Report, setup: u64, score: Score, wanted: Numbers) -> Rep
 }
 
 fn lent() -> Lent {
-    given::lent(WORDS, given::honest())
+    given::lent(WORDS, given::HONEST)
 }
 
 fn old() -> Score {
@@ -143,14 +142,6 @@ fn zeros(size: usize) -> Score {
         bytes: [0u8; 40970],
         size,
     }
-}
-
-// Outside the limits, or of no stage.
-fn no_entry(k: u64) -> Change {
-    if k < given::OUTSIDE {
-        return given::outside(k);
-    }
-    given::no_stage(k - given::OUTSIDE)
 }
 
 // The shelf has 24 words.

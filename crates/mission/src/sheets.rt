@@ -27,20 +27,21 @@ pub fn blank() -> Sheet {
     [EMPTY; 24]
 }
 
-// A record's number: the position, then kind, note and velocity, so that numbers are in the order of positions.
+// A record's number, so that numbers are in the order of positions: as digits the position, the kind, three of the note and
+// three of the velocity, as 17_1_047_090.
 pub fn record(position: u64, kind: u64, note: u64, velocity: u64) -> u64 {
-    position % 0x1_0000_0000 * 0x100_0000
-        + kind % 256 * 0x1_0000
-        + note % 256 * 0x100
+    position % 0x1_0000_0000 * 1_0_000_000
+        + kind % 10 * 1_000_000
+        + note % 256 * 1_000
         + velocity % 256
 }
 
 pub fn position_of(record: u64) -> u64 {
-    record / 0x100_0000
+    record / 1_0_000_000
 }
 
 pub fn kind_of(record: u64) -> u64 {
-    record / 0x1_0000 % 256
+    record / 1_000_000 % 10
 }
 
 // The number in a slot.
@@ -130,7 +131,7 @@ pub fn moved(sheet: Sheet, at: usize, p: u64) -> Sheet {
     }
     with(
         removed(sheet, at),
-        p % 0x1_0000_0000 * 0x100_0000 + old % 0x100_0000,
+        p % 0x1_0000_0000 * 1_0_000_000 + old % 1_0_000_000,
     )
 }
 
@@ -140,7 +141,7 @@ pub fn revalued(sheet: Sheet, at: usize, velocity: u64) -> Sheet {
     let mut next = sheet;
     if at < SLOTS {
         if kind_of(old) < RESET {
-            next[at] = old - old % 256 + velocity % 128;
+            next[at] = old - old % 1_000 + velocity % 128;
         }
     }
     next
@@ -187,8 +188,8 @@ pub fn record_of(record: u64) -> Record {
     Record {
         position: (position_of(record) % 0x1_0000_0000) as u32,
         kind: named(kind_of(record)),
-        note: (record / 256 % 256) as u8,
-        velocity: (record % 256) as u8,
+        note: (record / 1_000 % 1_000 % 256) as u8,
+        velocity: (record % 1_000 % 256) as u8,
     }
 }
 

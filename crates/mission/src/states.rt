@@ -6,7 +6,6 @@ use crate::compared::Report;
 use crate::compared::done;
 use crate::compared::refused;
 use crate::given;
-use crate::given::Change;
 use crate::settings::PAD;
 use crate::sheets;
 use crate::sheets::OFF;
@@ -22,7 +21,7 @@ const LAST: u64 = 16_777_216;
 pub fn played() -> Report {
     let refused = all_refused(all_taken(compared::nothing()));
     let late = sheets::with(given::score(), sheets::record(4000, ON, 70, 70));
-    part(refused, late, given::honest(), compared::refused(10, 0))
+    part(refused, late, given::HONEST, compared::refused(10, 0))
 }
 
 // At the end of the longest output, and beyond it.
@@ -42,8 +41,8 @@ fn all_taken(before: Report) -> Report {
     let mut report = before;
     let mut k = 0;
     while k < given::WITHIN {
-        report = part(report, given::score(), given::within(k), done(304));
-        report = again(report, given::within(k));
+        report = part(report, given::score(), k, done(304));
+        report = again(report, k);
         k += 1;
     }
     report
@@ -52,25 +51,25 @@ fn all_taken(before: Report) -> Report {
 // Outside of them.
 fn all_refused(before: Report) -> Report {
     let mut report = before;
-    let mut k = 0;
+    let mut k = given::WITHIN;
     while k < given::OUTSIDE {
-        report = part(report, given::score(), given::outside(k), refused(10, 0));
+        report = part(report, given::score(), k, refused(10, 0));
         k += 1;
     }
     report
 }
 
-fn part(report: Report, sheet: Sheet, by: Change, wanted: Numbers) -> Report {
-    let lent = given::lent(24, by);
+fn part(report: Report, sheet: Sheet, change: usize, wanted: Numbers) -> Report {
+    let lent = given::lent(24, change);
     let shelf = lent.shelf;
     let state = given::state_of(shelf);
     calls::part(report, PAD, sheet, state, 4096, 304, wanted)
 }
 
-fn again(report: Report, by: Change) -> Report {
+fn again(report: Report, change: usize) -> Report {
     let old = sheets::written(given::score());
     let new = sheets::written(given::edited());
-    calls::again(report, PAD, given::lent(24, by), old, new, done(304))
+    calls::again(report, PAD, given::lent(24, change), old, new, done(304))
 }
 
 // So many samples up to the last position, or one sample more than there is room for.

@@ -28,8 +28,11 @@ loop-holds c = search needs
 edited-requires : tie.Need-edited-requires Inv-loop μ-loop
 edited-requires c κs = search needs
 
-edit-over-rubbish-requires : tie.Need-edit-over-rubbish-requires Inv-loop μ-loop
-edit-over-rubbish-requires c κs = search needs
+by-zero-requires : tie.Need-by-zero-requires Inv-loop μ-loop
+by-zero-requires c κs = search needs
+
+over-rubbish-requires : tie.Need-over-rubbish-requires Inv-loop μ-loop
+over-rubbish-requires c κs = search needs
 
 edit-requires : tie.Need-edit-requires Inv-loop μ-loop
 edit-requires c κs = search needs
@@ -61,7 +64,8 @@ chain-spec =
     thrown-requires
     loop-holds
     edited-requires
-    edit-over-rubbish-requires
+    by-zero-requires
+    over-rubbish-requires
     edit-requires
     thrown-requires-2
     add-turn

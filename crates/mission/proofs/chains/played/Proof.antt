@@ -19,9 +19,6 @@ loop-holds c = search needs
 chain-requires : tie.Need-chain-requires Inv-loop μ-loop
 chain-requires c κs = search needs
 
-added-requires : tie.Need-added-requires Inv-loop μ-loop
-added-requires c κs = search needs
-
 add-k : tie.Need-add-k Inv-loop μ-loop
 add-k c = search needs
 
@@ -43,7 +40,6 @@ played-spec =
     nothing-requires
     loop-holds
     chain-requires
-    added-requires
     add-k
     loop-less
     loop-again

@@ -10,6 +10,9 @@ Inv-loop chain₀ k₀ chain k = Unit
 abbrev μ-loop : tie.MeasureT-loop
 μ-loop chain₀ k₀ chain k = 5 - k
 
+nothing-requires : tie.Need-nothing-requires Inv-loop μ-loop
+nothing-requires c κs = search needs
+
 chord-requires : tie.Need-chord-requires Inv-loop μ-loop
 chord-requires c κs = search needs
 
@@ -21,6 +24,9 @@ loop-holds c = search needs
 
 edited-requires : tie.Need-edited-requires Inv-loop μ-loop
 edited-requires c κs = search needs
+
+by-zero-requires : tie.Need-by-zero-requires Inv-loop μ-loop
+by-zero-requires c κs = search needs
 
 edit-requires : tie.Need-edit-requires Inv-loop μ-loop
 edit-requires c κs = search needs
@@ -43,10 +49,12 @@ played-spec =
     (tie.spec
     Inv-loop
     μ-loop
+    nothing-requires
     chord-requires
     begun-requires
     loop-holds
     edited-requires
+    by-zero-requires
     edit-requires
     add-k
     loop-less

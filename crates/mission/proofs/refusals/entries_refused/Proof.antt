@@ -1,4 +1,4 @@
--- `mission::refusals::entries_refused` is safe and ends: what is left of the entries falls. Assumes nothing.
+-- `mission::refusals::entries_refused` is safe and ends: what is left of the changes falls. Assumes nothing.
 use borrow.Author.Needs.{needs}
 use Prim.Native.Nat.{_-_}
 use Rattle.mission.proofs.refusals.entries_refused.Statement.{statement}
@@ -8,16 +8,10 @@ abbrev Inv-loop : tie.InvT-loop
 Inv-loop report₀ k₀ report k = Unit
 
 abbrev μ-loop : tie.MeasureT-loop
-μ-loop report₀ k₀ report k = 36 - k
+μ-loop report₀ k₀ report k = 56 - k
 
 loop-holds : tie.Need-loop-holds Inv-loop μ-loop
 loop-holds c = search needs
-
-add-loop : tie.Need-add-loop Inv-loop μ-loop
-add-loop c = search needs
-
-no-entry-requires : tie.Need-no-entry-requires Inv-loop μ-loop
-no-entry-requires c κs = search needs
 
 lent-requires : tie.Need-lent-requires Inv-loop μ-loop
 lent-requires c κs = search needs
@@ -53,8 +47,6 @@ entries-refused-spec =
     Inv-loop
     μ-loop
     loop-holds
-    add-loop
-    no-entry-requires
     lent-requires
     old-requires
     new-requires

@@ -1,4 +1,4 @@
--- `mission::states::all_refused` is safe and ends: what is left of the entries falls. Assumes nothing.
+-- `mission::states::all_refused` is safe and ends: what is left of the changes falls. Assumes nothing.
 use borrow.Author.Needs.{needs}
 use Prim.Native.Nat.{_-_}
 use Rattle.mission.proofs.states.all_refused.Statement.{statement}
@@ -8,16 +8,13 @@ abbrev Inv-loop : tie.InvT-loop
 Inv-loop report₀ k₀ report k = Unit
 
 abbrev μ-loop : tie.MeasureT-loop
-μ-loop report₀ k₀ report k = 33 - k
+μ-loop report₀ k₀ report k = 53 - k
 
 loop-holds : tie.Need-loop-holds Inv-loop μ-loop
 loop-holds c = search needs
 
 score-requires : tie.Need-score-requires Inv-loop μ-loop
 score-requires c κs = search needs
-
-outside-requires : tie.Need-outside-requires Inv-loop μ-loop
-outside-requires c κs = search needs
 
 refused-requires : tie.Need-refused-requires Inv-loop μ-loop
 refused-requires c κs = search needs
@@ -45,7 +42,6 @@ all-refused-spec =
     μ-loop
     loop-holds
     score-requires
-    outside-requires
     refused-requires
     part-requires
     add-k

@@ -1,4 +1,4 @@
--- `mission::states::all_taken` is safe and ends: what is left of the entries falls. Assumes nothing.
+-- `mission::states::all_taken` is safe and ends: what is left of the changes falls. Assumes nothing.
 use borrow.Author.Needs.{needs}
 use Prim.Native.Nat.{_-_}
 use Rattle.mission.proofs.states.all_taken.Statement.{statement}
@@ -16,17 +16,11 @@ loop-holds c = search needs
 score-requires : tie.Need-score-requires Inv-loop μ-loop
 score-requires c κs = search needs
 
-within-requires : tie.Need-within-requires Inv-loop μ-loop
-within-requires c κs = search needs
-
 done-requires : tie.Need-done-requires Inv-loop μ-loop
 done-requires c κs = search needs
 
 part-requires : tie.Need-part-requires Inv-loop μ-loop
 part-requires c κs = search needs
-
-within-requires-2 : tie.Need-within-requires-2 Inv-loop μ-loop
-within-requires-2 c κs = search needs
 
 again-requires : tie.Need-again-requires Inv-loop μ-loop
 again-requires c κs = search needs
@@ -51,10 +45,8 @@ all-taken-spec =
     μ-loop
     loop-holds
     score-requires
-    within-requires
     done-requires
     part-requires
-    within-requires-2
     again-requires
     add-k
     loop-less
