@@ -8,7 +8,6 @@ use crate::lent::Lent;
 use crate::play;
 use crate::play::Played;
 use crate::settings::PAD;
-use crate::sheets;
 use crate::sheets::Score;
 use crate::sheets::Sheet;
 use answers::Numbers;
@@ -36,35 +35,19 @@ pub fn whole(report: Report, setup: u64, lent: Lent, score: Score, says: Numbers
     compared::rendered(report, got, Played { says, state, lent })
 }
 
-// A part of so many samples, done by the steps of the sheet, or refused.
+// A part of so many samples, refused, which hands back the state as it came, or done by the steps of the sheet.
 pub fn part(
     report: Report,
     setup: u64,
     sheet: Sheet,
+    score: Score,
     state: State,
     position: u64,
     length: usize,
     says: Numbers,
 ) -> Report {
     let lent = lent::spoiled(lent::zeros(length, 0), length, 0, lent::NONE);
-    let got = play::part(setup, sheets::written(sheet), state, position, lent);
+    let got = play::part(setup, score, state, position, lent);
     let wanted = play::stepped(setup, sheet, state, position, lent, says);
     compared::rendered(report, got, wanted)
-}
-
-// A part of a score that is refused: it hands back the state as it came.
-pub fn no_part(report: Report, setup: u64, lent: Lent, score: Score, says: Numbers) -> Report {
-    let shelf = lent.shelf;
-    let state = given::state_of(shelf);
-    let rubbish = lent::spoiled(lent::zeros(304, 0), 304, 0, lent::NONE);
-    let got = play::part(setup, score, state, 4096, rubbish);
-    compared::rendered(
-        report,
-        got,
-        Played {
-            says,
-            state,
-            lent: rubbish,
-        },
-    )
 }

@@ -46,25 +46,36 @@ pub fn stepped() -> Report {
 }
 
 fn by_steps(report: Report, setup: u64) -> Report {
+    let sheet = tune();
+    let score = sheets::written(sheet);
     let state = state::fresh();
-    calls::part(report, setup, tune(), state, 0, 8300, compared::done(8300))
+    calls::part(
+        report,
+        setup,
+        sheet,
+        score,
+        state,
+        0,
+        8300,
+        compared::done(8300),
+    )
 }
 
 fn by_ends(report: Report, setup: u64) -> Report {
     let whole = play::from_zero(setup, tune(), 8300);
     let lent = whole.lent;
     let shelf = lent.shelf;
-    entries(report, setup, shelf)
+    let one = by_end(report, setup, shelf, 1);
+    by_end(one, setup, shelf, 2)
 }
 
-fn entries(report: Report, setup: u64, shelf: [u64; 60]) -> Report {
-    let one = compared::words(report, &shelf[12..24], &end_of(setup, 4096));
-    compared::words(one, &shelf[24..36], &end_of(setup, 8192))
-}
-
-fn end_of(setup: u64, n: usize) -> [u64; 12] {
-    let shorter = play::from_zero(setup, tune(), n);
-    shelf::encode(shorter.state)
+fn by_end(report: Report, setup: u64, shelf: [u64; 60], mark: usize) -> Report {
+    let entry = lent::at_most(mark, 4);
+    let shorter = play::from_zero(setup, tune(), 4096 * entry);
+    let end = shelf::encode(shorter.state);
+    let first = 12 * entry;
+    let after = first + 12;
+    compared::words(report, &shelf[first..after], &end)
 }
 
 // The samples, and the end state.
@@ -104,17 +115,21 @@ fn in_parts(report: Report, setup: u64, way: u64, out: &mut [f64]) -> Air {
 }
 
 fn next(air: Air, setup: u64, sheet: Sheet, bytes: &[u8], end: usize, out: &mut [f64]) -> Air {
-    let report = air.report;
-    let state = air.state;
     let position = air.position as u64;
     let records = grown(sheet, air.records, end as u64, air.seed);
     let size = lent::at_most(10 * lent::at_most(records, 24), bytes.len());
-    let got = render::continue_render(settings::of(setup), &bytes[0..size], state, position, out);
+    let got = render::continue_render(
+        settings::of(setup),
+        &bytes[0..size],
+        air.state,
+        position,
+        out,
+    );
     let after = got.state;
     let answer = got.answer;
     let says = answers::in_numbers(answer);
     Air {
-        report: compared::answered(report, says, compared::done(out.len())),
+        report: compared::answered(air.report, says, compared::done(out.len())),
         state: after,
         position: end,
         records,

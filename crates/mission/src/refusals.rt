@@ -122,7 +122,18 @@ fn all_refused(report: Report, setup: u64, score: Score, wanted: Numbers) -> Rep
     let lent = lent();
     let again = calls::again(report, setup, lent, score, new(), wanted);
     let whole = calls::whole(again, setup, lent, score, wanted);
-    calls::no_part(whole, setup, lent, score, wanted)
+    let shelf = lent.shelf;
+    let state = given::state_of(shelf);
+    calls::part(
+        whole,
+        setup,
+        given::score(),
+        score,
+        state,
+        4096,
+        304,
+        wanted,
+    )
 }
 
 fn lent() -> Lent {

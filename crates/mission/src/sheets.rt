@@ -86,14 +86,12 @@ pub fn last_at(sheet: Sheet, p: u64) -> usize {
 // The record stands before slot `at`, and those from there on one slot later.
 pub fn inserted(sheet: Sheet, at: usize, record: u64) -> Sheet {
     let mut next = sheet;
-    let mut i = 0;
+    let mut carried = record;
+    let mut i = at;
     while i < SLOTS {
-        if i == at {
-            next[i] = record;
-        }
-        if at < i {
-            next[i] = sheet[i - 1];
-        }
+        let here = next[i];
+        next[i] = carried;
+        carried = here;
         i += 1;
     }
     next

@@ -63,7 +63,16 @@ fn part(report: Report, sheet: Sheet, change: usize, wanted: Numbers) -> Report 
     let lent = given::lent(24, change);
     let shelf = lent.shelf;
     let state = given::state_of(shelf);
-    calls::part(report, PAD, sheet, state, 4096, 304, wanted)
+    calls::part(
+        report,
+        PAD,
+        sheet,
+        sheets::written(sheet),
+        state,
+        4096,
+        304,
+        wanted,
+    )
 }
 
 fn again(report: Report, change: usize) -> Report {
@@ -97,7 +106,17 @@ fn past(report: Report, k: u64) -> Report {
 }
 
 fn at(report: Report, state: State, position: u64, length: usize, wanted: Numbers) -> Report {
-    calls::part(report, PAD, ending(), state, position, length, wanted)
+    let sheet = ending();
+    calls::part(
+        report,
+        PAD,
+        sheet,
+        sheets::written(sheet),
+        state,
+        position,
+        length,
+        wanted,
+    )
 }
 
 fn samples(k: u64) -> usize
