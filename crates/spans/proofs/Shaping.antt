@@ -1,6 +1,6 @@
 -- The second pass: one value more, a step within a run, a stage that stands, and the rest of a part. Assumes nothing.
-use mathlib.Core.Path.{_≡_, refl, sym, ap, _∙_}
-use mathlib.Core.Bool.{false}
+use mathlib.Core.Path.{_≡_, refl, sym, subst, ap, _∙_}
+use mathlib.Core.Bool.{Bool, true, false, true≢false, _||_}
 use mathlib.Core.List.{List, [], _∷_, _++_, append-assoc, append-nil}
 use Prim.Native.Nat.{ℕ, zero, suc, _+_, _-_, _<_, _≤_}
 use native.Mathlib.Nat.{add-zero, add-suc}
@@ -20,8 +20,18 @@ use Rattle.envelope.specs.Stages.{movedOf, grows, grownOf, ruleOf, stepOf}
 use Rattle.envelope.specs.Running.{envelopeFrom}
 use Rattle.envelope.proofs.RunsOn.{envelope-runs-on}
 use Rattle.spans.specs.Plain.{shapedTo, Shaped}
-use Rattle.spans.specs.Runs.{levelOf, endsAt, Reached}
+use Rattle.spans.specs.Runs.{levelOf, endsAt, shapedTwo, Reached}
 use Rattle.spans.proofs.Turns.{take-mid}
+
+-- of two tests that neither pass, none does
+pub neither : (a b : Bool) → (a || b) ≡ false → (a ≡ false) × (b ≡ false)
+neither false b e = (refl, e)
+neither true b e = absurd (true≢false e)
+
+-- two values written leave as many as there were
+pub two-long : (velocity : Float) (ys zs : List Float) (i : ℕ) (a b : Float) → zs ≡ shapedTwo velocity ys i a b → length zs ≡ length ys
+unfolding shapedTwo
+two-long velocity ys zs i a b z = ap length z ∙ simp length-set refl
 
 -- as many values as were asked for
 shaped-length : (k : Adsr) (t : Float) (e : Envelope) (velocity : Float) (xs : List Float) (n : ℕ) → length (shapedTo k t e velocity xs n) ≡ n
@@ -32,9 +42,9 @@ shaped-length k t e velocity xs (suc n) =
 
 module _ (k : Adsr) (t : Float) (e : Envelope) where
   -- ---- within a run the stage stays, and a step gives its level and lets the time grow
-  pub runs : (s : EnvelopeStage) (level : Float) → e .stage ≡ s → level ≡ levelOf s k e → endsAt s k level ≡ false → movedOf e s level (e .«stage_time» ⊕ t) ≡ stepOf k t e
+  pub runs : (s : EnvelopeStage) (d : Envelope) → e .stage ≡ s → d ≡ movedOf e s (levelOf s k e) (e .«stage_time» ⊕ t) → endsAt s k (d .level) ≡ false → d ≡ stepOf k t e
   unfolding stepOf
-  runs s level q l h = ap (λ (x : Float). movedOf e s x (e .«stage_time» ⊕ t)) l ∙ go s (ap (endsAt s k) (sym l) ∙ h) ∙ ap (λ (z : EnvelopeStage). grownOf t (ruleOf z k e)) (sym q)
+  runs s d q m h = m ∙ go s (ap (λ (x : Envelope). endsAt s k (x .level)) (sym m) ∙ h) ∙ ap (λ (z : EnvelopeStage). grownOf t (ruleOf z k e)) (sym q)
     where
       go : (s : EnvelopeStage) → endsAt s k (levelOf s k e) ≡ false → movedOf e s (levelOf s k e) (e .«stage_time» ⊕ t) ≡ grownOf t (ruleOf s k e)
       go Idle h = absurd (clash (cc))
@@ -79,6 +89,18 @@ module _ (k : Adsr) (t : Float) (e : Envelope) where
           first = rw (add-one i, take-suc-set ys i (getD ys i nan ⊗ level ⊗ velocity) h, b .first, b .others i (omega arith), l, ap (λ (x : Envelope). x .level) next) refl;
           others = λ j g. getD-set-other ys i j _ nan (λ q. omega arith) ∙ b .others j (omega arith);
         }
+
+    pub reached-two : (ys : List Float) (c d₁ d₂ : Envelope) (i : ℕ) → i + 2 ≤ length ys → d₁ ≡ stepOf k t c → d₂ ≡ stepOf k t d₁ → Reached k t e velocity xs ys c i → Reached k t e velocity xs (shapedTwo velocity ys i (d₁ .level) (d₂ .level)) d₂ (i + 2)
+    unfolding shapedTwo
+    reached-two ys c d₁ d₂ i h p q b = subst (λ (j : ℕ). Reached k t e velocity xs (shapedTwo velocity ys i (d₁ .level) (d₂ .level)) d₂ j) (omega arith) (reached-more (set ys i (getD ys i nan ⊗ d₁ .level ⊗ velocity)) d₁ d₂ (d₂ .level) (i + 1) (simp length-set (omega arith)) q refl (reached-more ys c d₁ (d₁ .level) i (omega arith) p refl b))
+
+    -- twice two
+    pub reached-four : (ys zs ws : List Float) (c d₁ d₂ d₃ d₄ : Envelope) (i : ℕ) → i + 4 ≤ length ys → d₁ ≡ stepOf k t c → d₂ ≡ stepOf k t d₁ → d₃ ≡ stepOf k t d₂ → d₄ ≡ stepOf k t d₃ → zs ≡ shapedTwo velocity ys i (d₁ .level) (d₂ .level)
+        → ws ≡ shapedTwo velocity zs (i + 2) (d₃ .level) (d₄ .level) → Reached k t e velocity xs ys c i → Reached k t e velocity xs ws d₄ (i + 4)
+    reached-four ys zs ws c d₁ d₂ d₃ d₄ i h p₁ p₂ p₃ p₄ z w b =
+        let half : Reached k t e velocity xs zs d₂ (i + 2) = subst (λ (l : List Float). Reached k t e velocity xs l d₂ (i + 2)) (sym z) (reached-two ys c d₁ d₂ i (omega arith) p₁ p₂ b) in
+        let whole : Reached k t e velocity xs ws d₄ (i + 2 + 2) = subst (λ (l : List Float). Reached k t e velocity xs l d₄ (i + 2 + 2)) (sym w) (reached-two zs d₂ d₃ d₄ (i + 2) (omega (arith, half .long, b .long)) p₃ p₄ half) in
+        subst (λ (j : ℕ). Reached k t e velocity xs ws d₄ j) (omega arith) whole
 
     -- to its end
     pub shaped-all : (ys : List Float) (c : Envelope) (i : ℕ) → length ys ≤ i → Reached k t e velocity xs ys c i → Shaped k t e velocity xs ys c

@@ -2,10 +2,10 @@
 use mathlib.Core.Bool.{Bool, true}
 use mathlib.Core.List.{List}
 use mathlib.Core.Path.{_≡_}
-use Prim.Native.Nat.{ℕ, _≤_}
-use lib.ListN.{length, take, getD}
+use Prim.Native.Nat.{ℕ, _+_, _≤_}
+use lib.ListN.{length, take, getD, set}
 use lib.Ieee.{Float, nan, le}
-use Rattle.floats.specs.Double.{naught, one}
+use Rattle.floats.specs.Double.{_⊗_, naught, one}
 use Rattle.envelope.specs.declared.Adsr.{Adsr}
 use Rattle.envelope.specs.declared.Envelope.{Envelope}
 use Rattle.envelope.specs.declared.EnvelopeStage.{EnvelopeStage}
@@ -29,6 +29,10 @@ endsAt Attack k x = le one x
 endsAt Decay k x = le x (k .sustain)
 endsAt Sustain k x = true
 endsAt Release k x = le x silent
+
+-- the values i and i + 1 of a part, each with its level
+unfoldable pub shapedTwo : Float → List Float → ℕ → Float → Float → List Float
+shapedTwo velocity ys i a b = let once = set ys i (getD ys i nan ⊗ a ⊗ velocity) in set once (i + 1) (getD once (i + 1) nan ⊗ b ⊗ velocity)
 
 -- of a part that held xs the first i values are shaped and the others are as they were, and c is the envelope after the i
 pub record Reached (k : Adsr) (t : Float) (e : Envelope) (velocity : Float) (xs ys : List Float) (c : Envelope) (i : ℕ) : Type 0 where

@@ -7,13 +7,13 @@ ghost use mathlib.Core.Bool.{cond, false};
 ghost use Prim.Native.Nat.{_+_, _-_, _%_, _<_, _≤_};
 ghost use lib.ListN.{length};
 ghost use Rattle.score.specs.Record.{countOf};
-ghost use Rattle.envelope.specs.Stages.{grows};
-ghost use Rattle.floats.specs.Double.{one};
+ghost use Rattle.envelope.specs.Stages.{movedOf, grows};
+ghost use Rattle.floats.specs.Double.{_⊕_, one};
 ghost use Rattle.sine.specs.Whole.{wholeWave};
 ghost use Rattle.waveform.specs.Filled.{Filled};
 ghost use Rattle.state.specs.State.{paceOf};
 ghost use Rattle.spans.specs.Plain.{Sounded, Shaped};
-ghost use Rattle.spans.specs.Runs.{levelOf, endsAt, Onward};
+ghost use Rattle.spans.specs.Runs.{levelOf, endsAt, shapedTwo, Onward};
 ghost use Rattle.spans.specs.Walk.{standsAt, beginsAt, actFrom, reducedAt, begunFrom, Played, SpanEnd, BlockEnd};
 use envelope::Adsr;
 use envelope::Envelope;
@@ -282,7 +282,7 @@ fn shape(adsr: Adsr, sample_time: f64, start: Envelope, velocity: f64, part: &mu
     envelope
 }
 
-// A run of the stage at hand, with that stage a constant, so that each has a loop of its own.
+// A run of the stage at hand, with that stage a constant, so that each has loops of its own.
 fn run_on(adsr: Adsr, sample_time: f64, at: Reach, velocity: f64, part: &mut [f64]) -> Reach
     ensures { λ r. ⌜ (at .count ≤ r .count) × Onward adsr «sample_time» velocity (now (part .entry)) (at .envelope) (at .count) (now (part .exit)) (r .envelope) (r .count) ⌝ }
 {
@@ -290,21 +290,87 @@ fn run_on(adsr: Adsr, sample_time: f64, at: Reach, velocity: f64, part: &mut [f6
     let stage = e.stage;
     match stage {
         EnvelopeStage::Idle => at,
-        EnvelopeStage::Attack => run(EnvelopeStage::Attack, adsr, sample_time, at, velocity, part),
-        EnvelopeStage::Decay => run(EnvelopeStage::Decay, adsr, sample_time, at, velocity, part),
+        EnvelopeStage::Attack => {
+            run_stage(EnvelopeStage::Attack, adsr, sample_time, at, velocity, part)
+        }
+        EnvelopeStage::Decay => {
+            run_stage(EnvelopeStage::Decay, adsr, sample_time, at, velocity, part)
+        }
         EnvelopeStage::Sustain => at,
-        EnvelopeStage::Release => run(
-            EnvelopeStage::Release,
-            adsr,
-            sample_time,
-            at,
-            velocity,
-            part,
-        ),
+        EnvelopeStage::Release => {
+            run_stage(
+                EnvelopeStage::Release,
+                adsr,
+                sample_time,
+                at,
+                velocity,
+                part,
+            )
+        }
     }
 }
 
-// The samples of a stage before the one that ends it: the level alone is looked at, and the time grows.
+// The samples of a stage before the one that ends it.
+fn run_stage(
+    stage: EnvelopeStage,
+    adsr: Adsr,
+    sample_time: f64,
+    at: Reach,
+    velocity: f64,
+    part: &mut [f64],
+) -> Reach
+    requires { ⌜ at .envelope .stage ≡ stage ⌝ }
+    ensures { λ r. ⌜ (at .count ≤ r .count) × Onward adsr «sample_time» velocity (now (part .entry)) (at .envelope) (at .count) (now (part .exit)) (r .envelope) (r .count) ⌝ }
+{
+    let fours = run_fours(stage, adsr, sample_time, at, velocity, part);
+    run(stage, adsr, sample_time, fours, velocity, part)
+}
+
+// Four samples at a time, as long as none of them ends the stage.
+fn run_fours(
+    stage: EnvelopeStage,
+    adsr: Adsr,
+    sample_time: f64,
+    at: Reach,
+    velocity: f64,
+    part: &mut [f64],
+) -> Reach
+    requires { ⌜ at .envelope .stage ≡ stage ⌝ }
+    ensures { λ r. ⌜ (at .count ≤ r .count) × (r .envelope .stage ≡ stage) × Onward adsr «sample_time» velocity (now (part .entry)) (at .envelope) (at .count) (now (part .exit)) (r .envelope) (r .count) ⌝ }
+{
+    let mut envelope = at.envelope;
+    let mut i = at.count;
+    while i < part.len() {
+        if part.len() - i < 4 {
+            return Reach { envelope, count: i };
+        }
+        let first = next_in(stage, adsr, sample_time, envelope);
+        let second = next_in(stage, adsr, sample_time, first);
+        let third = next_in(stage, adsr, sample_time, second);
+        let fourth = next_in(stage, adsr, sample_time, third);
+        let soon = is_over(stage, adsr, first.level) | is_over(stage, adsr, second.level);
+        let late = is_over(stage, adsr, third.level) | is_over(stage, adsr, fourth.level);
+        if soon | late {
+            return Reach { envelope, count: i };
+        }
+        shape_two(first.level, second.level, velocity, i, part);
+        shape_two(third.level, fourth.level, velocity, i + 2, part);
+        envelope = fourth;
+        i += 4;
+    }
+    Reach { envelope, count: i }
+}
+
+// Two samples, each with its level.
+fn shape_two(first: f64, second: f64, velocity: f64, i: usize, part: &mut [f64])
+    requires { ⌜ i + 2 ≤ length (now part) ⌝ }
+    ensures { λ r. ⌜ now (part .exit) ≡ shapedTwo velocity (now (part .entry)) i first second ⌝ }
+{
+    part[i] = part[i] * first * velocity;
+    part[i + 1] = part[i + 1] * second * velocity;
+}
+
+// The samples that are left, one at a time.
 fn run(
     stage: EnvelopeStage,
     adsr: Adsr,
@@ -319,22 +385,27 @@ fn run(
     let mut envelope = at.envelope;
     let mut i = at.count;
     while i < part.len() {
-        let level = level_at(stage, adsr, envelope);
-        if is_over(stage, adsr, level) {
+        let next = next_in(stage, adsr, sample_time, envelope);
+        if is_over(stage, adsr, next.level) {
             return Reach { envelope, count: i };
         }
-        let stage_time = envelope.stage_time + sample_time;
-        let release_level = envelope.release_level;
-        envelope = Envelope {
-            stage,
-            level,
-            stage_time,
-            release_level,
-        };
-        part[i] = part[i] * level * velocity;
+        part[i] = part[i] * next.level * velocity;
+        envelope = next;
         i += 1;
     }
     Reach { envelope, count: i }
+}
+
+// The envelope one sample on, if that does not end the stage: the level alone is looked at, and the time grows.
+fn next_in(stage: EnvelopeStage, adsr: Adsr, sample_time: f64, e: Envelope) -> Envelope
+    ensures { λ r. ⌜ r ≡ movedOf e stage (levelOf stage adsr e) (e .«stage_time» ⊕ «sample_time») ⌝ }
+{
+    Envelope {
+        stage,
+        level: level_at(stage, adsr, e),
+        stage_time: e.stage_time + sample_time,
+        release_level: e.release_level,
+    }
 }
 
 // The level of a stage, before its end is looked at.

@@ -1,9 +1,10 @@
 -- `spans::run` meets its contract. The loop's invariant: the pass has gone on to sample i, and the envelope is still in the stage of the run. Assumes nothing.
 use borrow.Author.Needs.{needs}
-use mathlib.Core.Path.{_≡_, refl, sym, _∙_}
+use mathlib.Core.Path.{_≡_, refl, sym, ap, _∙_}
 use Prim.Native.Nat.{_≤_, _-_}
 use native.Mathlib.Omega.{arith}
 use lib.ListN.{length, length-set}
+use Rattle.envelope.specs.declared.Envelope.{Envelope}
 use Rattle.spans.specs.Runs.{Onward}
 use Rattle.spans.proofs.Shaping.{reached-more, runs}
 use Rattle.spans.proofs.run.Statement.{statement}
@@ -18,8 +19,8 @@ abbrev μ-loop : tie.MeasureT-loop
 loop-holds : tie.Need-loop-holds Inv-loop μ-loop
 loop-holds c = (refl, omega arith, c .before .before .pre, λ e xs b. b)
 
-level-at-requires : tie.Need-level-at-requires Inv-loop μ-loop
-level-at-requires c κs = search needs
+next-in-requires : tie.Need-next-in-requires Inv-loop μ-loop
+next-in-requires c κs = search needs
 
 is-over-requires : tie.Need-is-over-requires Inv-loop μ-loop
 is-over-requires c κs = search needs
@@ -50,14 +51,15 @@ loop-less c = omega arith
 
 loop-again : tie.Need-loop-again Inv-loop μ-loop
 loop-again c =
-    let out = c .before .before .before in
-    let at = out .before .before .before in
+    let left = c .before .before in
+    let made = left .before .before in
+    let at = made .before .before in
     let a = at .before .before .before .args in
-    let step = runs (a .adsr) (a .sample-time) (at .loop .envelope) (a .stage) (out .before .level-at .result) (at .loop .inv .2) (out .before .level-at .ensures) (sym (out .is-over .ensures) ∙ c .before .before .if1 .left) in (
+    let step = runs (a .adsr) (a .sample-time) (at .loop .envelope) (a .stage) (made .next-in .result) (at .loop .inv .2) (made .next-in .ensures) (sym (left .before .is-over .ensures) ∙ left .if1 .left) in (
       simp length-set (at .loop .inv .0),
       omega (arith, at .loop .inv .1),
-      refl,
-      λ e xs b. reached-more (a .adsr) (a .sample-time) e (a .velocity) xs (at .loop .part) (at .loop .envelope) _ _ (at .loop .i) (out .before .before .loop-test .taken) step refl (at .loop .inv .3 e xs b),
+      ap (λ (x : Envelope). x .stage) (made .next-in .ensures),
+      λ e xs b. reached-more (a .adsr) (a .sample-time) e (a .velocity) xs (at .loop .part) (at .loop .envelope) _ _ (at .loop .i) (made .before .loop-test .taken) step refl (at .loop .inv .3 e xs b),
     )
 
 same-length-2 : tie.Need-same-length-2 Inv-loop μ-loop
@@ -73,7 +75,7 @@ run-spec =
     Inv-loop
     μ-loop
     loop-holds
-    level-at-requires
+    next-in-requires
     is-over-requires
     same-length
     returns
