@@ -1,7 +1,6 @@
 -- On the phases of one cycle the part of the cycle is a difference times INV_TAU, and grows with the phase, so that a stretch's ends speak for all between them; and where no correction is due, a waveform is a line. Assumes nothing.
 use mathlib.Core.Path.{_≡_, refl, sym, subst, ap, _∙_}
-use mathlib.Core.Bool.{Bool, true, false, cond, not, _&&_}
-use native.Mathlib.Nat as nat
+use mathlib.Core.Bool.{Bool, true, false, cond, _&&_}
 use lib.Dec.{T, not-T}
 use lib.Ieee.{Float, binary64, ofBits, rem, add, sub, mul, neg, lt, le, fits}
 use lib.Ieee.Bits.{is-true, is-false}
@@ -16,22 +15,22 @@ use Rattle.floats.proofs.Near.{sub-order}
 use Rattle.floats.proofs.Monotone.{mul-mono}
 use Rattle.floats.proofs.Units.{rem-below, less-nought}
 use Rattle.polyblep.specs.declared.Side.the-variants.{Away}
-use Rattle.polyblep.specs.Polyblep.{sideOf, fractOf, blepOf, blampOf, stepOf, rampOf, sawOf, squareOf, pulseOf, triangleOf}
+use Rattle.polyblep.specs.Polyblep.{sideOf, fractOf, blepOf, blampOf, sawOf, squareOf, pulseOf, triangleOf}
 use Rattle.polyblep.proofs.Clear.{Lies, AllAway, unit-finite, lies, half-away, duty-away}
 use Rattle.waveform.specs.Waveform.{tau, invTau, normalOf}
 use Rattle.waveform.specs.declared.Line.{Line}
 use Rattle.waveform.specs.declared.Line.the-variants.{High, Low, Climb, Rise, Fall}
 use Rattle.waveform.specs.declared.Stretch.{Stretch}
 use Rattle.waveform.specs.Lines.{lineOf, baseOf, isOneCycle, partOf, twoTau, Inside, Straight, TwoLines}
-use Rattle.waveform.proofs.Normal.{tau-positive, tau-nonneg, rem-nonneg, inv-nonneg}
-use Rattle.waveform.proofs.Turns.{far, below-tau, next-cycle}
+use Rattle.waveform.proofs.Normal.{tau-positive, rem-nonneg, inv-nonneg}
+use Rattle.waveform.proofs.Turns.{far, next-cycle}
 
 two-tau-finite : T (finite twoTau)
 two-tau-finite = unfold ofBits in tt
 
 -- below 2^14, as the tests of a phase ask it
-under-far : (q bound : Float) → T (finite q) → T (finite bound) → T (le naught q) → T (lt q bound) → T (le bound far) → (le naught q && lt q far) ≡ true
-under-far q bound f b z l k = is-true _ (and-i (le naught q) (lt q far) z (lt-le-lt q bound far f (unfold ofBits in tt) l k))
+under-far : (q bound : Float) → T (finite q) → T (le naught q) → T (lt q bound) → T (le bound far) → (le naught q && lt q far) ≡ true
+under-far q bound f z l k = is-true _ (and-i (le naught q) (lt q far) z (lt-le-lt q bound far f (unfold ofBits in tt) l k))
 
 -- what is left of a phase of a cycle is the phase less the cycle's base
 pub rest-is : (first : Bool) (low high q : Float) → isOneCycle first low high ≡ true → T (fits binary64 q) → T (le low q) → T (lt q high) → (rem binary64 q tau ≡ q ⊖ baseOf first) × T (nonneg q)
@@ -51,7 +50,7 @@ rest-is false low high q e w a b =
     let below : T (lt q twoTau) = lt-le-lt q high twoTau q-finite two-tau-finite b to in
     let z : T (le naught q) = fle-trans naught tau q (unfold ofBits in unfold le in tt) from in
     let no : lt q tau ≡ false = is-false (lt q tau) (not-T (lt q tau) (λ (l : T (lt q tau)). lt-not-le q tau l from)) in (
-      sym (next-cycle q (under-far q twoTau q-finite two-tau-finite z below (unfold ofBits in unfold le in tt)) no (is-true _ below)),
+      sym (next-cycle q (under-far q twoTau q-finite z below (unfold ofBits in unfold le in tt)) no (is-true _ below)),
       under q twoTau (le→ge0 q (subst (λ (z : Float). T (le z q)) (lit0-is binary64) z)) two-tau-finite (lt-le q twoTau below),
     )
 
@@ -122,13 +121,14 @@ saw-line : (t dt : Float) → sideOf t dt ≡ Away → sawOf t dt ≡ lineOf Cli
 unfolding sawOf blepOf
 saw-line t dt e = rw e refl
 
+-- high or low, and no corrections
+levels : (t : Float) (s : Bool) → cond s one (neg one) ⊕ naught ⊖ naught ≡ lineOf (cond s High Low) t
+levels t true = unfold ofBits in unfold add in unfold sub in refl
+levels t false = unfold ofBits in unfold neg in unfold add in unfold sub in refl
+
 pub square-lines : (dt : Float) → TwoLines (λ (t : Float). squareOf t dt) dt High Low
 unfolding squareOf blepOf
-square-lines dt t a b = rw (a, b) (levels (lt t half))
-  where
-    levels : (s : Bool) → cond s one (neg one) ⊕ naught ⊖ naught ≡ lineOf (cond s High Low) t
-    levels true = unfold ofBits in unfold add in unfold sub in refl
-    levels false = unfold ofBits in unfold neg in unfold add in unfold sub in refl
+square-lines dt t a b = rw (a, b) (levels t (lt t half))
 
 pub triangle-lines : (dt : Float) → TwoLines (λ (t : Float). triangleOf t dt) dt Rise Fall
 unfolding triangleOf blampOf
@@ -143,11 +143,7 @@ triangle-lines dt t a b = rw (a, b, none) (slopes (lt t half))
 
 pulse-lines : (t dt duty : Float) → sideOf t dt ≡ Away → sideOf (fractOf (t ⊖ duty ⊕ one)) dt ≡ Away → pulseOf t dt duty ≡ lineOf (cond (lt t duty) High Low) t
 unfolding pulseOf blepOf
-pulse-lines t dt duty a b = rw (a, b) (levels (lt t duty))
-  where
-    levels : (s : Bool) → cond s one (neg one) ⊕ naught ⊖ naught ≡ lineOf (cond s High Low) t
-    levels true = unfold ofBits in unfold add in unfold sub in refl
-    levels false = unfold ofBits in unfold neg in unfold add in unfold sub in refl
+pulse-lines t dt duty a b = rw (a, b) (levels t (lt t duty))
 
 -- ---- the stretches that the code finds: phases from low up to high, which are the parts lo and hi of their cycle
 module _ (first : Bool) (low high base lo hi dt : Float) (b : base ≡ baseOf first) (l : lo ≡ partOf base low) (h : hi ≡ partOf base high) (one-cycle : isOneCycle first low high ≡ true) (v : T (fits binary64 low))

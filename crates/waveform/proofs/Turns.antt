@@ -20,6 +20,7 @@ use Rattle.floats.proofs.Pattern.{fieldsOf}
 use Rattle.floats.proofs.Fields.{crossed, field-ge, field-lt}
 use Rattle.floats.proofs.Units.{rem-below, rem-once, rem-units}
 use Rattle.waveform.specs.Waveform.{tau}
+use Rattle.waveform.specs.Lines.{twoTau}
 use Rattle.waveform.proofs.Normal.{tau-positive, tau-nonneg}
 
 -- 2^14, and 2^50
@@ -38,10 +39,7 @@ far-is = unfold ofBits in (refl, refl)
 tau-is : (num tau ≡ 884279719003555) × (den tau ≡ 140737488355328)
 tau-is = unfold ofBits in (refl, refl)
 
-abbrev two-tau : Float
-two-tau = ofBits binary64 0x4029_21fb_5444_2d18
-
-two-tau-is : (num two-tau ≡ 884279719003555) × (den two-tau ≡ 70368744177664)
+two-tau-is : (num twoTau ≡ 884279719003555) × (den twoTau ≡ 70368744177664)
 two-tau-is = unfold ofBits in (refl, refl)
 
 -- ---- from TAU up to 2^14
@@ -120,10 +118,10 @@ module _ (x : Float) (t : (le naught x && lt x far) ≡ true) where
   x-above l = ge0-positive tau x tau-positive (from-tau l .0) (nonneg→finite x phase-nonneg)
 
   -- a phase in the next cycle
-  pub next-cycle : lt x tau ≡ false → lt x two-tau ≡ true → x ⊖ tau ≡ rem binary64 x tau
+  pub next-cycle : lt x tau ≡ false → lt x twoTau ≡ true → x ⊖ tau ≡ rem binary64 x tau
   next-cycle l k =
       rem-once binary64 x tau (x-above l) tau-positive (le→cross tau x tau-nonneg phase-nonneg (from-tau l .0))
-      (twice (num x) (den x) (rw (two-tau-is .0, two-tau-is .1) at (nat.lt-of-not-le (λ (g : num two-tau * den x ≤ num x * den two-tau). lt-not-le x two-tau (subst T (sym k) tt) (cross→le two-tau x (unfold ofBits in tt) phase-nonneg g)))))
+      (twice (num x) (den x) (rw (two-tau-is .0, two-tau-is .1) at (nat.lt-of-not-le (λ (g : num twoTau * den x ≤ num x * den twoTau). lt-not-le x twoTau (subst T (sym k) tt) (cross→le twoTau x (unfold ofBits in tt) phase-nonneg g)))))
     where
       twice : (a c : ℕ) → a * 70368744177664 < 884279719003555 * c → a * den tau < num tau * c + num tau * c
       twice a c h = rw (tau-is .0, tau-is .1) (omega arith)
