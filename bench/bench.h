@@ -92,10 +92,12 @@ struct bench {
     unsigned met, missed, differences;
 };
 
-/* library.c: the library's calls on the settings and a shelf of their own. The last two give back the count. */
+/* library.c: the library's calls on the settings and a shelf of their own: a render, one in parts, the samples from a mark
+ * on as one part, and a re-render, which gives back its count. */
 void library_prepare(size_t samples);
 render ours_render;
 void ours_continue(const struct settings *settings, const struct score *score, double *out, size_t n, size_t part);
+void ours_from_mark(const struct settings *settings, const struct score *score, double *out, size_t n, size_t mark);
 size_t ours_rerender(const struct settings *settings, const struct score *old, const struct score *new_, double *out,
                      size_t n);
 

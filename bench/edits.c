@@ -36,6 +36,13 @@ static double time_edit(struct bench *b, const struct score *edited, size_t pair
     return (now() - start) / (double)(2 * pairs);
 }
 
+/* Nanoseconds of the last so many samples: those of one continuing call, less its check. */
+static double time_samples(struct bench *b, size_t count, size_t rounds) {
+    double start = now();
+    for (size_t k = 0; k < rounds; k++) ours_from_mark(&b->settings, &b->score, b->out, b->samples, b->samples - count);
+    return (now() - start) / (double)rounds - check_time(&b->score, gav_check_score, 1);
+}
+
 /* What is written there and back again is compared, and the count with the first difference that the plain C finds. */
 static size_t compare_edit(struct bench *b, const char *where, const struct score *edited) {
     size_t count = ours_rerender(&b->settings, &b->score, edited, b->out, b->samples);
@@ -50,14 +57,15 @@ static size_t compare_edit(struct bench *b, const char *where, const struct scor
     return count;
 }
 
-/* Out and shelf hold the score's render, before and after. A render and a re-render of two equal scores, which makes
- * two checks and a comparison and nothing else, are measured in turn with it. */
+/* Out and shelf hold the score's render, before and after. The samples alone, and a re-render of two equal scores, which
+ * makes two checks and a comparison and nothing else, are measured in turn with it. */
 static void measure_edit(struct bench *b, const char *where, struct score edited) {
     double took[MOST_REPETITIONS], owed[MOST_REPETITIONS], ratio[MOST_REPETITIONS];
     size_t count = compare_edit(b, where, &edited), n = b->repetitions;
     for (size_t i = 0; i < n; i++) {
-        owed[i] = render_time(b) * (double)count / (double)b->samples + time_edit(b, &b->score, 200);
-        took[i] = time_edit(b, &edited, count < 100000 ? 200 : 1);
+        size_t rounds = count < 100000 ? 200 : 1;
+        owed[i] = time_samples(b, count, 2 * rounds) + time_edit(b, &b->score, 200);
+        took[i] = time_edit(b, &edited, rounds);
         ratio[i] = took[i] / owed[i];
     }
     double times = median(ratio, n);
@@ -69,9 +77,9 @@ static void measure_edit(struct bench *b, const char *where, struct score edited
 void measure_edits(struct bench *b) {
     b->settings.code = GAV_SAWTOOTH;
     ours_render(&b->settings, &b->score, b->out, b->samples);
-    puts("\nre-renders, sawtooth; owed: the samples at a render's pace, two checks and the comparison (as a re-render "
-         "of two\n"
-         "equal scores)");
+    puts("\nre-renders, sawtooth; owed: the same samples by one continuing call, two checks and the comparison "
+         "(as a\n"
+         "re-render of two equal scores)");
     printf("%-12s %12s %12s %12s %19s\n", "from", "samples", "us", "us owed", "ratio, <= 1.05");
     measure_edit(b, "last mark", edit_end(b));
     measure_edit(b, "middle", edit_middle(b));

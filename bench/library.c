@@ -3,6 +3,7 @@
 
 #include <stdio.h>
 #include <stdlib.h>
+#include <string.h>
 
 static uint64_t *shelf;
 
@@ -32,6 +33,13 @@ void ours_continue(const struct settings *s, const struct score *score, double *
         done(gav_continue(s->rate, s->code, s->duty, s->attack, s->decay, s->sustain, s->release, score->bytes,
                           score->len, state, GAV_STATE_WORDS, i, out + i, length));
     }
+}
+
+void ours_from_mark(const struct settings *s, const struct score *score, double *out, size_t n, size_t mark) {
+    uint64_t state[GAV_STATE_WORDS];
+    memcpy(state, shelf + mark / GAV_MARK * GAV_STATE_WORDS, sizeof state);
+    done(gav_continue(s->rate, s->code, s->duty, s->attack, s->decay, s->sustain, s->release, score->bytes, score->len,
+                      state, GAV_STATE_WORDS, mark, out + mark, n - mark));
 }
 
 size_t ours_rerender(const struct settings *s, const struct score *old, const struct score *new_, double *out,
