@@ -282,63 +282,20 @@ fn shape(adsr: Adsr, sample_time: f64, start: Envelope, velocity: f64, part: &mu
     envelope
 }
 
-// A run of the stage at hand, with that stage a constant, so that each has loops of its own.
+// The samples of the stage at hand before the one that ends it.
 fn run_on(adsr: Adsr, sample_time: f64, at: Reach, velocity: f64, part: &mut [f64]) -> Reach
     ensures { λ r. ⌜ (at .count ≤ r .count) × Onward adsr «sample_time» velocity (now (part .entry)) (at .envelope) (at .count) (now (part .exit)) (r .envelope) (r .count) ⌝ }
 {
-    let e = at.envelope;
-    let stage = e.stage;
-    match stage {
-        EnvelopeStage::Idle => at,
-        EnvelopeStage::Attack => {
-            run_stage(EnvelopeStage::Attack, adsr, sample_time, at, velocity, part)
-        }
-        EnvelopeStage::Decay => {
-            run_stage(EnvelopeStage::Decay, adsr, sample_time, at, velocity, part)
-        }
-        EnvelopeStage::Sustain => at,
-        EnvelopeStage::Release => {
-            run_stage(
-                EnvelopeStage::Release,
-                adsr,
-                sample_time,
-                at,
-                velocity,
-                part,
-            )
-        }
-    }
-}
-
-// The samples of a stage before the one that ends it.
-fn run_stage(
-    stage: EnvelopeStage,
-    adsr: Adsr,
-    sample_time: f64,
-    at: Reach,
-    velocity: f64,
-    part: &mut [f64],
-) -> Reach
-    requires { ⌜ at .envelope .stage ≡ stage ⌝ }
-    ensures { λ r. ⌜ (at .count ≤ r .count) × Onward adsr «sample_time» velocity (now (part .entry)) (at .envelope) (at .count) (now (part .exit)) (r .envelope) (r .count) ⌝ }
-{
-    let fours = run_fours(stage, adsr, sample_time, at, velocity, part);
-    run(stage, adsr, sample_time, fours, velocity, part)
+    let fours = run_fours(adsr, sample_time, at, velocity, part);
+    run(adsr, sample_time, fours, velocity, part)
 }
 
 // Four samples at a time, as long as none of them ends the stage.
-fn run_fours(
-    stage: EnvelopeStage,
-    adsr: Adsr,
-    sample_time: f64,
-    at: Reach,
-    velocity: f64,
-    part: &mut [f64],
-) -> Reach
-    requires { ⌜ at .envelope .stage ≡ stage ⌝ }
-    ensures { λ r. ⌜ (at .count ≤ r .count) × (r .envelope .stage ≡ stage) × Onward adsr «sample_time» velocity (now (part .entry)) (at .envelope) (at .count) (now (part .exit)) (r .envelope) (r .count) ⌝ }
+fn run_fours(adsr: Adsr, sample_time: f64, at: Reach, velocity: f64, part: &mut [f64]) -> Reach
+    ensures { λ r. ⌜ (at .count ≤ r .count) × Onward adsr «sample_time» velocity (now (part .entry)) (at .envelope) (at .count) (now (part .exit)) (r .envelope) (r .count) ⌝ }
 {
     let mut envelope = at.envelope;
+    let stage = envelope.stage;
     let mut i = at.count;
     while i < part.len() {
         if part.len() - i < 4 {
@@ -371,18 +328,11 @@ fn shape_two(first: f64, second: f64, velocity: f64, i: usize, part: &mut [f64])
 }
 
 // The samples that are left, one at a time.
-fn run(
-    stage: EnvelopeStage,
-    adsr: Adsr,
-    sample_time: f64,
-    at: Reach,
-    velocity: f64,
-    part: &mut [f64],
-) -> Reach
-    requires { ⌜ at .envelope .stage ≡ stage ⌝ }
+fn run(adsr: Adsr, sample_time: f64, at: Reach, velocity: f64, part: &mut [f64]) -> Reach
     ensures { λ r. ⌜ (at .count ≤ r .count) × Onward adsr «sample_time» velocity (now (part .entry)) (at .envelope) (at .count) (now (part .exit)) (r .envelope) (r .count) ⌝ }
 {
     let mut envelope = at.envelope;
+    let stage = envelope.stage;
     let mut i = at.count;
     while i < part.len() {
         let next = next_in(stage, adsr, sample_time, envelope);

@@ -15,7 +15,6 @@ use Rattle.floats.specs.Double.{_⊕_, _⊗_}
 use Rattle.waveform.specs.declared.Waveform.{Waveform}
 use Rattle.waveform.specs.Waveform.{radians}
 use Rattle.waveform.specs.Filled.{phaseFrom, valueAt, samplesBy, Filled, FilledBy}
-use Rattle.waveform.specs.declared.Line.{Line}
 use Rattle.waveform.specs.declared.Stretch.{Stretch}
 use Rattle.waveform.specs.Lines.{lineOf, partOf, Straight, Upto, Onward}
 use Rattle.waveform.proofs.Steps.{phase-more}
@@ -76,18 +75,18 @@ Running s step scale ys p i zs q j = (length zs ≡ length ys) × (i ≤ j) × T
 pub runs : (s : Stretch) (step scale : Float) (ys : List Float) (p : Float) (i : ℕ) → T (fits binary64 p) → Running s step scale ys p i ys p i
 runs s step scale ys p i w = (refl, nat.le-refl i, w, λ value straight p₀ xs u. u)
 
-module _ (s : Stretch) (step scale : Float) (ys : List Float) (p : Float) (i : ℕ) (line : Line) (same : s .line ≡ line) where
+module _ (s : Stretch) (step scale : Float) (ys : List Float) (p : Float) (i : ℕ) where
   -- the code's test of a phase, and its value there
   abbrev Tested : Float → Type 0
   Tested q = (le (s .low) q && lt q (s .high)) ≡ true
 
   abbrev Made : Float → Float → Type 0
-  Made v q = v ≡ lineOf line (partOf (s .base) q)
+  Made v q = v ≡ lineOf (s .line) (partOf (s .base) q)
 
   made : (value : Float → Float) → Straight value s → (v q : Float) → T (fits binary64 q) → Tested q → Made v q → v ≡ value q
   made value straight v q w t e =
       let inside = subst T (sym t) tt in
-      e ∙ sym (straight q (w, and-l (le (s .low) q) (lt q (s .high)) inside, and-r (le (s .low) q) (lt q (s .high)) inside) ∙ ap (λ (l : Line). lineOf l (partOf (s .base) q)) same)
+      e ∙ sym (straight q (w, and-l (le (s .low) q) (lt q (s .high)) inside, and-r (le (s .low) q) (lt q (s .high)) inside))
 
   pub runs-on : (zs : List Float) (q v : Float) (j : ℕ) → Running s step scale ys p i zs q j → j < length zs → Tested q → Made v q → Running s step scale ys p i (set zs j (v ⊗ scale)) (q ⊕ step) (j + 1)
   runs-on zs q v j (size, from, w, on) h t e = (

@@ -234,47 +234,19 @@ fn fill_lines(
     Radians(phase)
 }
 
-// The samples of a stretch, with its line a constant, so that each has loops of its own.
+// The samples of a stretch, as far as it reaches.
 fn run_on(stretch: Stretch, at: Reach, step: f64, scale: f64, out: &mut [f64]) -> Reach
     ensures { λ r. ⌜ (at .count ≤ r .count) × Onward stretch step scale (now (out .entry)) at (now (out .exit)) r ⌝ }
 {
+    let fours = run_fours(stretch, at, step, scale, out);
+    run(stretch, fours, step, scale, out)
+}
+
+// Four samples at a time, as long as they all lie in the stretch.
+fn run_fours(stretch: Stretch, at: Reach, step: f64, scale: f64, out: &mut [f64]) -> Reach
+    ensures { λ r. ⌜ (at .count ≤ r .count) × Onward stretch step scale (now (out .entry)) at (now (out .exit)) r ⌝ }
+{
     let line = stretch.line;
-    match line {
-        Line::High => run_along(Line::High, stretch, at, step, scale, out),
-        Line::Low => run_along(Line::Low, stretch, at, step, scale, out),
-        Line::Climb => run_along(Line::Climb, stretch, at, step, scale, out),
-        Line::Rise => run_along(Line::Rise, stretch, at, step, scale, out),
-        Line::Fall => run_along(Line::Fall, stretch, at, step, scale, out),
-    }
-}
-
-fn run_along(
-    line: Line,
-    stretch: Stretch,
-    at: Reach,
-    step: f64,
-    scale: f64,
-    out: &mut [f64],
-) -> Reach
-    requires { ⌜ stretch .line ≡ line ⌝ }
-    ensures { λ r. ⌜ (at .count ≤ r .count) × Onward stretch step scale (now (out .entry)) at (now (out .exit)) r ⌝ }
-{
-    let fours = run_fours(line, stretch, at, step, scale, out);
-    run(line, stretch, fours, step, scale, out)
-}
-
-// Four samples at a time, as long as they all lie in the stretch: one branch for four tests.
-fn run_fours(
-    line: Line,
-    stretch: Stretch,
-    at: Reach,
-    step: f64,
-    scale: f64,
-    out: &mut [f64],
-) -> Reach
-    requires { ⌜ stretch .line ≡ line ⌝ }
-    ensures { λ r. ⌜ (at .count ≤ r .count) × Onward stretch step scale (now (out .entry)) at (now (out .exit)) r ⌝ }
-{
     let base = stretch.base;
     let mut phase = at.phase;
     let mut i = at.count;
@@ -301,10 +273,10 @@ fn run_fours(
 }
 
 // The samples that are left, one at a time.
-fn run(line: Line, stretch: Stretch, at: Reach, step: f64, scale: f64, out: &mut [f64]) -> Reach
-    requires { ⌜ stretch .line ≡ line ⌝ }
+fn run(stretch: Stretch, at: Reach, step: f64, scale: f64, out: &mut [f64]) -> Reach
     ensures { λ r. ⌜ (at .count ≤ r .count) × Onward stretch step scale (now (out .entry)) at (now (out .exit)) r ⌝ }
 {
+    let line = stretch.line;
     let base = stretch.base;
     let mut phase = at.phase;
     let mut i = at.count;

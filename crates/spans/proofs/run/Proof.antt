@@ -11,13 +11,13 @@ use Rattle.spans.proofs.run.Statement.{statement}
 use Rattle.spans.proofs.run.Tie as tie
 
 abbrev Inv-loop : tie.InvT-loop
-Inv-loop stage adsr sample-time velocity part₀ envelope₀ i₀ part envelope i = (length part ≡ length part₀) × (i₀ ≤ i) × (envelope .stage ≡ stage) × Onward adsr sample-time velocity part₀ envelope₀ i₀ part envelope i
+Inv-loop adsr sample-time velocity part₀ envelope₀ stage i₀ part envelope i = (length part ≡ length part₀) × (i₀ ≤ i) × (envelope .stage ≡ stage) × Onward adsr sample-time velocity part₀ envelope₀ i₀ part envelope i
 
 abbrev μ-loop : tie.MeasureT-loop
-μ-loop stage adsr sample-time velocity part₀ envelope₀ i₀ part envelope i = length part₀ - i
+μ-loop adsr sample-time velocity part₀ envelope₀ stage i₀ part envelope i = length part₀ - i
 
 loop-holds : tie.Need-loop-holds Inv-loop μ-loop
-loop-holds c = (refl, omega arith, c .before .before .pre, λ e xs b. b)
+loop-holds c = (refl, omega arith, refl, λ e xs b. b)
 
 next-in-requires : tie.Need-next-in-requires Inv-loop μ-loop
 next-in-requires c κs = search needs
@@ -55,7 +55,8 @@ loop-again c =
     let made = left .before .before in
     let at = made .before .before in
     let a = at .before .before .before .args in
-    let step = runs (a .adsr) (a .sample-time) (at .loop .envelope) (a .stage) (made .next-in .result) (at .loop .inv .2) (made .next-in .ensures) (sym (left .before .is-over .ensures) ∙ left .if1 .left) in (
+    let stage = a .at .envelope .stage in
+    let step = runs (a .adsr) (a .sample-time) (at .loop .envelope) stage (made .next-in .result) (at .loop .inv .2) (made .next-in .ensures) (sym (left .before .is-over .ensures) ∙ left .if1 .left) in (
       simp length-set (at .loop .inv .0),
       omega (arith, at .loop .inv .1),
       ap (λ (x : Envelope). x .stage) (made .next-in .ensures),

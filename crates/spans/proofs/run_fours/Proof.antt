@@ -17,17 +17,17 @@ abbrev stays : Envelope → EnvelopeStage
 stays e = e .stage
 
 abbrev Inv-loop : tie.InvT-loop
-Inv-loop stage adsr sample-time velocity part₀ envelope₀ i₀ part envelope i = (length part ≡ length part₀) × (i₀ ≤ i) × (envelope .stage ≡ stage) × Onward adsr sample-time velocity part₀ envelope₀ i₀ part envelope i
+Inv-loop adsr sample-time velocity part₀ envelope₀ stage i₀ part envelope i = (length part ≡ length part₀) × (i₀ ≤ i) × (envelope .stage ≡ stage) × Onward adsr sample-time velocity part₀ envelope₀ i₀ part envelope i
 
 abbrev μ-loop : tie.MeasureT-loop
-μ-loop stage adsr sample-time velocity part₀ envelope₀ i₀ part envelope i = length part₀ - i
+μ-loop adsr sample-time velocity part₀ envelope₀ stage i₀ part envelope i = length part₀ - i
 
 -- what a slice tells: its length fits a word
 held : (c : tie.Start Inv-loop μ-loop) → Fits w64 (length (c .args .part .now))
 held c = search needs
 
 loop-holds : tie.Need-loop-holds Inv-loop μ-loop
-loop-holds c = (refl, omega arith, c .before .before .pre, λ e xs b. b)
+loop-holds c = (refl, omega arith, refl, λ e xs b. b)
 
 sub-if1 : tie.Need-sub-if1 Inv-loop μ-loop
 sub-if1 c = omega arith
@@ -36,7 +36,7 @@ same-length : tie.Need-same-length Inv-loop μ-loop
 same-length c = c .before .before .loop .inv .0
 
 returns : tie.Need-returns Inv-loop μ-loop
-returns c = (c .before .before .loop .inv .1, c .before .before .loop .inv .2, c .before .before .loop .inv .3)
+returns c = (c .before .before .loop .inv .1, c .before .before .loop .inv .3)
 
 next-in-requires : tie.Need-next-in-requires Inv-loop μ-loop
 next-in-requires c κs = search needs
@@ -66,7 +66,7 @@ same-length-2 : tie.Need-same-length-2 Inv-loop μ-loop
 same-length-2 c = c .before .before .before .before .before .before .before .before .before .before .before .loop .inv .0
 
 returns-2 : tie.Need-returns-2 Inv-loop μ-loop
-returns-2 c = (c .before .before .before .before .before .before .before .before .before .before .before .loop .inv .1, c .before .before .before .before .before .before .before .before .before .before .before .loop .inv .2, c .before .before .before .before .before .before .before .before .before .before .before .loop .inv .3)
+returns-2 c = (c .before .before .before .before .before .before .before .before .before .before .before .loop .inv .1, c .before .before .before .before .before .before .before .before .before .before .before .loop .inv .3)
 
 shape-two-requires : tie.Need-shape-two-requires Inv-loop μ-loop
 shape-two-requires c κs = let room = c .before .before .before .before .before .before .before .before .before .before .if1 .left in omega (arith, room)
@@ -103,6 +103,7 @@ loop-again c =
     let room = made .before .before .before .before in
     let at = room .before .before in
     let a = at .before .before .before .args in
+    let stage = a .at .envelope .stage in
     let (soon, late) = neither _ _ (left .if2 .left) in
     let (o₁, o₂) = neither _ _ soon in
     let (o₃, o₄) = neither _ _ late in
@@ -112,10 +113,10 @@ loop-again c =
     let d₄ = made .next-in4 in
     let two = c .before .before .before .before .before .before .shape-two .ensures in
     let four = c .before .before .shape-two2 .ensures in
-    let q₁ = runs (a .adsr) (a .sample-time) (at .loop .envelope) (a .stage) (d₁ .result) (at .loop .inv .2) (d₁ .ensures) (sym (tested .before .before .before .is-over .ensures) ∙ o₁) in
-    let q₂ = runs (a .adsr) (a .sample-time) (d₁ .result) (a .stage) (d₂ .result) (ap stays (d₁ .ensures)) (d₂ .ensures) (sym (tested .before .before .is-over2 .ensures) ∙ o₂) in
-    let q₃ = runs (a .adsr) (a .sample-time) (d₂ .result) (a .stage) (d₃ .result) (ap stays (d₂ .ensures)) (d₃ .ensures) (sym (tested .before .is-over3 .ensures) ∙ o₃) in
-    let q₄ = runs (a .adsr) (a .sample-time) (d₃ .result) (a .stage) (d₄ .result) (ap stays (d₃ .ensures)) (d₄ .ensures) (sym (tested .is-over4 .ensures) ∙ o₄) in (
+    let q₁ = runs (a .adsr) (a .sample-time) (at .loop .envelope) stage (d₁ .result) (at .loop .inv .2) (d₁ .ensures) (sym (tested .before .before .before .is-over .ensures) ∙ o₁) in
+    let q₂ = runs (a .adsr) (a .sample-time) (d₁ .result) stage (d₂ .result) (ap stays (d₁ .ensures)) (d₂ .ensures) (sym (tested .before .before .is-over2 .ensures) ∙ o₂) in
+    let q₃ = runs (a .adsr) (a .sample-time) (d₂ .result) stage (d₃ .result) (ap stays (d₂ .ensures)) (d₃ .ensures) (sym (tested .before .is-over3 .ensures) ∙ o₃) in
+    let q₄ = runs (a .adsr) (a .sample-time) (d₃ .result) stage (d₄ .result) (ap stays (d₃ .ensures)) (d₄ .ensures) (sym (tested .is-over4 .ensures) ∙ o₄) in (
       two-long _ _ _ _ _ _ four ∙ two-long _ _ _ _ _ _ two ∙ at .loop .inv .0,
       omega (arith, at .loop .inv .1),
       ap stays (d₄ .ensures),
@@ -126,7 +127,7 @@ same-length-3 : tie.Need-same-length-3 Inv-loop μ-loop
 same-length-3 c = c .before .loop .inv .0
 
 returns-3 : tie.Need-returns-3 Inv-loop μ-loop
-returns-3 c = (c .before .loop .inv .1, c .before .loop .inv .2, c .before .loop .inv .3)
+returns-3 c = (c .before .loop .inv .1, c .before .loop .inv .3)
 
 pub run-fours-spec : {M : Type 1} → statement M
 run-fours-spec =

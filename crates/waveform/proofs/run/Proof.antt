@@ -10,10 +10,10 @@ use Rattle.waveform.proofs.run.Statement.{statement}
 use Rattle.waveform.proofs.run.Tie as tie
 
 abbrev Inv-loop : tie.InvT-loop
-Inv-loop line stretch step scale out₀ base phase₀ i₀ out phase i = Running stretch step scale out₀ phase₀ i₀ out phase i
+Inv-loop stretch step scale out₀ line base phase₀ i₀ out phase i = Running stretch step scale out₀ phase₀ i₀ out phase i
 
 abbrev μ-loop : tie.MeasureT-loop
-μ-loop line stretch step scale out₀ base phase₀ i₀ out phase i = length out₀ - i
+μ-loop stretch step scale out₀ line base phase₀ i₀ out phase i = length out₀ - i
 
 loop-holds : tie.Need-loop-holds Inv-loop μ-loop
 loop-holds c = runs (c .before .args .stretch) _ _ _ _ _ (search needs)
@@ -47,7 +47,7 @@ loop-again c =
     let test = c .before .before in
     let at = test .before .before in
     let start = at .before .before in
-    runs-on (start .args .stretch) _ _ _ _ _ (start .args .line) (start .pre) _ _ _ _ (at .loop .inv) (test .before .loop-test .taken) (sym (test .lies-in .ensures) ∙ not-false _ (c .before .if1 .left)) (c .line-at .ensures)
+    runs-on (start .args .stretch) _ _ _ _ _ _ _ _ _ (at .loop .inv) (test .before .loop-test .taken) (sym (test .lies-in .ensures) ∙ not-false _ (c .before .if1 .left)) (c .line-at .ensures)
 
 same-length-2 : tie.Need-same-length-2 Inv-loop μ-loop
 same-length-2 c = c .before .loop .inv .0

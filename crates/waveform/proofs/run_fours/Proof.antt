@@ -11,10 +11,10 @@ use Rattle.waveform.proofs.run_fours.Statement.{statement}
 use Rattle.waveform.proofs.run_fours.Tie as tie
 
 abbrev Inv-loop : tie.InvT-loop
-Inv-loop line stretch step scale out₀ base phase₀ i₀ out phase i = Running stretch step scale out₀ phase₀ i₀ out phase i
+Inv-loop stretch step scale out₀ line base phase₀ i₀ out phase i = Running stretch step scale out₀ phase₀ i₀ out phase i
 
 abbrev μ-loop : tie.MeasureT-loop
-μ-loop line stretch step scale out₀ base phase₀ i₀ out phase i = length out₀ - i
+μ-loop stretch step scale out₀ line base phase₀ i₀ out phase i = length out₀ - i
 
 loop-holds : tie.Need-loop-holds Inv-loop μ-loop
 loop-holds c = runs (c .before .args .stretch) _ _ _ _ _ (search needs)
@@ -107,7 +107,7 @@ loop-again c =
     let (first-two, last-two) = both-true _ _ (not-false _ (left .if2 .left)) in
     let (t₀, t₁) = both-true _ _ first-two in
     let (t₂, t₃) = both-true _ _ last-two in
-    runs-four (start .args .stretch) _ _ _ _ _ (start .args .line) (start .pre) _ _ _ _ _ _ _ (at .loop .inv) (omega arith) (sym (tested .before .before .before .lies-in .ensures) ∙ t₀) (sym (tested .before .before .lies-in2 .ensures) ∙ t₁)
+    runs-four (start .args .stretch) _ _ _ _ _ _ _ _ _ _ _ _ (at .loop .inv) (omega arith) (sym (tested .before .before .before .lies-in .ensures) ∙ t₀) (sym (tested .before .before .lies-in2 .ensures) ∙ t₁)
     (sym (tested .before .lies-in3 .ensures) ∙ t₂) (sym (tested .lies-in4 .ensures) ∙ t₃) (c .before .before .before .line-at .ensures) (c .before .before .line-at2 .ensures) (c .before .line-at3 .ensures) (c .line-at4 .ensures)
 
 same-length-3 : tie.Need-same-length-3 Inv-loop μ-loop

@@ -1,8 +1,8 @@
--- `waveform::run_along` meets its contract: the two go on, one after the other. Assumes nothing.
+-- `waveform::run_on` meets its contract: the two go on, one after the other. Assumes nothing.
 use borrow.Author.Needs.{needs}
 use native.Mathlib.Nat as nat
-use Rattle.waveform.proofs.run_along.Statement.{statement}
-use Rattle.waveform.proofs.run_along.Tie as tie
+use Rattle.waveform.proofs.run_on.Statement.{statement}
+use Rattle.waveform.proofs.run_on.Tie as tie
 
 run-fours-requires : tie.Need-run-fours-requires
 run-fours-requires c κs = search needs
@@ -19,5 +19,5 @@ returns c =
     let then = c .before .before .run .ensures in
     (nat.le-trans (first .0) (then .0), λ value straight p₀ xs u. then .1 value straight p₀ xs (first .1 value straight p₀ xs u))
 
-pub run-along-spec : {M : Type 1} → statement M
-run-along-spec = tie.close (tie.spec run-fours-requires run-requires same-length returns)
+pub run-on-spec : {M : Type 1} → statement M
+run-on-spec = tie.close (tie.spec run-fours-requires run-requires same-length returns)
