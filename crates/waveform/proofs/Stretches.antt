@@ -13,6 +13,7 @@ use Rattle.floats.proofs.Literals.{lit0-is}
 use Rattle.floats.proofs.Order.{fle-trans, fle-refl, lt-le, lt-not-le, lt-le-lt, le-lt-lt, le→ge0, ge0→le, nonneg→ge0, under, between-finite, nonneg→finite, positive-nonneg, above-positive}
 use Rattle.floats.proofs.Near.{sub-order}
 use Rattle.floats.proofs.Monotone.{mul-mono}
+use Rattle.floats.proofs.Ranges.{within-nonneg, add-grows}
 use Rattle.floats.proofs.Units.{rem-below, less-nought}
 use Rattle.polyblep.specs.declared.Side.the-variants.{Away}
 use Rattle.polyblep.specs.Polyblep.{sideOf, fractOf, blepOf, blampOf, sawOf, squareOf, pulseOf, triangleOf}
@@ -21,9 +22,13 @@ use Rattle.waveform.specs.Waveform.{tau, invTau, normalOf}
 use Rattle.waveform.specs.declared.Line.{Line}
 use Rattle.waveform.specs.declared.Line.the-variants.{High, Low, Climb, Rise, Fall}
 use Rattle.waveform.specs.declared.Stretch.{Stretch}
-use Rattle.waveform.specs.Lines.{lineOf, baseOf, isOneCycle, partOf, twoTau, Inside, Straight, TwoLines}
+use Rattle.waveform.specs.Lines.{lineOf, baseOf, isOneCycle, partOf, twoTau, goesUp, Inside, Straight, TwoLines}
 use Rattle.waveform.proofs.Normal.{tau-positive, rem-nonneg, inv-nonneg}
 use Rattle.waveform.proofs.Turns.{far, next-cycle}
+
+-- three tests that all pass
+three-pass : (a b c : Bool) → T (a && b && c) → T a × T b × T c
+three-pass true true true t = (tt, tt, tt)
 
 two-tau-finite : T (finite twoTau)
 two-tau-finite = unfold ofBits in tt
@@ -106,12 +111,9 @@ isClear low high dt = within naught one dt && le dt low && le high (one ⊖ dt)
 
 lies-in : (base low high q dt : Float) → Part base low high q → isClear low high dt ≡ true → Lies (partOf base q) low high dt
 lies-in base low high q dt p e =
-    let (r, a, b) = three (within naught one dt) (le dt low) (le high (one ⊖ dt)) (subst T (sym e) tt) in
+    let (r, a, b) = three-pass (within naught one dt) (le dt low) (le high (one ⊖ dt)) (subst T (sym e) tt) in
     lies (partOf base q) low high dt (five (within naught one dt) (le dt low) (le low (partOf base q)) (le (partOf base q) high) (le high (one ⊖ dt)) (is-true _ r) (is-true _ a) (is-true _ (p .from)) (is-true _ (p .to)) (is-true _ b))
   where
-    three : (a b c : Bool) → T (a && b && c) → T a × T b × T c
-    three true true true t = (tt, tt, tt)
-
     five : (a b c d e : Bool) → a ≡ true → b ≡ true → c ≡ true → d ≡ true → e ≡ true → (a && b && c && d && e) ≡ true
     five a b c d e p q r s t = rw (p, q, r, s, t) refl
 
@@ -189,3 +191,14 @@ module _ (first : Bool) (low high base lo hi dt : Float) (b : base ≡ baseOf fi
 
       pub duty-behind : le duty lo ≡ true → Straight (λ (q : Float). pulseOf (normalOf q) dt duty) (stretch Low)
       duty-behind e q i = duties Low q i ∙ ap (λ (s : Bool). lineOf (cond s High Low) (partOf base q)) (behind-edge duty q Low i e)
+
+-- ---- a step on within a stretch
+pub next-lies : (s : Stretch) (step q : Float) → goesUp s step ≡ true → T (fits binary64 q) → (le (s .low) q && lt q (s .high)) ≡ true → lt (q ⊕ step) (s .high) ≡ true → (le (s .low) (q ⊕ step) && lt (q ⊕ step) (s .high)) ≡ true
+next-lies s step q g w t h =
+    let (a, b, c) = three-pass (le naught (s .low)) (le (s .high) twoTau) (within naught tau step) (subst T (sym g) tt) in
+    let from : T (le (s .low) q) = and-l (le (s .low) q) (lt q (s .high)) (subst T (sym t) tt) in
+    let zero : T (le naught q) = fle-trans naught (s .low) q a from in
+    let most : T (le q twoTau) = fle-trans q (s .high) twoTau (lt-le q (s .high) (and-r (le (s .low) q) (lt q (s .high)) (subst T (sym t) tt))) b in
+    let n : T (nonneg q) = under q twoTau (le→ge0 q (subst (λ (z : Float). T (le z q)) (lit0-is binary64) zero)) two-tau-finite most in
+    let m : T (nonneg step) = within-nonneg tau step (unfold ofBits in tt) (subst (λ (z : Float). T (within z tau step)) (lit0-is binary64) c) in
+    is-true _ (and-i (le (s .low) (q ⊕ step)) (lt (q ⊕ step) (s .high)) (fle-trans (s .low) q (q ⊕ step) from (add-grows binary64 q step w n m)) (subst T (sym h) tt))

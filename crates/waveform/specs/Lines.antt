@@ -6,6 +6,7 @@ use Prim.Native.Nat.{ℕ, _≤_}
 use lib.Dec.{T}
 use lib.ListN.{length, take}
 use lib.Ieee.{Float, binary64, ofBits, neg, lt, le, fits}
+use Rattle.floats.specs.Range.{within}
 use Rattle.floats.specs.Double.{_⊕_, _⊖_, _⊗_, naught, half, one, two, three, four}
 use Rattle.polyblep.specs.declared.Side.the-variants.{Away}
 use Rattle.polyblep.specs.Polyblep.{sideOf, fractOf}
@@ -41,6 +42,10 @@ partOf base q = (q ⊖ base) ⊗ invTau
 -- ---- a stretch of phases
 abbrev pub Inside : Stretch → Float → Type 0
 Inside s q = T (fits binary64 q) × T (le (s .low) q) × T (lt q (s .high))
+
+-- no phase of it falls by a step
+abbrev pub goesUp : Stretch → Float → Bool
+goesUp s step = le naught (s .low) && le (s .high) twoTau && within naught tau step
 
 -- the values on it are those of its line
 abbrev pub Straight : (Float → Float) → Stretch → Type 0

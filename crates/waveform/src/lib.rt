@@ -10,7 +10,7 @@ ghost use lib.Ieee.{Float, binary64, ofBits, rem, lt, le, fits};
 ghost use lib.Ieee.Positive.{num, den};
 ghost use Rattle.waveform.specs.Waveform.{isWaveform, valueOf, sampleOf, normalOf, reduceOf, incrementOf, radians, tau, invTau};
 ghost use Rattle.waveform.specs.Filled.{Filled, FilledBy, valueAt, valueIn};
-ghost use Rattle.waveform.specs.Lines.{lineOf, partOf, baseOf, isOneCycle, Inside, Straight, TwoLines, Onward};
+ghost use Rattle.waveform.specs.Lines.{lineOf, partOf, baseOf, isOneCycle, goesUp, Inside, Straight, TwoLines, Onward};
 ghost use Rattle.waveform.specs.declared.Waveform.the-variants.{Sine};
 ghost use Rattle.floats.specs.Range.{within};
 ghost use Rattle.floats.specs.Double.{_⊖_, _⊗_, naught, one};
@@ -238,16 +238,28 @@ fn fill_lines(
 fn run_on(stretch: Stretch, at: Reach, step: f64, scale: f64, out: &mut [f64]) -> Reach
     ensures { λ r. ⌜ (at .count ≤ r .count) × Onward stretch step scale (now (out .entry)) at (now (out .exit)) r ⌝ }
 {
-    let fours = run_fours(stretch, at, step, scale, out);
-    run(stretch, fours, step, scale, out)
+    if goes_up(stretch, step) {
+        let fours = run_fours(stretch, at, step, scale, out);
+        return run(stretch, fours, step, scale, out);
+    }
+    run(stretch, at, step, scale, out)
+}
+
+// Whether a phase of the stretch never falls by a step.
+fn goes_up(stretch: Stretch, step: f64) -> bool
+    ensures { λ r. ⌜ r ≡ goesUp stretch step ⌝ }
+{
+    (0.0 <= stretch.low) & (stretch.high <= TWO_TAU) & ((0.0 <= step) & (step <= TAU))
 }
 
 // Four samples at a time, as long as they all lie in the stretch.
 fn run_fours(stretch: Stretch, at: Reach, step: f64, scale: f64, out: &mut [f64]) -> Reach
+    requires { ⌜ goesUp stretch step ≡ true ⌝ }
     ensures { λ r. ⌜ (at .count ≤ r .count) × Onward stretch step scale (now (out .entry)) at (now (out .exit)) r ⌝ }
 {
     let line = stretch.line;
     let base = stretch.base;
+    let high = stretch.high;
     let mut phase = at.phase;
     let mut i = at.count;
     while i < out.len() {
@@ -257,9 +269,8 @@ fn run_fours(stretch: Stretch, at: Reach, step: f64, scale: f64, out: &mut [f64]
         let second = phase + step;
         let third = second + step;
         let fourth = third + step;
-        let first_two = lies_in(stretch, phase) & lies_in(stretch, second);
-        let last_two = lies_in(stretch, third) & lies_in(stretch, fourth);
-        if !(first_two & last_two) {
+        let lie_below = (second < high) & (third < high) & (fourth < high);
+        if !(lies_in(stretch, phase) & lie_below) {
             return Reach { phase, count: i };
         }
         out[i] = line_at(line, base, phase) * scale;

@@ -5,16 +5,20 @@ use mathlib.Core.Path.{sym, _∙_}
 use Prim.Native.Nat.{_-_}
 use native.Mathlib.Omega.{arith}
 use lib.ListN.{length, length-set}
+use lib.Ieee.{binary64}
+use lib.Ieee.Fits.{add-fits}
+use Rattle.floats.specs.Double.{_⊕_}
 use Rattle.polyblep.proofs.Clear.{both-true}
+use Rattle.waveform.proofs.Stretches.{next-lies}
 use Rattle.waveform.proofs.Loops.{Running, runs, runs-four}
 use Rattle.waveform.proofs.run_fours.Statement.{statement}
 use Rattle.waveform.proofs.run_fours.Tie as tie
 
 abbrev Inv-loop : tie.InvT-loop
-Inv-loop stretch step scale out₀ line base phase₀ i₀ out phase i = Running stretch step scale out₀ phase₀ i₀ out phase i
+Inv-loop stretch step scale out₀ line base high phase₀ i₀ out phase i = Running stretch step scale out₀ phase₀ i₀ out phase i
 
 abbrev μ-loop : tie.MeasureT-loop
-μ-loop stretch step scale out₀ line base phase₀ i₀ out phase i = length out₀ - i
+μ-loop stretch step scale out₀ line base high phase₀ i₀ out phase i = length out₀ - i
 
 loop-holds : tie.Need-loop-holds Inv-loop μ-loop
 loop-holds c = runs (c .before .args .stretch) _ _ _ _ _ (search needs)
@@ -31,20 +35,11 @@ returns c = (c .before .before .loop .inv .1, c .before .before .loop .inv .3)
 lies-in-requires : tie.Need-lies-in-requires Inv-loop μ-loop
 lies-in-requires c κs = search needs
 
-lies-in-requires-2 : tie.Need-lies-in-requires-2 Inv-loop μ-loop
-lies-in-requires-2 c κs = search needs
-
-lies-in-requires-3 : tie.Need-lies-in-requires-3 Inv-loop μ-loop
-lies-in-requires-3 c κs = search needs
-
-lies-in-requires-4 : tie.Need-lies-in-requires-4 Inv-loop μ-loop
-lies-in-requires-4 c κs = search needs
-
 same-length-2 : tie.Need-same-length-2 Inv-loop μ-loop
-same-length-2 c = c .before .before .before .before .before .before .before .loop .inv .0
+same-length-2 c = c .before .before .before .before .loop .inv .0
 
 returns-2 : tie.Need-returns-2 Inv-loop μ-loop
-returns-2 c = (c .before .before .before .before .before .before .before .loop .inv .1, c .before .before .before .before .before .before .before .loop .inv .3)
+returns-2 c = (c .before .before .before .before .loop .inv .1, c .before .before .before .before .loop .inv .3)
 
 line-at-requires : tie.Need-line-at-requires Inv-loop μ-loop
 line-at-requires c κs = search needs
@@ -101,14 +96,20 @@ loop-again : tie.Need-loop-again Inv-loop μ-loop
 loop-again c =
     let left = c .before .before .before .before in
     let tested = left .before in
-    let room = tested .before .before .before .before in
+    let room = tested .before in
     let at = room .before .before in
     let start = at .before .before in
-    let (first-two, last-two) = both-true _ _ (not-false _ (left .if2 .left)) in
-    let (t₀, t₁) = both-true _ _ first-two in
-    let (t₂, t₃) = both-true _ _ last-two in
-    runs-four (start .args .stretch) _ _ _ _ _ _ _ _ _ _ _ _ (at .loop .inv) (omega arith) (sym (tested .before .before .before .lies-in .ensures) ∙ t₀) (sym (tested .before .before .lies-in2 .ensures) ∙ t₁)
-    (sym (tested .before .lies-in3 .ensures) ∙ t₂) (sym (tested .lies-in4 .ensures) ∙ t₃) (c .before .before .before .line-at .ensures) (c .before .before .line-at2 .ensures) (c .before .line-at3 .ensures) (c .line-at4 .ensures)
+    let s = start .args .stretch in
+    let step = start .args .step in
+    let q = at .loop .phase in
+    let (lies, below) = both-true _ _ (not-false _ (left .if2 .left)) in
+    let (first-two, fourth) = both-true _ _ below in
+    let (second, third) = both-true _ _ first-two in
+    let t₀ = sym (tested .lies-in .ensures) ∙ lies in
+    let t₁ = next-lies s step q (start .pre) (at .loop .inv .2) t₀ second in
+    let t₂ = next-lies s step (q ⊕ step) (start .pre) (add-fits binary64 q step) t₁ third in
+    let t₃ = next-lies s step (q ⊕ step ⊕ step) (start .pre) (add-fits binary64 (q ⊕ step) step) t₂ fourth in
+    runs-four s step _ _ _ _ _ q _ _ _ _ _ (at .loop .inv) (omega (arith, room .if1 .left)) t₀ t₁ t₂ t₃ (c .before .before .before .line-at .ensures) (c .before .before .line-at2 .ensures) (c .before .line-at3 .ensures) (c .line-at4 .ensures)
 
 same-length-3 : tie.Need-same-length-3 Inv-loop μ-loop
 same-length-3 c = c .before .loop .inv .0
@@ -127,9 +128,6 @@ run-fours-spec =
     same-length
     returns
     lies-in-requires
-    lies-in-requires-2
-    lies-in-requires-3
-    lies-in-requires-4
     same-length-2
     returns-2
     line-at-requires
