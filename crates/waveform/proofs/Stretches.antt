@@ -112,10 +112,7 @@ isClear low high dt = within naught one dt && le dt low && le high (one ⊖ dt)
 lies-in : (base low high q dt : Float) → Part base low high q → isClear low high dt ≡ true → Lies (partOf base q) low high dt
 lies-in base low high q dt p e =
     let (r, a, b) = three-pass (within naught one dt) (le dt low) (le high (one ⊖ dt)) (subst T (sym e) tt) in
-    lies (partOf base q) low high dt (five (within naught one dt) (le dt low) (le low (partOf base q)) (le (partOf base q) high) (le high (one ⊖ dt)) (is-true _ r) (is-true _ a) (is-true _ (p .from)) (is-true _ (p .to)) (is-true _ b))
-  where
-    five : (a b c d e : Bool) → a ≡ true → b ≡ true → c ≡ true → d ≡ true → e ≡ true → (a && b && c && d && e) ≡ true
-    five a b c d e p q r s t = rw (p, q, r, s, t) refl
+    lies (partOf base q) low high dt r a (p .from) (p .to) b
 
 -- ---- and so the waveforms are lines
 -- a sawtooth's own step alone
