@@ -1,0 +1,214 @@
+/* Holds the reference voice to the rows that the original wrote: rows PART, one of pitch, blocks and render, whose
+ * layout oracle/README.md tells. Every word is compared; the samples of a sine, which is ours, lie within a millionth
+ * of their scale, and the row's own are the sines of another library. Says how many rows are equal; exit status 1 where
+ * one is not, or where an op lacks one of its numbers. */
+#include "voice.h"
+
+#include <math.h>
+#include <stdio.h>
+#include <stdlib.h>
+
+#define UNWRITTEN 42.0
+#define MOST_OPS 3
+
+/* The numbers that are met are a set of bits for each op. */
+struct tally {
+    size_t total, equal;
+    double largest;
+    unsigned met[MOST_OPS];
+};
+
+/* A part's rows as words, the first of which is the next to read. */
+struct rows {
+    const uint64_t *next, *end;
+};
+
+static void give_up(const char *why) {
+    fprintf(stderr, "rows: %s\n", why);
+    exit(2);
+}
+
+static void *room(size_t bytes) {
+    void *made = malloc(bytes + 1);
+    if (!made) give_up("no memory");
+    return made;
+}
+
+/* Low byte first. */
+static uint64_t read_word(FILE *file) {
+    uint64_t word = 0;
+    for (int i = 0; i < 64; i += 8) word |= (uint64_t)(uint8_t)fgetc(file) << i;
+    return word;
+}
+
+/* The rows of a part, where they are committed. */
+static struct rows rows_of(const char *part) {
+    char name[64];
+    snprintf(name, sizeof name, "crates/replay_%.20s/stdin", part);
+    FILE *file = fopen(name, "rb");
+    if (!file || fseek(file, 0, SEEK_END)) give_up(name);
+    size_t count = (size_t)ftell(file) / sizeof(uint64_t);
+    uint64_t *words = room(count * sizeof *words);
+    rewind(file);
+    for (size_t i = 0; i < count; i++) words[i] = read_word(file);
+    fclose(file);
+    return (struct rows){words, words + count};
+}
+
+static const uint64_t *take(struct rows *rows, uint64_t words) {
+    const uint64_t *here = rows->next;
+    if (words > (uint64_t)(rows->end - here)) give_up("the last row is cut short");
+    rows->next += words;
+    return here;
+}
+
+static bool same_words(const void *ours, const uint64_t *theirs, size_t words) {
+    return memcmp(ours, theirs, words * sizeof *theirs) == 0;
+}
+
+/* A sample of a sine, at a phase in radians and to a scale. */
+static bool near(struct tally *tally, double ours, double theirs, double phase, double scale) {
+    double off = fabs(ours - theirs);
+    if (off > tally->largest) tally->largest = off;
+    return off <= 0.000001 * scale && fabs(theirs - sin(phase) * scale) <= 1e-15;
+}
+
+static void pitch_row(struct rows *rows, struct tally *tally) {
+    const uint64_t *row = take(rows, 4);
+    double answered = row[0] < 128 ? pitch((uint8_t)row[0]) : 0.0;
+    float narrow = (float)answered;
+    uint32_t pattern;
+    memcpy(&pattern, &narrow, sizeof pattern);
+    tally->met[0] |= 1u << row[1];
+    tally->equal += row[1] == (row[0] < 128 ? 0 : 9) && row[2] == pattern && row[3] == bits(answered);
+}
+
+static bool near_block(struct tally *tally, const struct block *b, double phase, const double *out,
+                       const uint64_t *theirs, size_t n) {
+    bool fine = true;
+    for (size_t i = 0; i < n; i++) {
+        fine &= near(tally, out[i], number(theirs[i]), phase, b->depth);
+        phase += b->frequency / b->rate * TAU;
+    }
+    return fine;
+}
+
+/* Op, waveform, duty, rate, frequency, depth, start phase, samples; number, count, phase after; the samples. */
+static void block_row(struct rows *rows, struct tally *tally) {
+    const uint64_t *row = take(rows, 11), *theirs = take(rows, row[7]);
+    const struct block b = {(uint32_t)row[3], (uint32_t)row[1],          number(row[2]),
+                            number(row[4]),   row[0] == 1 ? 100 : 20000, number(row[5])};
+    size_t n = (size_t)row[7];
+    double start = number(row[6]), phase = start, *out = room(n * sizeof *out);
+    for (size_t i = 0; i < n; i++) out[i] = UNWRITTEN;
+    uint64_t answer = reference_block(&b, &phase, out, n);
+    bool is_sine = b.code == GAV_SINE && answer == says(0, 0, n);
+    bool fine = is_sine ? near_block(tally, &b, start, out, theirs, n) : same_words(out, theirs, n);
+    tally->met[row[0] % MOST_OPS] |= 1u << row[8];
+    tally->equal += fine && answer == says((unsigned)row[8], 0, row[9]) && bits(phase) == row[10];
+    free(out);
+}
+
+/* A row of render: what is given, and where its answers stand. */
+struct asked {
+    struct gav_settings settings;
+    struct records records;
+    const uint8_t *score;
+    size_t n, len, words;
+    uint64_t position;
+    const uint64_t *state, *answer, *samples, *scales, *shelf;
+};
+
+static void read_asked(struct rows *rows, struct asked *a) {
+    const uint64_t *row = take(rows, 40), *more = take(rows, row[1]);
+    bool is_sine = row[3] == GAV_SINE && row[25] == 0;
+    a->settings = (struct gav_settings){(uint32_t)row[2], (uint32_t)row[3], number(row[4]), number(row[5]),
+                                        number(row[6]),   number(row[7]),   number(row[8])};
+    a->n = (size_t)row[9], a->len = (size_t)row[10], a->words = (size_t)row[11];
+    a->position = row[12], a->state = row + 13, a->answer = row + 25;
+    a->samples = more + (a->len + 7) / 8;
+    a->scales = is_sine ? a->samples + a->n : NULL;
+    a->shelf = a->samples + (is_sine ? 2 : 1) * a->n;
+    uint8_t *score = room(a->len);
+    for (size_t i = 0; i < a->len; i++) score[i] = (uint8_t)(more[i / 8] >> 8 * (i % 8));
+    a->score = score;
+    a->records = (struct records){score, a->len / RECORD};
+}
+
+/* The samples one by one from a state, beside those that the call made; and the state after them. */
+static bool same_walk(struct tally *tally, const struct asked *a, uint64_t *state, const double *out) {
+    const struct gav_settings s = clamped(&a->settings);
+    struct voice voice;
+    bool fine = voice_read(&voice, state);
+    for (size_t i = 0; i < a->n; i++) {
+        voice_begin(&voice, a->records, a->position + i);
+        double phase = voice.phase, sample = voice_make(&s, &voice), scale = voice.envelope.level * voice.velocity;
+        fine &= bits(sample) == bits(out[i]);
+        if (!a->scales) continue;
+        fine &= bits(scale) == a->scales[i] && near(tally, sample, number(a->samples[i]), phase, scale);
+    }
+    voice_words(&voice, state);
+    return fine;
+}
+
+/* The call that the row asks for, into samples and a shelf that are not written. The state is the one after it. */
+static bool same_call(struct tally *tally, const struct asked *a, bool is_render, double *out, uint64_t *shelf) {
+    uint64_t state[GAV_STATE_WORDS], after[GAV_STATE_WORDS], answer;
+    memcpy(state, a->state, sizeof state);
+    if (is_render) reference_fresh(state, GAV_STATE_WORDS);
+    memcpy(after, state, sizeof after);
+    if (is_render) {
+        answer = reference_render(&a->settings, a->score, a->len, out, a->n, shelf, a->words);
+    } else {
+        answer = reference_continue(&a->settings, a->score, a->len, after, GAV_STATE_WORDS, a->position, out, a->n);
+    }
+    bool fine = answer == says((unsigned)a->answer[0], a->answer[1], a->answer[2]);
+    if (gav_number(answer) == 0) fine &= same_walk(tally, a, state, out);
+    return fine && same_words(state, a->answer + 3, GAV_STATE_WORDS) &&
+           (is_render || same_words(after, state, GAV_STATE_WORDS));
+}
+
+static void render_row(struct rows *rows, struct tally *tally) {
+    uint64_t op = rows->next[0];
+    struct asked a;
+    read_asked(rows, &a);
+    double *out = room(a.n * sizeof *out);
+    uint64_t *shelf = room(a.words * sizeof *shelf);
+    for (size_t i = 0; i < a.n; i++) out[i] = UNWRITTEN;
+    memset(shelf, 0x2A, a.words * sizeof *shelf);
+    bool fine = same_call(tally, &a, op == 0, out, shelf);
+    tally->met[op % MOST_OPS] |= 1u << a.answer[0];
+    tally->equal += fine && (a.scales || same_words(out, a.samples, a.n)) && same_words(shelf, a.shelf, a.words);
+    free(out);
+    free(shelf);
+    free((void *)a.score);
+}
+
+/* Each part with the numbers that each of its ops must be met with. */
+static const struct part {
+    const char *name;
+    bool has_sines;
+    void (*row)(struct rows *, struct tally *);
+    unsigned met[MOST_OPS];
+} PARTS[] = {
+    {"pitch", false, pitch_row, {1 | 1 << 9}},
+    {"blocks", true, block_row, {1 | 1 << 6 | 1 << 9, 1 | 1 << 6 | 1 << 9, 1 | 1 << 6 | 1 << 9}},
+    {"render", true, render_row, {0xFF, 0xFF | 1 << 10}},
+};
+
+static bool hold(const struct part *part) {
+    struct rows rows = rows_of(part->name);
+    struct tally tally = {0};
+    for (; rows.next < rows.end; tally.total++) part->row(&rows, &tally);
+    printf("%s: %zu rows, %zu equal", part->name, tally.total, tally.equal);
+    if (part->has_sines) printf(", largest difference of a sine %.0f billionths", ceil(tally.largest * 1e9));
+    putchar('\n');
+    return tally.equal == tally.total && memcmp(tally.met, part->met, sizeof tally.met) == 0;
+}
+
+int main(int argc, char **argv) {
+    for (size_t i = 0; i < sizeof PARTS / sizeof *PARTS; i++) {
+        if (argc == 2 && strcmp(argv[1], PARTS[i].name) == 0) return hold(&PARTS[i]) ? 0 : 1;
+    }
+    give_up("wrong usage: rows PART, one of pitch, blocks and render");
+}
