@@ -30,8 +30,6 @@ fn main() {
     let out = PathBuf::from(env::var("OUT_DIR").unwrap());
     let source = source_folder(&home);
 
-    link_library();
-
     let mut table = String::new();
     for name in LIST.lines().filter_map(|line| line.split_whitespace().nth(1)) {
         let from = source.join(name);
@@ -59,22 +57,6 @@ fn main() {
          pub const COMPILED: &[(&str, &[u8], Option<&[u8]>)] = &[\n{table}];\n"
     );
     write(&out.join("modules.rs"), compiled.as_bytes());
-}
-
-/// The library that GAVBERIN_LIB names, if it names one: what `scale` compares.
-fn link_library() {
-    println!("cargo:rerun-if-env-changed=GAVBERIN_LIB");
-    println!("cargo:rustc-check-cfg=cfg(has_library)");
-    let Some(library) = env::var("GAVBERIN_LIB").ok().filter(|value| !value.is_empty()) else {
-        return;
-    };
-    if !Path::new(&library).is_absolute() || !Path::new(&library).is_file() {
-        give_up(&format!("GAVBERIN_LIB must be the absolute path of a library: {library}"));
-    }
-    println!("cargo:rerun-if-changed={library}");
-    println!("cargo:rustc-cfg=has_library");
-    println!("cargo:rustc-link-arg-bins={library}");
-    println!("cargo:rustc-link-arg-bins=-lm");
 }
 
 /// BBX_SRC, or the place where the original lies beside the repository.

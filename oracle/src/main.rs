@@ -15,8 +15,6 @@ mod chance;
 mod check;
 mod check_copies;
 mod envelope_rows;
-#[cfg(has_library)]
-mod library;
 mod patterns;
 mod phase_rows;
 mod pitch_rows;
@@ -26,8 +24,6 @@ mod render_edges;
 mod render_random;
 mod render_rows;
 mod rows;
-#[cfg(has_library)]
-mod scale;
 mod sine_rows;
 mod voice_rows;
 mod waveform_rows;
@@ -50,8 +46,7 @@ const PARTS: [rows::Part; 9] = [
 const USAGE: &str = "\
 oracle rows PART SEED COUNT   the edges, then COUNT seeded rows, to standard output
 oracle tally PART             rows from standard input: how many done and refused, a line an op
-oracle check                  the compiled files are the original's, and the opened copies answer as the untouched
-oracle scale SEED ROUNDS      the library that GAVBERIN_LIB named at the build beside the original, ROUNDS random scores";
+oracle check                  the compiled files are the original's, and the opened copies answer as the untouched";
 
 fn main() {
     let given: Vec<String> = std::env::args().skip(1).collect();
@@ -60,10 +55,6 @@ fn main() {
         ["rows", name, seed, count] => rows::write(part(name), number(seed), number(count)),
         ["tally", name] => rows::tally(part(name)),
         ["check"] => check::all(),
-        #[cfg(has_library)]
-        ["scale", seed, rounds] => scale::all(number(seed), number(rounds)),
-        #[cfg(not(has_library))]
-        ["scale", ..] => give_up("oracle: scale needs the library: GAVBERIN_LIB names it"),
         _ => give_up(USAGE),
     }
 }

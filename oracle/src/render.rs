@@ -1,20 +1,22 @@
 //! The original driven span by span, as 01 says under "Making sample n": its voice, its envelope, and its oscillator.
 //!
 //! `Player` goes on from any state within the limits and shows its states: it has the opened copies, and makes a span's
-//! values one by one, since the original's block has one duty only. `untouched` has the untouched copies alone, from
-//! sample 0 on, and calls whole blocks. Where both can be asked they are compared.
+//! values one by one, since the original's block has one duty only. `Plain` has the untouched copies alone, from sample 0
+//! on, and calls whole blocks into the output: it is what is measured. Where both can be asked they are compared.
 
 use crate::block::Block;
 use crate::blocks::generators::oscillator::OscillatorBlock;
 use crate::blocks::modulators::envelope::EnvelopeBlock;
 use crate::check_copies::run;
+use crate::context::DspContext;
 use crate::envelope_rows::{self, opened_block};
 use crate::math::Real;
 use crate::opened;
+use crate::parameter::ModulationValues;
 use crate::random::XorShiftRng;
 use crate::voice::VoiceState;
 use crate::voice_rows::{self, Pair, NOTE_OFF, NOTE_ON, RESET};
-use crate::waveform::{generate_waveform_sample, DEFAULT_DUTY_CYCLE};
+use crate::waveform::{generate_waveform_sample, Waveform, DEFAULT_DUTY_CYCLE};
 use crate::waveform_rows::{waveform, PULSE, TAU};
 
 /// The samples from one reduction to the next where no record stands, and from one shelf entry to the next.
@@ -209,35 +211,114 @@ fn span_end(n: u64, next: Option<Record>, asked: u64) -> u64 {
     next.map_or(block, |record| record.position.min(block)).min(asked)
 }
 
-/// The bits of the first samples of a score, by whole blocks of the untouched copies; none for a waveform that their
-/// block does not have.
+/// The untouched copies of voice and envelope, and the untouched oscillator.
+struct Plain {
+    voice: VoiceState,
+    envelope: EnvelopeBlock<f64>,
+    source: Source,
+}
+
+/// The original's block; a pulse of a duty that it does not have is the block's loop about the original's single sample.
+enum Source {
+    Block(OscillatorBlock<f64>),
+    Pulse { duty: f64, frequency: f64, phase: f64 },
+}
+
+impl Source {
+    fn new(settings: Settings) -> Self {
+        let (shape, duty) = settings.wave;
+        if settings.is_a_block() {
+            Self::Block(OscillatorBlock::new(440.0, waveform(shape), None))
+        } else {
+            Self::Pulse { duty, frequency: 440.0, phase: 0.0 }
+        }
+    }
+
+    fn reset(&mut self) {
+        match self {
+            Self::Block(block) => block.reset(),
+            Self::Pulse { phase, .. } => *phase = 0.0,
+        }
+    }
+
+    fn set_frequency(&mut self, new: f64) {
+        match self {
+            Self::Block(block) => block.set_midi_frequency(new),
+            Self::Pulse { frequency, .. } => *frequency = new,
+        }
+    }
+
+    fn process(&mut self, out: &mut [f64], context: &DspContext) {
+        match self {
+            Self::Block(block) => block.process(&[], &mut [out], &ModulationValues::none(), context),
+            Self::Pulse { duty, frequency, phase } => {
+                let (increment, rng) = (*frequency / context.sample_rate * TAU, &mut XorShiftRng::new(0));
+                for sample in out {
+                    *sample = generate_waveform_sample(Waveform::Pulse, *phase, increment, *duty, rng);
+                    *phase += increment;
+                }
+                *phase = Real::rem_euclid(*phase, TAU);
+            }
+        }
+    }
+}
+
+impl Plain {
+    fn act(&mut self, record: Record) {
+        match record.kind {
+            KIND_ON => {
+                self.voice.note_on(record.note, record.velocity);
+                self.envelope.note_on();
+            }
+            KIND_OFF if self.voice.note_off(record.note) => self.envelope.note_off(),
+            KIND_OFF => {}
+            _ => {
+                self.voice.reset();
+                self.envelope.reset();
+                self.source.reset();
+            }
+        }
+    }
+
+    /// One span. The blocks reduce the phase after it, which is where the next one begins.
+    fn sound(&mut self, rate: f64, out: &mut [f64]) {
+        let mut levels = [0.0; BLOCK as usize];
+        let levels = &mut levels[..out.len()];
+        let context = DspContext { sample_rate: rate, buffer_size: out.len() };
+        self.source.set_frequency(self.voice.frequency as f64);
+        self.source.process(out, &context);
+        self.envelope.process(&[], &mut [levels], &ModulationValues::none(), &context);
+        let velocity = self.voice.velocity as f64;
+        for (sample, level) in out.iter_mut().zip(levels.iter()) {
+            *sample = *sample * *level * velocity;
+        }
+    }
+}
+
+/// The first samples of a score by the untouched copies.
+pub fn play_untouched(settings: Settings, score: impl Iterator<Item = Record>, out: &mut [f64]) {
+    let [attack, decay, sustain, release] = settings.adsr;
+    let envelope = EnvelopeBlock::new(attack, decay, sustain, release);
+    let mut plain = Plain { voice: VoiceState::new(), envelope, source: Source::new(settings) };
+    let (mut rest, mut n) = (score.peekable(), 0);
+    while n < out.len() {
+        while let Some(record) = rest.next_if(|record| record.position == n as u64) {
+            plain.act(record);
+        }
+        let end = span_end(n as u64, rest.peek().copied(), out.len() as u64) as usize;
+        plain.sound(settings.rate as f64, &mut out[n..end]);
+        n = end;
+    }
+}
+
+/// The bits of the first samples of a score by the untouched copies; none for a waveform that their block does not have.
 pub fn untouched(settings: Settings, score: &[Record], length: u64) -> Option<Vec<u64>> {
     if !settings.is_a_block() {
         return None;
     }
-    let [attack, decay, sustain, release] = settings.adsr;
-    let (rate, mut voice) = (settings.rate as f64, VoiceState::new());
-    let mut envelope = EnvelopeBlock::<f64>::new(attack, decay, sustain, release);
-    let mut oscillator = OscillatorBlock::<f64>::new(440.0, waveform(settings.wave.0), None);
-    let (mut samples, mut rest) = (Vec::new(), score);
-    while (samples.len() as u64) < length {
-        let n = samples.len() as u64;
-        while let Some((record, after)) = rest.split_first().filter(|(record, _)| record.position == n) {
-            match record.kind {
-                KIND_ON => (voice.note_on(record.note, record.velocity), envelope.note_on()).1,
-                KIND_OFF if voice.note_off(record.note) => envelope.note_off(),
-                KIND_OFF => {}
-                _ => (voice.reset(), envelope.reset(), oscillator.reset()).2,
-            }
-            rest = after;
-        }
-        let span = (span_end(n, rest.first().copied(), length) - n) as usize;
-        oscillator.set_midi_frequency(voice.frequency as f64);
-        let values = run(&mut oscillator, rate, span).into_iter().map(f64::from_bits);
-        let levels = run(&mut envelope, rate, span).into_iter().map(f64::from_bits);
-        samples.extend(values.zip(levels).map(|(value, level)| (value * level * voice.velocity as f64).to_bits()));
-    }
-    Some(samples)
+    let mut samples = vec![0.0; length as usize];
+    play_untouched(settings, score.iter().copied(), &mut samples);
+    Some(samples.into_iter().map(f64::to_bits).collect())
 }
 
 // A state's keys as words.

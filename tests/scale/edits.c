@@ -1,0 +1,93 @@
+/* The edits of a round, each re-rendered in what the call before it left, and compared with a render from sample zero.
+ */
+#include "scale.h"
+
+#include <stdio.h>
+
+/* What a re-render is due to do: the mark that it starts at, the end where it writes nothing. */
+struct plan {
+    size_t mark, entry; /* in samples, and in words of the shelf */
+    uint64_t answer;
+};
+
+static struct plan plan_of(const struct round *r, const struct score *new_) {
+    uint64_t p = first_change(r->score.bytes, r->score.len, new_->bytes, new_->len);
+    size_t mark = p < r->n ? (size_t)p / GAV_MARK * GAV_MARK : r->n;
+    size_t entry = p < r->n ? mark / GAV_MARK * GAV_STATE_WORDS : gav_shelf_words(r->n);
+    return (struct plan){mark, entry, says(0, 0, r->n - mark)};
+}
+
+/* All that is not the entry to start from may be rubbish: what lies before the mark stays, what lies behind nobody
+ * reads. */
+static void spoil(struct round *r, struct plan plan, bool before, bool behind) {
+    uint64_t *out = words_of(&r->lent, OUT), *shelf = words_of(&r->lent, SHELF);
+    size_t words = gav_shelf_words(r->n), after = plan.entry + GAV_STATE_WORDS;
+    if (before) {
+        rubbish(&r->chance, out, plan.mark);
+        rubbish(&r->chance, shelf, plan.entry);
+    }
+    if (behind && plan.entry < words) {
+        rubbish(&r->chance, out + plan.mark, r->n - plan.mark);
+        rubbish(&r->chance, shelf + after, words - after);
+    }
+}
+
+/* The render of the new score from the mark on is put into what is expected. */
+static void expect(struct round *r, struct plan plan, const struct heard *heard) {
+    size_t words = gav_shelf_words(r->n);
+    copy_buffers(&r->expected, &r->lent);
+    memcpy(words_of(&r->expected, OUT) + plan.mark, heard->samples + plan.mark, 8 * (r->n - plan.mark));
+    memcpy(words_of(&r->expected, SHELF) + plan.entry, heard->shelf + plan.entry, 8 * (words - plan.entry));
+}
+
+static void rerender(struct round *r, const struct score *new_, struct plan plan, const struct heard *heard) {
+    const struct call call = {.which = RERENDER, .settings = r->settings};
+    lend_score(&r->lent, OLD, &r->score);
+    lend_score(&r->lent, NEW, new_);
+    expect(r, plan, heard);
+    call_done(r, &call, plan.answer, (struct written){plan.mark, r->n - plan.mark, heard->scales + plan.mark});
+    r->tally->words += gav_shelf_words(r->n) - plan.entry;
+    r->tally->kept += 8 * (plan.mark + plan.entry);
+}
+
+/* What was rubbish before the mark is mended afterwards, by what is heard: there the two scores play the same. */
+static void edit(struct round *r, int number) {
+    static struct score new_;
+    bool before = one_in(&r->chance, 2), behind = one_in(&r->chance, 2);
+    new_ = r->score;
+    edit_score(&r->chance, r->n, &new_);
+    struct plan plan = plan_of(r, &new_);
+    snprintf(r->what, sizeof r->what, "edit %d, re-rendered from %zu of %zu", number, plan.mark, r->n);
+    judge_hear(r, &new_, &r->heard);
+    spoil(r, plan, before, behind);
+    rerender(r, &new_, plan, &r->heard);
+    if (before) {
+        memcpy(inside(&r->lent, OUT), r->heard.samples, 8 * plan.mark);
+        memcpy(inside(&r->lent, SHELF), r->heard.shelf, 8 * plan.entry);
+    }
+    r->score = new_;
+}
+
+/* An entry that is a state, but one that no score may reach, is played all the same. */
+static void stray_edit(struct round *r) {
+    static struct score new_;
+    static struct heard heard;
+    new_ = r->score;
+    edit_score(&r->chance, r->n, &new_);
+    struct plan plan = plan_of(r, &new_);
+    if (plan.mark == r->n) return;
+    uint64_t *entry = words_of(&r->lent, SHELF) + plan.entry, state[GAV_STATE_WORDS];
+    move_state(&r->chance, entry);
+    memcpy(state, entry, sizeof state);
+    snprintf(r->what, sizeof r->what, "re-render from another state at %zu of %zu", plan.mark, r->n);
+    judge_play(&r->settings, &new_, state, plan.mark, heard.samples + plan.mark, heard.scales + plan.mark,
+               r->n - plan.mark, heard.shelf + plan.entry);
+    rerender(r, &new_, plan, &heard);
+}
+
+/* What is lent holds the render of the score, and does so after every edit. */
+void run_edits(struct round *r) {
+    int edits = (int)below(&r->chance, 6);
+    for (int i = 1; i <= edits; i++) edit(r, i);
+    stray_edit(r);
+}

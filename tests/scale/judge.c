@@ -1,0 +1,48 @@
+/* The judge of a round: the original where it is here, else the reference voice, sample by sample. */
+#include "scale.h"
+
+#include <math.h>
+
+static void walk(const struct gav_settings *settings, const struct score *score, uint64_t *state, uint64_t position,
+                 double *out, double *scales, size_t n, uint64_t *shelf) {
+    const struct gav_settings s = clamped(settings);
+    const struct records records = {score->bytes, score_count(score)};
+    struct voice voice;
+    voice_read(&voice, state);
+    for (size_t i = 0; i < n; i++) {
+        if (shelf && (position + i) % GAV_MARK == 0) {
+            voice_words(&voice, shelf);
+            shelf += GAV_STATE_WORDS;
+        }
+        voice_begin(&voice, records, position + i);
+        out[i] = voice_make(&s, &voice);
+        scales[i] = voice.envelope.level * voice.velocity;
+    }
+    voice_words(&voice, state);
+}
+
+void judge_play(const struct gav_settings *settings, const struct score *score, uint64_t *state, uint64_t position,
+                double *out, double *scales, size_t n, uint64_t *shelf) {
+    if (original_is_here) {
+        original_play(settings, score->bytes, score->len, state, position, out, scales, n, shelf);
+    } else {
+        walk(settings, score, state, position, out, scales, n, shelf);
+    }
+}
+
+/* The original's untouched copies, by whole blocks, make the same samples. */
+void judge_hear(struct round *r, const struct score *score, struct heard *heard) {
+    static double untouched[LONGEST];
+    reference_fresh(heard->state, GAV_STATE_WORDS);
+    judge_play(&r->settings, score, heard->state, 0, heard->samples, heard->scales, r->n, heard->shelf);
+    if (!original_is_here) return;
+    original_render(&r->settings, score->bytes, score->len, untouched, r->n);
+    if (memcmp(untouched, heard->samples, r->n * sizeof *untouched) != 0) {
+        differ(r, "the original's untouched copies part ways with the opened ones");
+    }
+}
+
+bool is_judged(const struct round *r, double ours, double judged, double scale) {
+    if (bits(ours) == bits(judged)) return true;
+    return original_is_here && r->settings.code == GAV_SINE && fabs(ours - judged) <= 0.000001 * scale;
+}

@@ -1,0 +1,122 @@
+/* Each reason for a refusal alone, and with all that come after it in 01's order: settings, sizes, the old or only
+ * score, the new score, the state or entry. */
+#include "scale.h"
+
+#include <stdio.h>
+
+enum reason { SETTINGS, SIZE, SCORE, NEW_SCORE, START, REASONS };
+
+/* Whether a call that is to be refused for one reason has another one too. */
+struct faults {
+    enum reason first;
+    bool alone;
+};
+
+static bool has(struct faults f, enum reason reason) { return f.alone ? reason == f.first : reason >= f.first; }
+
+static struct gav_settings settings_of(struct round *r, struct faults f) {
+    return has(f, SETTINGS) ? bad_settings(&r->chance, r->settings) : r->settings;
+}
+
+/* The round's score, or one with a fault; what that is due. */
+static uint64_t lend_faulty(struct round *r, enum lent which, const struct score *score, bool faulty) {
+    static struct score broken;
+    broken = *score;
+    uint64_t due = faulty ? break_score(&r->chance, &broken) : 0;
+    lend_score(&r->lent, which, &broken);
+    return due;
+}
+
+static void lend_shelf(struct round *r, struct faults f) {
+    size_t words = gav_shelf_words(r->n);
+    const size_t others[] = {words > 0 ? words - 1 : 1, words + 1, words + GAV_STATE_WORDS};
+    resize(&r->chance, &r->lent, SHELF, 8 * (has(f, SIZE) ? PICK(&r->chance, others) : words));
+}
+
+static void refuse(struct round *r, const struct call *call, const char *name, struct faults f, uint64_t due) {
+    static const char *const REASONS_TOLD[REASONS] = {"settings", "sizes", "the score", "the new score", "the start"};
+    const uint64_t dues[REASONS] = {6, 7, due, due + 16, call->which == CONTINUE ? 10 : 8};
+    snprintf(r->what, sizeof r->what, "%s, to be refused for %s%s", name, REASONS_TOLD[f.first],
+             f.alone ? "" : " and all that comes after");
+    call_refused(r, call, dues[f.first]);
+}
+
+static void refused_render(struct round *r, struct faults f) {
+    const struct call call = {.which = RENDER, .settings = settings_of(r, f)}, check = {.which = CHECK};
+    uint64_t due = lend_faulty(r, OLD, &r->score, has(f, SCORE));
+    resize(&r->chance, &r->lent, OUT, 8 * r->n);
+    lend_shelf(r, f);
+    if (f.first == SCORE) refuse(r, &check, "check", f, due);
+    refuse(r, &call, "render", f, due);
+}
+
+/* A position from which the part would pass the last sample there may be. */
+static uint64_t far_position(struct chance *c, size_t samples) {
+    const uint64_t far[] = {GAV_MOST_SAMPLES + 1 - samples, GAV_MOST_SAMPLES + 1, UINT64_MAX};
+    uint64_t position = PICK(c, far);
+    return position > far[0] ? position : far[0];
+}
+
+static void refused_part(struct round *r, struct faults f) {
+    static double samples[LONGEST], scales[LONGEST];
+    static const size_t COUNTS[] = {0, GAV_STATE_WORDS - 1, GAV_STATE_WORDS + 1};
+    struct call call = {.which = CONTINUE, .settings = settings_of(r, f), .words = GAV_STATE_WORDS};
+    uint64_t state[GAV_STATE_WORDS + 1] = {0}, due = lend_faulty(r, OLD, &r->score, has(f, SCORE));
+    call.from = below(&r->chance, r->n + 1);
+    call.samples = r->n - call.from;
+    reference_fresh(state, GAV_STATE_WORDS);
+    judge_play(&r->settings, &r->score, state, 0, samples, scales, call.from, NULL);
+    call.position = has(f, SIZE) ? far_position(&r->chance, call.samples) : call.from;
+    if (has(f, START) && one_in(&r->chance, 8))
+        call.words = PICK(&r->chance, COUNTS);
+    else if (has(f, START))
+        doctor_state(&r->chance, state);
+    resize(&r->chance, &r->lent, OUT, 8 * r->n);
+    lend(&r->lent, STATE, state, sizeof state);
+    refuse(r, &call, "part", f, due);
+}
+
+/* The entry that the re-render would start from is right, or doctored; all other entries are rubbish. */
+static void refused_rerender(struct round *r, const uint64_t *rendered, struct faults f) {
+    static struct score edited;
+    const struct call call = {.which = RERENDER, .settings = settings_of(r, f)};
+    edited = r->score;
+    strike(&r->chance, &edited, below(&r->chance, r->n > 0 ? r->n : 1));
+    uint64_t p = first_change(r->score.bytes, r->score.len, edited.bytes, edited.len);
+    uint64_t of_old = lend_faulty(r, OLD, &r->score, has(f, SCORE));
+    uint64_t of_new = lend_faulty(r, NEW, &edited, has(f, NEW_SCORE));
+    resize(&r->chance, &r->lent, OUT, 8 * r->n);
+    lend_shelf(r, f);
+    if (p >= r->n && f.first == START) return; /* no entry is read */
+    size_t entry = p < r->n ? (size_t)p / GAV_MARK * GAV_STATE_WORDS : 0;
+    uint64_t *start = words_of(&r->lent, SHELF) + entry;
+    if (p < r->n && !has(f, SIZE)) {
+        memcpy(start, rendered + entry, 8 * GAV_STATE_WORDS);
+        if (has(f, START)) doctor_state(&r->chance, start);
+    }
+    refuse(r, &call, "re-render", f, f.first == NEW_SCORE ? of_new : of_old);
+}
+
+/* Too little room, or another number of words, is refused whatever else is lent. */
+static void refused_rooms(struct round *r) {
+    static const size_t COUNTS[] = {0, 1, GAV_STATE_WORDS - 1, GAV_STATE_WORDS + 1};
+    const size_t rooms[] = {0, 1, below(&r->chance, GAV_LIST_ROOM), GAV_LIST_ROOM - 1};
+    resize(&r->chance, &r->lent, STATE, 8 * (GAV_STATE_WORDS + 1));
+    lend(&r->lent, OUT, NULL, 0);
+    snprintf(r->what, sizeof r->what, "fresh, to be refused");
+    call_refused(r, &(struct call){.which = FRESH, .words = PICK(&r->chance, COUNTS)}, 9);
+    resize(&r->chance, &r->lent, TEXT, PICK(&r->chance, rooms));
+    snprintf(r->what, sizeof r->what, "list, to be refused");
+    call_refused(r, &(struct call){.which = LIST}, 7);
+}
+
+void run_refusals(struct round *r) {
+    lend(&r->lent, TEXT, NULL, 0);
+    for (int i = 0; i < 2 * REASONS; i++) {
+        struct faults f = {(enum reason)(i / 2), i % 2 == 0};
+        if (f.first <= SCORE) refused_render(r, f);
+        if (f.first != NEW_SCORE) refused_part(r, f);
+        refused_rerender(r, r->heard.shelf, f);
+    }
+    refused_rooms(r);
+}

@@ -1,0 +1,122 @@
+/* The library at scale: what its files share. Each round has random settings, a length and a score; every call of
+ * gavberin.h is made of the library and of the reference voice, on copies of the same buffers, and what they write is
+ * compared with each other, bit by bit, and with what the judge makes of the score: the original, or, where it is not
+ * here, the reference voice sample by sample. */
+#ifndef SCALE_H
+#define SCALE_H
+
+#include "chance.h"
+#include "original.h"
+
+#define LONGEST 12289 /* samples of a round's output at most */
+#define MOST_ENTRIES 4
+#define COUNT_OF(array) (sizeof(array) / sizeof *(array))
+
+/* scores.c: a score as a round holds it, with room for one record too many. */
+struct score {
+    size_t len;
+    uint8_t bytes[RECORD * (MOST_RECORDS + 1)];
+};
+
+size_t score_count(const struct score *score);
+uint32_t score_position(const struct score *score, size_t index);
+size_t score_below(const struct score *score, uint64_t position); /* how many records are */
+void random_score(struct chance *c, size_t n, struct score *score);
+void edit_score(struct chance *c, size_t n, struct score *score);
+/* A key struck at a position, among the others there; a full score stays as it is. */
+void strike(struct chance *c, struct score *score, uint64_t position);
+/* One fault, and the answer that it is due. */
+uint64_t break_score(struct chance *c, struct score *score);
+/* Some bytes changed, whatever comes of it. */
+void damage_score(struct chance *c, struct score *score);
+
+/* given.c: settings and states, within their limits and outside. */
+struct gav_settings random_settings(struct chance *c);
+struct gav_settings bad_settings(struct chance *c, struct gav_settings settings);
+void move_state(struct chance *c, uint64_t *state);   /* another state, which no score may reach */
+void doctor_state(struct chance *c, uint64_t *state); /* none, or with another number of records acted */
+double odd_unit(struct chance *c);                    /* no number from 0 to 1 */
+double random_duty(struct chance *c);
+
+/* lent.c: what is lent to a call, each buffer between guards, with its length in bytes. A float is held as its bits. */
+enum lent { OLD, NEW, OUT, SHELF, STATE, TEXT, BUFFERS };
+
+struct buffers {
+    uint8_t *room[BUFFERS];
+    size_t len[BUFFERS];
+    bool has_nulls; /* whether the pointer to an empty one is null */
+};
+
+void make_buffers(struct buffers *b);
+void *inside(const struct buffers *b, enum lent which);
+void *address(const struct buffers *b, enum lent which); /* for a call */
+uint64_t *words_of(const struct buffers *b, enum lent which);
+void lend(struct buffers *b, enum lent which, const void *from, size_t len);
+void lend_score(struct buffers *b, enum lent which, const struct score *score);
+void resize(struct chance *c, struct buffers *b, enum lent which, size_t len); /* all of it rubbish */
+void rubbish(struct chance *c, uint64_t *words, size_t count);
+void copy_buffers(struct buffers *to, const struct buffers *from);
+
+/* A round, and what was compared in all of them. */
+struct tally {
+    uint64_t calls, refused, samples, words, kept;
+};
+
+struct heard {
+    double samples[LONGEST], scales[LONGEST];
+    uint64_t shelf[MOST_ENTRIES * GAV_STATE_WORDS], state[GAV_STATE_WORDS];
+};
+
+struct round {
+    uint64_t seed, number;
+    struct chance chance;
+    struct gav_settings settings;
+    size_t n;
+    struct score score;
+    struct heard heard;                   /* the judge's render of the score */
+    struct buffers lent, expected, twins; /* twins: what the reference is lent */
+    struct tally *tally;
+    char what[120]; /* what is done now, for who reads of a difference */
+};
+
+/* judge.c: samples from a state at a position on, by the original or by the reference voice; shelf may be null. */
+void judge_play(const struct gav_settings *settings, const struct score *score, uint64_t *state, uint64_t position,
+                double *out, double *scales, size_t n, uint64_t *shelf);
+/* A score from sample zero. */
+void judge_hear(struct round *r, const struct score *score, struct heard *heard);
+/* Whether a sample is the judge's; an original's sine is another one and only near. */
+bool is_judged(const struct round *r, double ours, double judged, double scale);
+
+/* calls.c: one call, of the library and of the reference. */
+enum which { CHECK, LIST, FRESH, RENDER, RERENDER, CONTINUE };
+
+struct call {
+    enum which which;
+    struct gav_settings settings;
+    uint64_t position; /* of a part, which is so many samples of the output from one on */
+    size_t from, samples;
+    size_t words; /* of a state */
+};
+
+/* What a call wrote of the output: the judge's scales of the samples from one on. */
+struct written {
+    size_t from, samples;
+    const double *scales;
+};
+
+void differ(const struct round *r, const char *format, ...);
+/* A call that is done: r->lent is lent, and r->expected what is to stand in it afterwards. */
+void call_done(struct round *r, const struct call *call, uint64_t answer, struct written written);
+/* A call that is refused, and changes nothing. */
+void call_refused(struct round *r, const struct call *call, uint64_t answer);
+/* A call of which only the reference knows the answer, and what it writes. */
+void call_same(struct round *r, const struct call *call);
+/* One sample of a waveform. */
+void sample_same(struct round *r, uint32_t code, double phase, double dt, double duty);
+
+/* rounds.c, edits.c and refusals.c: the parts of a round. */
+void run_round(struct round *r);
+void run_edits(struct round *r);
+void run_refusals(struct round *r);
+
+#endif

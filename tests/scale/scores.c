@@ -1,0 +1,206 @@
+/* Random scores, their edits, and scores with a fault. */
+#include "scale.h"
+
+#include <stdlib.h>
+
+size_t score_count(const struct score *score) { return score->len / RECORD; }
+
+uint32_t score_position(const struct score *score, size_t index) {
+    return record_position(score->bytes + RECORD * index);
+}
+
+size_t score_below(const struct score *score, uint64_t position) {
+    size_t below = 0;
+    while (below < score_count(score) && score_position(score, below) < position) below++;
+    return below;
+}
+
+/* Who plays: keys within a range, of which more and more are down, or fewer and fewer. */
+struct hands {
+    unsigned lowest, keys, down;
+    bool rising;
+    uint8_t notes[MOST_RECORDS];
+};
+
+static void sit_down(struct chance *c, struct hands *h) {
+    static const unsigned RANGES[] = {128, 4, 41};
+    h->keys = PICK(c, RANGES);
+    h->lowest = (unsigned)below(c, 129 - h->keys);
+    h->down = 0;
+    h->rising = true;
+}
+
+static uint8_t lift(struct chance *c, struct hands *h) {
+    unsigned at = one_in(c, 3) ? h->down - 1 : (unsigned)below(c, h->down);
+    uint8_t note = h->notes[at];
+    memmove(h->notes + at, h->notes + at + 1, --h->down - at);
+    return note;
+}
+
+/* A reset; a key lifted that may not be down; one struck, some without velocity; one lifted that is down. An off's
+ * velocity is in the record, and nobody hears it. */
+static void play_next(struct chance *c, struct hands *h, uint8_t *record, uint32_t position) {
+    uint8_t note = (uint8_t)(h->lowest + below(c, h->keys));
+    if (one_in(c, 30)) h->rising = !h->rising;
+    uint64_t chosen = below(c, 40);
+    if (chosen == 0) {
+        put_record(record, position, RESET, 0, 0);
+    } else if (chosen == 1) {
+        put_record(record, position, OFF, note, 64);
+    } else if (h->down == 0 || (chosen < 28) == h->rising) {
+        h->notes[h->down++] = note;
+        put_record(record, position, ON, note, one_in(c, 16) ? 0 : (uint8_t)below(c, 128));
+    } else {
+        put_record(record, position, OFF, lift(c, h), (uint8_t)below(c, 128));
+    }
+}
+
+static size_t random_count(struct chance *c, size_t n) {
+    uint64_t kind = below(c, 32);
+    if (kind == 0) return 0;
+    if (kind < 8) return 1 + below(c, 3);
+    if (kind < 24) return 1 + below(c, 40);
+    if (kind < 30) return below(c, (n < 1000 ? n : 1000) + 1);
+    return below(c, kind == 30 ? 500 : MOST_RECORDS + 1);
+}
+
+static uint32_t before(uint64_t position) { return (uint32_t)(position > 0 ? position - 1 : 0); }
+
+/* Anywhere; at or beside a mark; where another record stands; at the end or past it. */
+static uint32_t random_position(struct chance *c, size_t window, size_t n, const uint32_t *other) {
+    uint32_t any = (uint32_t)below(c, window);
+    const uint32_t ends[] = {before(n), (uint32_t)n, (uint32_t)n + 1, UINT32_MAX, (uint32_t)chance_word(c)};
+    switch (below(c, 10)) {
+    case 0:
+        return any / BLOCK * BLOCK;
+    case 1:
+        return before(any / BLOCK * BLOCK + below(c, 3));
+    case 2:
+        return before(any / GAV_MARK * GAV_MARK + below(c, 3));
+    case 3:
+    case 4:
+        return other ? *other : any;
+    case 5:
+        return one_in(c, 4) ? PICK(c, ends) : any;
+    default:
+        return any;
+    }
+}
+
+static int by_size(const void *a, const void *b) {
+    uint32_t x = *(const uint32_t *)a, y = *(const uint32_t *)b;
+    return (x > y) - (x < y);
+}
+
+/* From no record to 4,096, over the whole output and somewhat more, or all near its begin. */
+void random_score(struct chance *c, size_t n, struct score *score) {
+    static uint32_t positions[MOST_RECORDS];
+    static struct hands hands;
+    const size_t windows[] = {n, n, n + n / 4, n < 150 ? n : 150};
+    size_t count = random_count(c, n), window = 1 + PICK(c, windows);
+    for (size_t i = 0; i < count; i++) {
+        positions[i] = random_position(c, window, n, i > 0 ? &positions[i - 1] : NULL);
+    }
+    qsort(positions, count, sizeof *positions, by_size);
+    sit_down(c, &hands);
+    for (size_t i = 0; i < count; i++) play_next(c, &hands, score->bytes + RECORD * i, positions[i]);
+    score->len = RECORD * count;
+}
+
+static void take_out(struct score *score, size_t index) {
+    uint8_t *at = score->bytes + RECORD * index;
+    score->len -= RECORD;
+    memmove(at, at + RECORD, score->len - RECORD * index);
+}
+
+/* Anywhere among the records of its position. */
+static void put_in(struct chance *c, struct score *score, const uint8_t *record) {
+    if (score_count(score) == MOST_RECORDS) return;
+    uint64_t position = record_position(record);
+    size_t first = score_below(score, position), after = score_below(score, position + 1);
+    size_t index = first + below(c, after - first + 1);
+    uint8_t *at = score->bytes + RECORD * index;
+    memmove(at + RECORD, at, score->len - RECORD * index);
+    memcpy(at, record, RECORD);
+    score->len += RECORD;
+}
+
+void strike(struct chance *c, struct score *score, uint64_t position) {
+    uint8_t record[RECORD];
+    put_record(record, (uint32_t)position, ON, (uint8_t)below(c, 128), (uint8_t)below(c, 128));
+    put_in(c, score, record);
+}
+
+/* At and beside the marks, at the end and before it, or anywhere. */
+static uint32_t edit_position(struct chance *c, size_t n) {
+    uint32_t mark = (uint32_t)below(c, n / GAV_MARK + 2) * GAV_MARK, any = (uint32_t)below(c, n + 1);
+    const uint32_t near[] = {before(mark), mark, mark + 1, before(n), (uint32_t)n, any, any, any};
+    return PICK(c, near);
+}
+
+/* A record is put in, taken out, moved, or gets another velocity. */
+void edit_score(struct chance *c, size_t n, struct score *score) {
+    uint64_t how = below(c, 8);
+    if (how < 3) strike(c, score, edit_position(c, n));
+    if (how < 3 || score->len == 0) return;
+    size_t index = below(c, score_count(score));
+    uint8_t record[RECORD];
+    memcpy(record, score->bytes + RECORD * index, RECORD);
+    if (how == 7) {
+        if (record[6] != RESET) score->bytes[RECORD * index + 8] = (uint8_t)below(c, 128);
+        return;
+    }
+    take_out(score, index);
+    put_record(record, edit_position(c, n), record[6], record[7], record[8]);
+    if (how > 4) put_in(c, score, record);
+}
+
+/* A position below that of the record before, if there is one. */
+static bool fall(struct chance *c, struct score *score, size_t index) {
+    uint8_t *record = score->bytes + RECORD * index;
+    uint32_t most = index > 0 ? score_position(score, index - 1) : 0;
+    if (most == 0) return false;
+    put_record(record, (uint32_t)below(c, most), record[6], record[7], record[8]);
+    return true;
+}
+
+uint64_t break_score(struct chance *c, struct score *score) {
+    static const uint8_t KINDS[] = {0, 4, 129, 255}, LAST[] = {1, 128, 255};
+    size_t index = score->len > 0 ? below(c, score_count(score)) : 0;
+    uint8_t *record = score->bytes + RECORD * index;
+    uint64_t fault = score->len > 0 ? below(c, 7) : 0;
+    switch (fault) {
+    case 0:
+        score->len = score->len > 0 ? score->len - 1 : 1;
+        return says(1, 0, 0);
+    case 1:
+        score->len = sizeof score->bytes;
+        return says(1, 0, 0);
+    case 2:
+        record[below(c, 2)] ^= (uint8_t)(1u << below(c, 8));
+        return says(2, index, 0);
+    case 3:
+        record[6] = PICK(c, KINDS);
+        return says(3, index, 0);
+    case 4:
+        record[7 + below(c, 2)] |= 128;
+        return says(4, index, 0);
+    case 5:
+        if (fall(c, score, index)) return says(5, index, 0);
+        /* fall through */
+    default:
+        record[9] = PICK(c, LAST);
+        return says(4, index, 0);
+    }
+}
+
+void damage_score(struct chance *c, struct score *score) {
+    static const uint8_t ODD[] = {0, 1, 3, 4, 0x4E, 0x56, 127, 128, 255};
+    for (uint64_t times = 1 + below(c, 3); times > 0 && score->len > 0; times--) {
+        size_t at = below(c, score->len);
+        if (one_in(c, 8))
+            score->len = at;
+        else
+            score->bytes[at] = one_in(c, 2) ? PICK(c, ODD) : (uint8_t)chance_word(c);
+    }
+}

@@ -1,0 +1,148 @@
+/* Wrong libraries: each stands between the program at scale and the library (gcc's --wrap) and spoils one thing of one
+ * call. WRONG in the environment chooses it, from 1 on; 0 spoils nothing, and one past the last says how many there
+ * are. */
+#include "scale.h"
+
+#include <math.h>
+#include <stdio.h>
+#include <stdlib.h>
+
+#define SETTINGS uint32_t rate, uint32_t code, double duty, double attack, double decay, double sustain, double release
+#define GIVEN rate, code, duty, attack, decay, sustain, release
+
+uint64_t __real_gav_check_score(const uint8_t *score, size_t len);
+uint64_t __real_gav_list(const uint8_t *score, size_t len, uint8_t *text, size_t text_len);
+uint64_t __real_gav_fresh(uint64_t *state, size_t words);
+double __real_gav_sample(uint32_t code, double phase, double dt, double duty);
+uint64_t __real_gav_sample_says(uint32_t code, double phase, double dt, double duty);
+uint64_t __real_gav_render(SETTINGS, const uint8_t *score, size_t len, double *out, size_t n, uint64_t *shelf,
+                           size_t words);
+uint64_t __real_gav_rerender(SETTINGS, const uint8_t *old, size_t old_len, const uint8_t *new_, size_t new_len,
+                             double *out, size_t n, uint64_t *shelf, size_t words);
+uint64_t __real_gav_continue(SETTINGS, const uint8_t *score, size_t len, uint64_t *state, size_t state_words,
+                             uint64_t position, double *part, size_t n);
+
+/* In the order in which they are counted. */
+enum wrong {
+    NONE,
+    CHECK_PLACE,          /* the place of a score's fault is one too far */
+    LIST_LAST_BYTE,       /* the last byte of a listing is another */
+    LIST_REST,            /* the byte after a listing is written */
+    FRESH_REFUSED_WRITES, /* a refused fresh state writes a word */
+    SAMPLE_ZERO,          /* a refused sample is -0 */
+    SAMPLE_SAYS_ORDER,    /* 9 before 6 */
+    RENDER_NAN_REFUSED,   /* a refused render rewrites the payloads of NaNs */
+    RENDER_LATE_BIT,      /* the last bit of a late sample is another */
+    RENDER_4097TH,        /* the 4,097th sample is another */
+    RENDER_LAST_LEFT,     /* the last sample is not written */
+    RENDER_GUARD,         /* a word past the output is written */
+    RENDER_ENTRY_WORD,    /* a word of the second entry is another */
+    RENDER_ORDER,         /* 7 before 6 */
+    RENDER_SCORE,         /* a render writes into the score */
+    RERENDER_COUNT,       /* the count is the whole output's */
+    RERENDER_NAN_BEFORE,  /* NaNs before the mark lose their payloads */
+    RERENDER_BEFORE,      /* the sample before the mark is written */
+    RERENDER_OLD_ENTRY,   /* an entry before the mark is another */
+    RERENDER_START,       /* 8 is not given */
+    RERENDER_NOTHING,     /* nothing is written, and the count is right */
+    CONTINUE_GUARD,       /* a word past the part is written */
+    CONTINUE_REDUCES,     /* the end of the part reduces the phase */
+    CONTINUE_STATE,       /* the state after counts one record too many */
+    CONTINUE_REFUSED,     /* a refused part hands back another state */
+    WRONGS
+};
+
+static enum wrong wrong(void) {
+    static int chosen = -1;
+    if (chosen < 0) {
+        chosen = atoi(getenv("WRONG"));
+        if (chosen == WRONGS) printf("%d wrong libraries\n", WRONGS - 1), exit(0);
+    }
+    return (enum wrong)chosen;
+}
+
+static void flip(double *x) { *x = number(bits(*x) ^ 1); }
+
+static void one_payload(double *from, size_t n) {
+    for (size_t i = 0; i < n; i++) {
+        if (isnan(from[i])) from[i] = NAN;
+    }
+}
+
+uint64_t __wrap_gav_check_score(const uint8_t *score, size_t len) {
+    uint64_t answer = __real_gav_check_score(score, len);
+    return wrong() == CHECK_PLACE && gav_number(answer) > 1 ? answer + (1 << 8) : answer;
+}
+
+uint64_t __wrap_gav_list(const uint8_t *score, size_t len, uint8_t *text, size_t text_len) {
+    uint64_t answer = __real_gav_list(score, len, text, text_len);
+    if (wrong() == LIST_LAST_BYTE && gav_number(answer) == 0) text[gav_count(answer) - 1] = '\r';
+    if (wrong() == LIST_REST && gav_number(answer) == 0) text[gav_count(answer)] ^= 1;
+    return answer;
+}
+
+uint64_t __wrap_gav_fresh(uint64_t *state, size_t words) {
+    if (wrong() == FRESH_REFUSED_WRITES && words > GAV_STATE_WORDS) state[0] = 0;
+    return __real_gav_fresh(state, words);
+}
+
+double __wrap_gav_sample(uint32_t code, double phase, double dt, double duty) {
+    if (wrong() == SAMPLE_ZERO && __real_gav_sample_says(code, phase, dt, duty) != 0) return -0.0;
+    return __real_gav_sample(code, phase, dt, duty);
+}
+
+uint64_t __wrap_gav_sample_says(uint32_t code, double phase, double dt, double duty) {
+    if (wrong() == SAMPLE_SAYS_ORDER && !(phase >= 0.0 && phase <= 1.0)) return 9;
+    return __real_gav_sample_says(code, phase, dt, duty);
+}
+
+static void spoil_render(double *out, size_t n, uint64_t *shelf) {
+    if (wrong() == RENDER_LATE_BIT && n > 9000) flip(out + n - 7);
+    if (wrong() == RENDER_4097TH && n > 4096) flip(out + 4096);
+    if (wrong() == RENDER_GUARD && n > 0) out[n] = 0.0;
+    if (wrong() == RENDER_ENTRY_WORD && n > 4096) shelf[GAV_STATE_WORDS + 3] ^= 1;
+}
+
+uint64_t __wrap_gav_render(SETTINGS, const uint8_t *score, size_t len, double *out, size_t n, uint64_t *shelf,
+                           size_t words) {
+    if (wrong() == RENDER_ORDER && words != gav_shelf_words(n)) return 7;
+    if (wrong() == RENDER_SCORE && len > 0) ((uint8_t *)score)[len - 1] ^= 1;
+    double last = n > 0 ? out[n - 1] : 0.0;
+    uint64_t answer = __real_gav_render(GIVEN, score, len, out, n, shelf, words);
+    if (gav_number(answer) == 0) spoil_render(out, n, shelf);
+    if (wrong() == RENDER_NAN_REFUSED && gav_number(answer) != 0) one_payload(out, n);
+    if (wrong() == RENDER_LAST_LEFT && gav_number(answer) == 0 && n > 0) out[n - 1] = last;
+    return answer;
+}
+
+static uint64_t spoil_rerender(uint64_t answer, double *out, size_t n, uint64_t *shelf) {
+    size_t mark = n - gav_count(answer);
+    if (wrong() == RERENDER_NAN_BEFORE) one_payload(out, mark);
+    if (wrong() == RERENDER_BEFORE && mark > 0) out[mark - 1] = 0.25;
+    if (wrong() == RERENDER_OLD_ENTRY && mark > 0) shelf[2] ^= 1;
+    return wrong() == RERENDER_COUNT ? says(0, 0, n) : answer;
+}
+
+uint64_t __wrap_gav_rerender(SETTINGS, const uint8_t *old, size_t old_len, const uint8_t *new_, size_t new_len,
+                             double *out, size_t n, uint64_t *shelf, size_t words) {
+    static double spare[LONGEST];
+    static uint64_t entries[(MOST_ENTRIES + 1) * GAV_STATE_WORDS];
+    if (wrong() == RERENDER_NOTHING && words <= COUNT_OF(entries)) {
+        memcpy(entries, shelf, words * sizeof *entries);
+        out = spare, shelf = entries;
+    }
+    uint64_t answer = __real_gav_rerender(GIVEN, old, old_len, new_, new_len, out, n, shelf, words);
+    if (wrong() == RERENDER_START && gav_number(answer) == 8) return 0;
+    return gav_number(answer) == 0 ? spoil_rerender(answer, out, n, shelf) : answer;
+}
+
+uint64_t __wrap_gav_continue(SETTINGS, const uint8_t *score, size_t len, uint64_t *state, size_t state_words,
+                             uint64_t position, double *part, size_t n) {
+    uint64_t answer = __real_gav_continue(GIVEN, score, len, state, state_words, position, part, n);
+    if (wrong() == CONTINUE_REFUSED && gav_number(answer) == 10) state[0] = 0;
+    if (gav_number(answer) != 0) return answer;
+    if (wrong() == CONTINUE_GUARD && n > 0) part[n] = 0.0;
+    if (wrong() == CONTINUE_REDUCES) state[0] = bits(fmod(number(state[0]), TAU));
+    if (wrong() == CONTINUE_STATE) state[5] += 1 << 16;
+    return answer;
+}
