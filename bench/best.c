@@ -1,10 +1,18 @@
-/* The bits of plain.c, as fast as scalar C gives them without a processor's own instructions. No fmod and no floor;
- * what lasts for a span is made once. A span's phases come first, then its cycles one by one: all their samples without
- * the corrections, which leaves a loop with no test in it, and then again those few at the edges that are corrected. */
+/* The bits of the reference voice, as fast as scalar C gives them without a processor's own instructions: the yardstick
+ * of the library's speed. It is frozen: it plays what document 01 says and follows no later request, so that a ratio
+ * today and one in a year mean the same. The records' work, of which a render has little, is the reference's own.
+ *
+ * No fmod and no floor; what lasts for a span is made once. A span's phases come first, then its cycles one by one: all
+ * their samples without the corrections, which leaves a loop with no test in it, and then again those few at the edges
+ * that are corrected. Where a cycle has few samples every one is made with its corrections, in a loop with no test
+ * either. */
 #include "best_levels.h"
 
 #define TAU_UNITS UINT64_C(0x1921fb54442d18) /* TAU * 2^50 */
 #define UNIT (1.0 / 1125899906842624.0)      /* 2^-50 */
+
+/* Cycles a sample from which on a cycle has so few samples that their edges are not looked for. */
+#define STEEP 0.08
 
 /* A span begins below TAU and has at most 64 steps, each below 12,544 / 8,000 * TAU. */
 #define MOST_CYCLES 128
@@ -42,7 +50,7 @@ void best_prepare(void) {
     }
     for (unsigned i = 0; i < 4098; i++) {
         unsigned j = i % 1024, k = i / 1024 % 2 == 0 ? j : 1024 - j;
-        int64_t size = QUARTER[k];
+        int64_t size = quarter_wave()[k];
         wave[i] = (double)(i % 4096 >= 2048 ? -size : size) / 1073741824.0;
     }
 }
@@ -178,23 +186,84 @@ MADE_ANEW void cycle_of(uint32_t code, const struct span *s, struct samples at) 
     piece(code, false, s, from(at, m, at.n - m));
 }
 
+/* TAU in two parts, of which so many as a span has cycles are exact. */
+#define TAU_LOW 0x1a3p-47
+#define TAU_HIGH (TAU - TAU_LOW)
+#define LESS_THAN_INV_TAU 0.1591549430918953 /* so that no cycle is guessed that has not begun */
+
+/* phase % TAU for any phase of a span, without a test that a processor would have to guess. A phase of TAU or more is a
+ * multiple of 2^-50, and so is every difference here, which is below 8 and thus exact. */
+static inline double remainder_of(double phase) {
+    double q = (double)(int)(phase * LESS_THAN_INV_TAU), r = phase - q * TAU_HIGH - q * TAU_LOW;
+    return r >= TAU ? r - TAU : r;
+}
+
+/* The correction so far behind an edge, or before it, where that is below 0; 0 where the edge is not near. The two
+ * sides differ in signs alone. */
+static inline double at_edge(uint32_t code, const struct span *s, double far) {
+    const double third = 1.0 / 3.0;
+    bool is_near = far < s->dt && far > s->one_less_dt - 1.0, after = far >= 0.0;
+    double x = far / s->dt, x2 = x * x, x3 = x2 * x * third;
+    double blep = 2.0 * x + (after ? -x2 : x2) + (after ? -1.0 : 1.0);
+    double blamp = (x2 + (after ? -x3 : x3) + (after ? -x : x)) * s->dt;
+    return is_near ? (code == GAV_TRIANGLE ? 8.0 * blamp : blep) : 0.0;
+}
+
+/* Whether no sample is near to both edges. */
+static inline bool are_apart(uint32_t code, const struct span *s) {
+    double second = edge(code, s);
+    return s->dt * 2.01 < second && s->dt * 2.01 < 1.0 - second;
+}
+
+/* At the nearest edge alone: the other correction is 0, and nothing here is -0. */
+static inline double once(uint32_t code, const struct span *s, double u) {
+    double half = 0.5 * edge(code, s);
+    bool second = u >= half && u < 0.5 + half;
+    double c = at_edge(code, s, second ? shifted(code, s, u) - 1.0 : u < half ? u : u - 1.0);
+    return uncorrected(code, u < edge(code, s), u) + (second ? -c : c);
+}
+
+static inline double twice(uint32_t code, const struct span *s, double u) {
+    double v = fract(shifted(code, s, u)), half = s->dt > 0.5 ? s->dt : 0.5;
+    double first = at_edge(code, s, u < half ? u : u - 1.0), second = at_edge(code, s, v < half ? v : v - 1.0);
+    return uncorrected(code, u < edge(code, s), u) + first - second;
+}
+
+/* A span with few samples in a cycle, of which most are near an edge: each is made as if it were. */
+MADE_ANEW void steep(uint32_t code, const struct span *s, const double *phases, const double *levels, double *out,
+                     size_t n) {
+    double us[BLOCK];
+    for (size_t i = 0; i < n; i++) us[i] = remainder_of(phases[i]) * INV_TAU;
+    if (are_apart(code, s)) {
+        for (size_t i = 0; i < n; i++) out[i] = once(code, s, us[i]) * levels[i] * s->velocity;
+    } else {
+        for (size_t i = 0; i < n; i++) out[i] = twice(code, s, us[i]) * levels[i] * s->velocity;
+    }
+}
+
+MADE_ANEW void cycle_by_cycle(uint32_t code, const struct span *s, struct samples at) {
+    for (; at.n > 0; at.cycle++) {
+        size_t inside = in_cycle(s, &at);
+        cycle_of(code, s, from(at, 0, inside));
+        at = from(at, inside, at.n - inside);
+    }
+}
+
 /* The samples of a span, and the phase after it, reduced. */
 MADE_ANEW double fill(uint32_t code, const struct span *given, double phase, const double *levels, double *out,
                       size_t n) {
-    const struct span s = *given;
+    const struct span s = *given; /* a copy that no store to out can change */
     double phases[BLOCK];
     for (size_t i = 0; i < n; i++) {
         phases[i] = phase;
         phase += s.step;
     }
-    struct samples at = {cycles, phases, levels, out, n};
-    for (; at.n > 0; at.cycle++) {
-        size_t inside = in_cycle(&s, &at);
-        cycle_of(code, &s, from(at, 0, inside));
-        at = from(at, inside, at.n - inside);
+    if (code != GAV_SINE && code != GAV_SAWTOOTH && s.dt > STEEP) {
+        steep(code, &s, phases, levels, out, n);
+    } else {
+        cycle_by_cycle(code, &s, (struct samples){cycles, phases, levels, out, n});
     }
-    for (at.cycle = cycles; rest(at.cycle, phase) >= TAU;) at.cycle++;
-    return rest(at.cycle, phase);
+    return remainder_of(phase);
 }
 
 static double sound(uint32_t code, const struct span *s, double phase, const double *levels, double *out, size_t n) {
@@ -213,7 +282,7 @@ static double sound(uint32_t code, const struct span *s, double phase, const dou
 }
 
 /* One span; the phase is reduced after it, which is where the next one begins. */
-static inline void play(const struct settings *s, struct voice *v, double *out, size_t n) {
+static inline void play(const struct gav_settings *s, struct voice *v, double *out, size_t n) {
     double levels[BLOCK], step = v->frequency / s->rate * TAU, dt = step * INV_TAU;
     struct span span = {step, dt, 1.0 - dt, 1.0 / step, s->duty, v->velocity};
     best_levels(s, &v->envelope, levels, n);
@@ -226,11 +295,10 @@ static size_t span_end(size_t i, const uint8_t *next, const uint8_t *end, size_t
     return next < end && record_position(next) < least ? record_position(next) : least;
 }
 
-void best_render(const struct settings *settings, const struct score *score, double *out, size_t n) {
-    const struct settings s = clamped(settings);
+void best_render(const struct gav_settings *settings, const struct score *score, double *out, size_t n) {
+    const struct gav_settings s = clamped(settings);
     const uint8_t *next = score->bytes, *end = score->bytes + score->len;
-    struct voice voice;
-    voice_reset(&voice);
+    struct voice voice = voice_fresh();
     for (size_t i = 0, stop; i < n; i = stop) {
         for (; next < end && record_position(next) == i; next += RECORD) voice_act(&voice, next);
         stop = span_end(i, next, end, n);

@@ -33,7 +33,7 @@ static inline bool is_over(enum stage stage, const struct rule *r, double level)
     case DECAY:
         return level <= r->sustain;
     case RELEASE:
-        return level <= FLOOR;
+        return level <= ENVELOPE_FLOOR;
     default:
         return false;
     }
@@ -82,7 +82,7 @@ static double ended(const struct rule *r, double grows, struct envelope *e) {
 }
 
 /* The levels of a span, under clamped settings. */
-static inline void best_levels(const struct settings *s, struct envelope *e, double *levels, size_t n) {
+static inline void best_levels(const struct gav_settings *s, struct envelope *e, double *levels, size_t n) {
     const double grows = 1.0 / s->rate;
     struct rule rule = {s->attack, s->decay, s->release, s->sustain, 1.0 - s->sustain, e->release_level};
     for (size_t i = 0; i < n; i++) {

@@ -32,7 +32,7 @@ static double plain_comparison_time(struct bench *b, const struct score *one, co
     double times[MOST_REPETITIONS];
     for (size_t i = 0; i < b->repetitions; i++) {
         double start = now();
-        for (int k = 0; k < CALLS; k++) plain_difference(one, other);
+        for (int k = 0; k < CALLS; k++) first_change(one->bytes, one->len, other->bytes, other->len);
         times[i] = (now() - start) / CALLS;
     }
     return median(times, b->repetitions);
@@ -43,7 +43,7 @@ static void compare_answers(struct bench *b, struct score *score) {
     uint8_t *record = score->bytes + score->len / RECORD / 2 * RECORD;
     for (int at = -1; at < RECORD; at++) {
         if (at >= 0) record[at] ^= 0x84;
-        if (gav_check_score(score->bytes, score->len) != plain_check(score->bytes, score->len)) {
+        if (gav_check_score(score->bytes, score->len) != reference_check_score(score->bytes, score->len)) {
             differ(b, "the answers of the two checks");
         }
         if (at >= 0) record[at] ^= 0x84;
@@ -51,10 +51,10 @@ static void compare_answers(struct bench *b, struct score *score) {
 }
 
 void measure_scores(struct bench *b) {
-    struct score one = make_score(b->seed + 1, 4096, b->samples), other = copy_score(&one, 0);
+    struct score one = make_score(b->seed + 1, USUAL_KEYS, 4096, b->samples), other = copy_score(&one, 0);
     compare_answers(b, &one);
     double ours = check_time(&one, gav_check_score, b->repetitions);
-    double plain = check_time(&one, plain_check, b->repetitions);
+    double plain = check_time(&one, reference_check_score, b->repetitions);
     double apart = comparison_time(b, &one, &other), plain_apart = plain_comparison_time(b, &one, &other);
     printf("\n%-32s %9s %9s %22s\n", "scores of 4,096 records, in us", "ours", "plain C", "ours / plain C");
     printf("%-32s %9.2f %9.2f %15.2f %6s   at most 1.00\n", "check", ours / 1e3, plain / 1e3, ours / plain,

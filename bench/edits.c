@@ -7,11 +7,7 @@
 /* A key is struck at the last sample: the last mark is where the re-render starts. */
 static struct score edit_end(const struct bench *b) {
     struct score edited = copy_score(&b->score, RECORD);
-    uint8_t *record = edited.bytes + b->score.len;
-    size_t position = b->samples - 1;
-    uint8_t bytes[RECORD] = {
-        0x56, 0x4E, (uint8_t)position, (uint8_t)(position >> 8), (uint8_t)(position >> 16), 0, 1, 60, 100, 0};
-    for (int i = 0; i < RECORD; i++) record[i] = bytes[i];
+    put_record(edited.bytes + b->score.len, (uint32_t)(b->samples - 1), ON, 60, 100);
     return edited;
 }
 
@@ -19,7 +15,7 @@ static struct score edit_end(const struct bench *b) {
 static struct score edit_middle(const struct bench *b) {
     struct score edited = copy_score(&b->score, 0);
     for (uint8_t *r = edited.bytes; r < edited.bytes + edited.len; r += RECORD) {
-        if (record_position(r) < b->samples / 2 || r[6] != 1) continue;
+        if (record_position(r) < b->samples / 2 || r[6] != ON) continue;
         r[8] ^= 1;
         break;
     }
@@ -46,7 +42,7 @@ static double time_samples(struct bench *b, size_t count, size_t rounds) {
 /* What is written there and back again is compared, and the count with the first difference that the plain C finds. */
 static size_t compare_edit(struct bench *b, const char *where, const struct score *edited) {
     size_t count = ours_rerender(&b->settings, &b->score, edited, b->out, b->samples);
-    uint64_t from = plain_difference(&b->score, edited);
+    uint64_t from = first_change(b->score.bytes, b->score.len, edited->bytes, edited->len);
     size_t due = from == NOWHERE ? 0 : b->samples - (size_t)(from / GAV_MARK * GAV_MARK);
     if (count != due) differ(b, "the count of a re-render");
     plain_render(&b->settings, edited, b->reference, b->samples);
@@ -57,8 +53,8 @@ static size_t compare_edit(struct bench *b, const char *where, const struct scor
     return count;
 }
 
-/* Out and shelf hold the score's render, before and after. The samples alone, and a re-render of two equal scores, which
- * makes two checks and a comparison and nothing else, are measured in turn with it. */
+/* Out and shelf hold the score's render, before and after. The samples alone, and a re-render of two equal scores,
+ * which makes two checks and a comparison and nothing else, are measured in turn with it. */
 static void measure_edit(struct bench *b, const char *where, struct score edited) {
     double took[MOST_REPETITIONS], owed[MOST_REPETITIONS], ratio[MOST_REPETITIONS];
     size_t count = compare_edit(b, where, &edited), n = b->repetitions;

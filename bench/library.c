@@ -1,49 +1,50 @@
-/* The library at the C boundary. A call that is refused ends the measurement. */
+/* The library at the C boundary, and the reference voice, whose calls are the same. A call that is refused ends the
+ * measurement. */
 #include "bench.h"
 
 #include <stdio.h>
 #include <stdlib.h>
-#include <string.h>
 
-static uint64_t *shelf;
+static uint64_t *shelf, *plain_shelf;
 
 void library_prepare(size_t samples) {
     shelf = calloc(gav_shelf_words(samples) + 1, sizeof *shelf);
-    if (shelf) return;
+    plain_shelf = calloc(gav_shelf_words(samples) + 1, sizeof *plain_shelf);
+    if (shelf && plain_shelf) return;
     fputs("bench: no memory\n", stderr);
     exit(2);
 }
 
 static size_t done(uint64_t said) {
     if (gav_number(said) == 0) return gav_count(said);
-    fprintf(stderr, "bench: the library refused with %u at %u\n", gav_number(said), (unsigned)gav_place(said));
+    fprintf(stderr, "bench: refused with %u at %u\n", gav_number(said), (unsigned)gav_place(said));
     exit(2);
 }
 
-void ours_render(const struct settings *s, const struct score *score, double *out, size_t n) {
-    done(gav_render(s->rate, s->code, s->duty, s->attack, s->decay, s->sustain, s->release, score->bytes, score->len,
-                    out, n, shelf, gav_shelf_words(n)));
+void ours_render(const struct gav_settings *s, const struct score *score, double *out, size_t n) {
+    done(gav_render_with(s, score->bytes, score->len, out, n, shelf, gav_shelf_words(n)));
 }
 
-void ours_continue(const struct settings *s, const struct score *score, double *out, size_t n, size_t part) {
+void plain_render(const struct gav_settings *s, const struct score *score, double *out, size_t n) {
+    done(reference_render(s, score->bytes, score->len, out, n, plain_shelf, gav_shelf_words(n)));
+}
+
+void ours_continue(const struct gav_settings *s, const struct score *score, double *out, size_t n, size_t part) {
     uint64_t state[GAV_STATE_WORDS];
     done(gav_fresh(state, GAV_STATE_WORDS));
     for (size_t i = 0; i < n; i += part) {
         size_t length = n - i < part ? n - i : part;
-        done(gav_continue(s->rate, s->code, s->duty, s->attack, s->decay, s->sustain, s->release, score->bytes,
-                          score->len, state, GAV_STATE_WORDS, i, out + i, length));
+        done(gav_continue_with(s, score->bytes, score->len, state, GAV_STATE_WORDS, i, out + i, length));
     }
 }
 
-void ours_from_mark(const struct settings *s, const struct score *score, double *out, size_t n, size_t mark) {
+void ours_from_mark(const struct gav_settings *s, const struct score *score, double *out, size_t n, size_t mark) {
     uint64_t state[GAV_STATE_WORDS];
     memcpy(state, shelf + mark / GAV_MARK * GAV_STATE_WORDS, sizeof state);
-    done(gav_continue(s->rate, s->code, s->duty, s->attack, s->decay, s->sustain, s->release, score->bytes, score->len,
-                      state, GAV_STATE_WORDS, mark, out + mark, n - mark));
+    done(gav_continue_with(s, score->bytes, score->len, state, GAV_STATE_WORDS, mark, out + mark, n - mark));
 }
 
-size_t ours_rerender(const struct settings *s, const struct score *old, const struct score *new_, double *out,
+size_t ours_rerender(const struct gav_settings *s, const struct score *old, const struct score *new_, double *out,
                      size_t n) {
-    return done(gav_rerender(s->rate, s->code, s->duty, s->attack, s->decay, s->sustain, s->release, old->bytes,
-                             old->len, new_->bytes, new_->len, out, n, shelf, gav_shelf_words(n)));
+    return done(gav_rerender_with(s, old->bytes, old->len, new_->bytes, new_->len, out, n, shelf, gav_shelf_words(n)));
 }

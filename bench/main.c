@@ -40,8 +40,8 @@ int main(int argc, char **argv) {
         if (i + 1 == argc || !read_option(argv[i], argv[i + 1], &b)) return usage();
     }
     /* A pad. */
-    b.settings = (struct settings){48000, GAV_SINE, 0.25, 0.05, 0.3, 0.6, 0.4};
-    b.score = make_score(b.seed, b.records, b.samples);
+    b.settings = (struct gav_settings){48000, GAV_SINE, 0.25, 0.05, 0.3, 0.6, 0.4};
+    b.score = make_score(b.seed, USUAL_KEYS, b.records, b.samples);
     b.out = malloc(b.samples * sizeof *b.out);
     b.reference = malloc(b.samples * sizeof *b.reference);
     if (!b.out || !b.reference) return fputs("bench: no memory\n", stderr), 2;

@@ -1,13 +1,28 @@
-/* Whole renders: every contender on every waveform, turn by turn, so that what disturbs one disturbs the others. */
+/* Whole renders: every contender on every waveform, turn by turn, so that what disturbs one disturbs the others; of
+ * keys in the middle, of high ones, and at the lowest rate, where a cycle has few samples. */
 #include "bench.h"
 
 #include <math.h>
 #include <stdio.h>
-#include <string.h>
+#include <stdlib.h>
 
 enum { OURS, ORIGINAL, PLAIN, BEST, WRITING, CONTENDERS };
 
-static void the_original(const struct settings *settings, const struct score *score, double *out, size_t n) {
+/* What is played, and how much of the best C's time is the goal; of a sine it is SINE_OF_BEST at most. */
+static const struct range {
+    const char *name;
+    uint32_t rate;
+    struct keys keys;
+    double of_best;
+} RANGES[] = {
+    {"notes 36 to 83", 48000, {36, 48}, 1.3},
+    {"notes 96 to 127", 48000, {96, 32}, 1.15},
+    {"notes 36 to 83", 8000, {36, 48}, 1.15},
+};
+#define SINE_OF_BEST 1.15
+#define OF_ORIGINAL 0.5
+
+static void the_original(const struct gav_settings *settings, const struct score *score, double *out, size_t n) {
     original_render(settings, score->bytes, score->len, out, n);
 }
 
@@ -65,37 +80,48 @@ static void print_times(double ns[5][CONTENDERS]) {
     }
 }
 
-static void print_ratios(struct bench *b, double ns[5][CONTENDERS]) {
-    printf("\n%-12s %22s %22s %14s\n", "ratios", "ours / original", "ours / best C", "ours / plain C");
-    printf("%-12s %22s %22s %14s\n", "goal", "at most 0.50", "at most 1.30", "");
+static void print_ratio(struct bench *b, double ratio, double most) {
+    printf(" %8.2f <= %.2f %6s", ratio, most, goal(b, ratio, most));
+}
+
+static void print_ratios(struct bench *b, const struct range *range, double ns[5][CONTENDERS]) {
+    printf("\n%-12s %23s %23s %9s %9s\n", "ratios", "ours / original", "ours / best C", "ours / pl", "best / pl");
     for (int code = 0; code < 5; code++) {
-        double *t = ns[code], of_best = t[OURS] / t[BEST];
+        double *t = ns[code], of_best = code == GAV_SINE ? SINE_OF_BEST : range->of_best;
         printf("%-12s", WAVES[code]);
-        if (original_is_here) {
-            double of_original = t[OURS] / t[ORIGINAL];
-            printf(" %15.2f %6s", of_original, goal(b, of_original, 0.5));
-        } else {
-            printf(" %22s", "-");
-        }
-        printf(" %15.2f %6s %14.2f\n", of_best, goal(b, of_best, 1.3), t[OURS] / t[PLAIN]);
+        original_is_here ? print_ratio(b, t[OURS] / t[ORIGINAL], OF_ORIGINAL) : (void)printf(" %23s", "-");
+        print_ratio(b, t[OURS] / t[BEST], of_best);
+        printf(" %9.2f %9.2f\n", t[OURS] / t[PLAIN], t[BEST] / t[PLAIN]);
     }
 }
 
-static void print_sounding(const struct bench *b) {
+static void print_range(const struct bench *b, const struct range *range) {
     size_t sounding = 0;
     for (size_t i = 0; i < b->samples; i++) sounding += b->reference[i] != 0.0;
-    printf("\n%zu samples at %u Hz of %zu records (seed %llu); %.0f %% of the samples sound; median of %zu\n\n",
-           b->samples, (unsigned)b->settings.rate, b->records, (unsigned long long)b->seed,
+    printf("\n%s at %u Hz: %zu samples of %zu records (seed %llu); %.0f %% of the samples sound; median of %zu\n\n",
+           range->name, (unsigned)range->rate, b->samples, b->records, (unsigned long long)b->seed,
            100.0 * (double)sounding / (double)b->samples, b->repetitions);
 }
 
-void measure_renders(struct bench *b) {
+/* The bench has another rate and score while a range is measured. */
+static void measure_range(struct bench *b, const struct range *range) {
+    const struct gav_settings settings = b->settings;
+    const struct score score = b->score;
     double ns[5][CONTENDERS];
+    b->settings.rate = range->rate;
+    b->score = make_score(b->seed, range->keys, b->records, b->samples);
     for (uint32_t code = 0; code < 5; code++) {
         b->settings.code = code;
         measure_wave(b, ns[code]);
     }
-    print_sounding(b);
+    print_range(b, range);
     print_times(ns);
-    print_ratios(b, ns);
+    print_ratios(b, range, ns);
+    free(b->score.bytes);
+    b->settings = settings;
+    b->score = score;
+}
+
+void measure_renders(struct bench *b) {
+    for (size_t i = 0; i < sizeof RANGES / sizeof *RANGES; i++) measure_range(b, &RANGES[i]);
 }
