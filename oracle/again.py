@@ -2,9 +2,10 @@
 """The rows once more, from document 01's steps, in exact fractions: oracle/again.py PART FILE [PART FILE ..].
 
 Every operation is done without rounding and then rounded once by `rounded` below, so neither the processor's floats
-nor the original's text has a part in it. Says how many rows agree, exits 1 if one does not. The parts are phase,
-polyblep, envelope, waveform and voice, whose pitches are those of the definition's list, and sine, blocks and render: a
-sine is measured, and the rows must besides be sines by Python's library.
+nor the original's text has a part in it. Says how many rows agree, exits 1 if one does not. The parts are the leaves:
+phase, polyblep, envelope, waveform and voice, whose pitches are those of the definition's list, and sine, which is
+measured, and whose rows must besides be sines by Python's library. Blocks and renders are held to the reference voice
+(tests/reference).
 """
 
 import functools
@@ -260,19 +261,19 @@ def reduced(x):
 
 
 def waveform_value(shape, phase, dt, duty):
-    calls = [lambda p, d: sine(p), square, saw, triangle, lambda p, d: pulse(p, d, duty)]
-    return calls[shape](phase, dt)
+    """Of Square to Pulse, 1 to 4: a sine is measured at u itself."""
+    calls = [square, saw, triangle, lambda p, d: pulse(p, d, duty)]
+    return calls[shape - 1](phase, dt)
 
 
 def radians_block(shape, duty, phase, step, scale, length):
-    """The samples, the phase of each, and the phase after them, which is not reduced."""
-    samples, phases, dt = [], [], mul(step, INV_TAU)
+    """The samples, and the phase after them, which is not reduced."""
+    samples, dt = [], mul(step, INV_TAU)
     for _ in range(length):
         value = waveform_value(shape, mul(remainder(phase), INV_TAU), dt, duty)
         samples.append(mul(value, scale))
-        phases.append(phase)
         phase = add(phase, step)
-    return samples, phases, phase
+    return samples, phase
 
 
 def waveform_answer(op, shape, *given):
@@ -285,7 +286,7 @@ def waveform_answer(op, shape, *given):
             number = 9
         samples.append(waveform_value(shape, phase, step, duty) if number == 0 else 0.0)
     else:
-        samples, _, after = radians_block(shape, duty, phase, step, scale, given[4])
+        samples, after = radians_block(shape, duty, phase, step, scale, given[4])
     if op == 1:
         after = reduced(after)
     slots = [bits_of(x, True) for x in samples] + (8 - len(samples)) * [UNWRITTEN]
@@ -388,234 +389,6 @@ def measure(path):
     return fine and within == total > 0
 
 
-# The block calls.
-
-
-def block_rows(path):
-    """The given words of each row, the words of the answer, and those of the samples."""
-    data, at = open(path, "rb").read(), 0
-    while at < len(data):
-        (length,) = struct.unpack_from("<Q", data, at + 56)
-        row = struct.unpack_from(f"<{11 + length}Q", data, at)
-        at += 8 * len(row)
-        yield row[:8], row[8:11], row[11:]
-
-
-def block_answer(op, shape, duty_bits, rate, *given):
-    """Number, count and phase after; the samples, and the phase of each."""
-    duty, frequency, depth, phase = (float_of(w, True) for w in (duty_bits, *given[:3]))
-    number, highest = 0, 100 if op == 1 else 20000
-    if not 8000 <= rate <= 192000 or (shape == 4 and not 0 <= duty <= 1):
-        number = 6
-    elif not (0 <= frequency <= highest and 0 <= depth <= 1 and 0 <= phase < 1000):
-        number = 9
-    if number > 0:
-        return (number, 0, given[2]), given[3] * [42.0], []
-    step = mul(div(frequency, float(rate)), TAU)
-    samples, phases, after = radians_block(shape, duty, phase, step, depth, given[3])
-    return (0, given[3], bits_of(reduced(after), True)), samples, phases
-
-
-def farthest(samples, theirs):
-    return max((abs(Fraction(a) - Fraction(b)) for a, b in zip(samples, theirs)), default=Fraction(0))
-
-
-def compare_blocks(path):
-    """Works every row out again; a sine is measured, and the row's must be another library's."""
-    total, equal, largest, seen = 0, 0, Fraction(0), {op: set() for op in range(3)}
-    for given, answer, words in block_rows(path):
-        total += 1
-        seen[given[0]].add(answer[0])
-        again, samples, phases = block_answer(*given)
-        if given[1] == 0 and answer[0] == 0:
-            depth, theirs = float_of(given[5], True), [float_of(w, True) for w in words]
-            off = farthest(samples, theirs)
-            largest = max(largest, off)
-            fine = off <= Fraction(depth) / 10**6
-            fine = fine and farthest([math.sin(phase) * depth for phase in phases], theirs) <= 1e-15
-        else:
-            fine = words == tuple(bits_of(x, True) for x in samples)
-        equal += fine and again == answer
-        if not (fine and again == answer) and total - equal < 5:
-            print("blocks", [f"{w:x}" for w in given + answer], [f"{w:x}" for w in again])
-    told = f"largest difference of a sine {math.ceil(largest * 10**9)} billionths"
-    print(f"blocks: {total} rows, {equal} equal, {told}")
-    return equal == total > 0 and seen == {op: {0, 6, 9} for op in range(3)}
-
-
-# The render, sample by sample.
-
-FRESH = (0, 0, 0, 0, 0, 255, bits_of(440.0, True), 0, 0, 0, 0, 0)
-UNKEPT = 0x2A2A2A2A2A2A2A2A
-
-
-class Voice:
-    """A state, from the twelve words of an entry."""
-
-    def __init__(self, words):
-        self.phase, level, time, release_level, self.pitch, self.loudness = entry_floats(words)
-        self.envelope = (words[1], level, time, release_level)
-        self.active, _, count, self.acted = packed(words[5])
-        self.held = pairs_of(words)[:count]
-
-    def words(self):
-        stage, *levels = self.envelope
-        numbers = self.active + 256 * (self.active != 255) + 512 * len(self.held) + 65536 * self.acted
-        pairs = struct.unpack("<4Q", b"".join(map(bytes, self.held)).ljust(32, b"\0"))
-        phase, *levels, pitch, loudness = (bits_of(x, True) for x in (self.phase, *levels, self.pitch, self.loudness))
-        return (phase, stage, *levels, numbers, pitch, loudness, *pairs)
-
-    def act(self, kind, note, velocity):
-        stage, level, _, release_level = self.envelope
-        self.acted += 1
-        if kind == 3:
-            self.__init__(FRESH[:5] + (255 + 65536 * self.acted,) + FRESH[6:])
-        elif kind == 1:
-            self.held = (self.held + [(note, velocity)])[:16]
-            self.sound(note, velocity)
-            self.envelope = (ATTACK, level, 0.0, release_level)
-        else:
-            self.held = [pair for pair in self.held if pair[0] != note]
-            if self.active == note and self.held:
-                self.sound(*self.held[-1])
-            elif self.active == note:
-                self.active = 255
-                self.envelope = self.envelope if stage == IDLE else (RELEASE, level, 0.0, level)
-
-    def sound(self, note, velocity):
-        self.active = note
-        self.loudness, self.pitch = (float_of(bits, False) for bits in struck(note, velocity))
-
-    def sample(self, wave, settings, rate):
-        """The sample, its phase, and level times velocity; and both advance."""
-        step, phase = step_of(self.pitch, rate), self.phase
-        self.phase, self.envelope = add(phase, step), envelope_step(settings, div(1.0, rate), self.envelope)
-        value = waveform_value(wave[0], mul(remainder(phase), INV_TAU), mul(step, INV_TAU), wave[1])
-        level = self.envelope[1]
-        return mul(mul(value, level), self.loudness), phase, mul(level, self.loudness)
-
-
-@functools.cache
-def step_of(frequency, rate):
-    return mul(div(frequency, rate), TAU)
-
-
-def entry_floats(words):
-    return (float_of(words[at], True) for at in (0, 2, 3, 4, 6, 7))
-
-
-def packed(word):
-    """Active note, gate, held count, records acted."""
-    return word & 255, word >> 8 & 1, word >> 9 & 127, word >> 16
-
-
-def pairs_of(words):
-    pairs = struct.pack("<4Q", *words[8:])
-    return list(zip(pairs[::2], pairs[1::2]))
-
-
-def is_entry(words):
-    phase, level, time, release_level, pitch, loudness = entry_floats(words)
-    active, gate, count, _ = packed(words[5])
-    keys = is_voice(NO_NOTE if active == 255 else active, gate, count, pairs_of(words), loudness, pitch)
-    return 0 <= phase < 1000 and words[1] <= 4 and 0 <= level <= 1 and 0 <= time <= 11 and 0 <= release_level <= 1 and keys
-
-
-def records_of(score):
-    return [struct.unpack_from("<2sI4B", score, at) for at in range(0, len(score) - 9, 10)]
-
-
-def score_fault(score):
-    """The number and the place of the first fault, or None."""
-    if len(score) % 10 or len(score) > 40960:
-        return 1, 0
-    before = 0
-    for place, (mark, position, kind, note, velocity, last) in enumerate(records_of(score)):
-        if mark != b"\x56\x4e":
-            return 2, place
-        if kind not in (1, 2, 3):
-            return 3, place
-        if max(note, velocity) > (0 if kind == 3 else 127) or last:
-            return 4, place
-        if position < before:
-            return 5, place
-        before = position
-    return None
-
-
-def render_refusal(head, score):
-    op, _, rate, shape, duty = head[:5]
-    length, _, shelf, position = head[9:13]
-    numbers = [float_of(w, True) for w in head[5:9]]
-    if not 8000 <= rate <= 192000 or (shape == 4 and not 0 <= float_of(duty, True) <= 1) or any(x != x for x in numbers):
-        return 6, 0
-    if position + length > 2**24 or (op == 0 and shelf != 12 * ((length + 4095) // 4096)):
-        return 7, 0
-    below = sum(record[1] < position for record in records_of(score))
-    astray = op == 1 and not (is_entry(head[13:25]) and packed(head[18])[3] == below)
-    return score_fault(score) or ((10, 0) if astray else None)
-
-
-def render_answer(head, score):
-    """Number, place, count and state after; for each sample its value, phase, and level times velocity; the shelf."""
-    op, _, rate, shape, duty = head[:5]
-    length, _, shelf, position = head[9:13]
-    given = head[13:25] if op == 1 else FRESH
-    refusal = render_refusal(head, score)
-    if refusal:
-        return (*refusal, 0, *given), length * [(42.0, 0.0, 0.0)], shelf * (UNKEPT,)
-    voice, samples, kept, here = Voice(given), [], (), {}
-    settings = usable([float_of(w, True) for w in head[5:9]])
-    for _, at, *event, _ in records_of(score):
-        here.setdefault(at, []).append(event)
-    for n in range(position, position + length):
-        if op == 0 and n % 4096 == 0:
-            kept += voice.words()
-        if n % 64 == 0 or n in here:
-            voice.phase = reduced(voice.phase)
-        for event in here.get(n, []):
-            voice.act(*event)
-        samples.append(voice.sample((shape, float_of(duty, True)), settings, float(rate)))
-    return (0, 0, length, *voice.words()), samples, kept
-
-
-def render_rows(path):
-    """The first words of each row, its score, and the words after that."""
-    data, at = open(path, "rb").read(), 0
-    while at < len(data):
-        head = struct.unpack_from("<40Q", data, at)
-        score = data[at + 320 : at + 320 + head[10]]
-        before = (head[10] + 7) // 8
-        yield head, score, struct.unpack_from(f"<{head[1] - before}Q", data, at + 320 + 8 * before)
-        at += 320 + 8 * head[1]
-
-
-def compare_render(path):
-    """Works every row out again; a sine is measured, and the row's must be another library's."""
-    total, equal, largest, seen = 0, 0, Fraction(0), {op: set() for op in range(2)}
-    for head, score, words in render_rows(path):
-        total += 1
-        seen[head[0]].add(head[25])
-        again, samples, kept = render_answer(head, score)
-        values, phases, scales = zip(*samples) if samples else ((), (), ())
-        if head[3] == 0 and head[25] == 0:
-            theirs = [float_of(w, True) for w in words[: len(values)]]
-            largest = max(largest, farthest(values, theirs))
-            fine = all(farthest([a], [b]) <= Fraction(scale) / 10**6 for a, b, scale in zip(values, theirs, scales))
-            fine = fine and farthest([math.sin(p) * scale for p, scale in zip(phases, scales)], theirs) <= 1e-15
-            values = scales
-            words = words[len(scales) :]
-        else:
-            fine = True
-        fine = fine and again == head[25:] and words == tuple(bits_of(x, True) for x in values) + kept
-        equal += fine
-        if not fine and total - equal < 5:
-            print("render", [f"{w:x}" for w in head], [f"{w:x}" for w in again])
-    told = f"largest difference of a sine {math.ceil(largest * 10**9)} billionths"
-    print(f"render: {total} rows, {equal} equal, {told}")
-    return equal == total > 0 and seen == {op: {0, 1, 2, 3, 4, 5, 6, 7, *(op * [10])} for op in range(2)}
-
-
 # part: words, how many of them are given, what answers, and every op with the numbers that it must be seen with
 PARTS = {
     "phase": ("<9I", 5, phase_answer, {op: {0, 9} if op < 7 else {0} for op in range(8)}),
@@ -644,12 +417,9 @@ def compare(name, path):
     return equal == total and seen == numbers
 
 
-# the parts that are measured
-OTHERS = {"sine": measure, "blocks": compare_blocks, "render": compare_render}
-
 if __name__ == "__main__":
     pairs = list(zip(sys.argv[1::2], sys.argv[2::2]))
-    if len(sys.argv) < 3 or len(sys.argv) % 2 == 0 or any(name not in [*PARTS, *OTHERS] for name, _ in pairs):
+    if len(sys.argv) < 3 or len(sys.argv) % 2 == 0 or any(name not in [*PARTS, "sine"] for name, _ in pairs):
         sys.exit("oracle/again.py PART FILE [PART FILE ..]")
-    fine = [OTHERS[name](path) if name in OTHERS else compare(name, path) for name, path in pairs]
+    fine = [measure(path) if name == "sine" else compare(name, path) for name, path in pairs]
     sys.exit(0 if all(fine) else 1)
