@@ -11,23 +11,27 @@ PACKAGES = $(shell command -v python3 >/dev/null || echo python3) \
 
 # The desk is C over the library, the same for use, under sanitizers and in tests.
 CC = gcc
-C_FLAGS = -std=c11 -Wall -Wextra -Werror -pedantic -ffp-contract=off -D_XOPEN_SOURCE=700 -Idesk
+C_FLAGS = -std=c11 -Wall -Wextra -Werror -pedantic -ffp-contract=off -D_XOPEN_SOURCE=700 -Iinclude -Idesk
 SANITIZED = -g -O1 -fsanitize=address,undefined -fno-sanitize-recover=all
 DESK_SOURCES = $(wildcard desk/*.c)
 READERS = $(filter-out desk/main.c,$(DESK_SOURCES))
-DESK_NEEDS = desk/desk.h desk/gavberin.h build/libgavberin.a
+DESK_NEEDS = desk/desk.h include/gavberin.h build/libgavberin.a
 ROUNDS = 4000000
 SEED = 1
 
+VERSION := $(shell sed -n 's/^\#define GAV_VERSION //p' include/gavberin.h)
+SHARED = libgavberin.so.$(VERSION)
+
 .DEFAULT_GOAL = help
-.PHONY: help check test ci fmt lib desk demo fuzz bench deps vectors clean
+.DELETE_ON_ERROR:
+.PHONY: always help check test ci fmt lib desk demo fuzz bench deps vectors clean
 
 help:
 	@echo 'make check   prove every crate and run each program (rt check)'
 	@echo 'make test    run the host tests (tests/run); some read what rt ci left in target/'
 	@echo 'make ci      run the gate: rt ci, then the host tests'
 	@echo 'make fmt     lay out every .rt and .antt file (rt fmt)'
-	@echo 'make lib     prove what C sees and build it for this processor: build/libgavberin.a'
+	@echo 'make lib     prove what C sees and build it for this processor: build/libgavberin.a and build/libgavberin.so'
 	@echo 'make desk    build the desk, build/desk, and the library that it stands on'
 	@echo 'make demo    build both, render a tune, edit it five times and draw the chart, in build/demo/'
 	@echo 'make fuzz    feed the readers of the desk with damaged input for long: ROUNDS=$(ROUNDS) SEED=$(SEED)'
@@ -48,12 +52,22 @@ ci:
 fmt:
 	@rt fmt
 
-lib:
-	@tools/native-lib desk build/libgavberin.a
+lib: build/libgavberin.a build/libgavberin.so
 
-# The library is built anew where the code of a crate has changed since.
-build/libgavberin.a: $(shell find crates -name '*.rt') tools/native-lib
-	@$(MAKE) --no-print-directory lib
+# Made anew where the code of a crate has changed since; `make lib` itself always asks rt, which proves what has changed.
+build/libgavberin.a: $(shell find crates -name '*.rt') build/words.o tools/native-lib $(if $(filter lib,$(MAKECMDGOALS)),always)
+	@tools/native-lib desk $@
+	@$(AR) rs $@ build/words.o
+
+build/words.o: library/words.c include/gavberin.h
+	@mkdir -p build
+	@$(CC) $(C_FLAGS) -O2 -fPIC -c -o $@ library/words.c
+
+# Nothing but the calls of the header can be seen from outside.
+build/libgavberin.so: build/libgavberin.a library/exports
+	@$(CC) -shared -nostartfiles -Wl,-soname,$(SHARED) -Wl,--version-script=library/exports -Wl,--no-undefined \
+		-o build/$(SHARED) -Wl,--whole-archive build/libgavberin.a -Wl,--no-whole-archive -lm
+	@ln -sf $(SHARED) $@
 
 desk: build/desk
 

@@ -71,6 +71,7 @@ static int untouched(void) {
 static void answers(void) {
     uint64_t answer = says(21, 4095, GAV_MOST_SAMPLES);
     HOLD(gav_number(answer) == 21 && gav_place(answer) == 4095 && gav_count(answer) == GAV_MOST_SAMPLES);
+    HOLD(gav_version() == GAV_VERSION);
     HOLD(gav_shelf_words(0) == 0 && gav_shelf_words(1) == 12 && gav_shelf_words(4096) == 12 && gav_shelf_words(4097) == 24);
 }
 

@@ -1,4 +1,4 @@
-//! The library, linked in: the calls of desk/gavberin.h on lent buffers with guards on both sides. A sample is lent and
+//! The library, linked in: the calls of include/gavberin.h on lent buffers with guards on both sides. A sample is lent and
 //! compared as its bits.
 
 use std::ffi::c_double;
