@@ -19,12 +19,15 @@ DESK_NEEDS = desk/desk.h include/gavberin.h build/libgavberin.a
 ROUNDS = 4000000
 SEED = 1
 
+# The library's version is the header's; the shared library is named for it. What `make install` puts where.
 VERSION := $(shell sed -n 's/^\#define GAV_VERSION //p' include/gavberin.h)
 SHARED = libgavberin.so.$(VERSION)
+PREFIX = /usr/local
+INSTALLED = $(DESTDIR)$(PREFIX)
 
 .DEFAULT_GOAL = help
 .DELETE_ON_ERROR:
-.PHONY: always help check test ci fmt lib desk demo fuzz bench deps vectors clean
+.PHONY: always help check test ci fmt lib desk man install demo fuzz bench deps vectors clean
 
 help:
 	@echo 'make check   prove every crate and run each program (rt check)'
@@ -33,6 +36,8 @@ help:
 	@echo 'make fmt     lay out every .rt and .antt file (rt fmt)'
 	@echo 'make lib     prove what C sees and build it for this processor: build/libgavberin.a and build/libgavberin.so'
 	@echo 'make desk    build the desk, build/desk, and the library that it stands on'
+	@echo 'make man     write the man page of the desk, build/desk.1, from what its verbs say of themselves'
+	@echo 'make install put header, libraries, gavberin.pc, desk and its man page under PREFIX=$(PREFIX), below DESTDIR'
 	@echo 'make demo    build both, render a tune, edit it five times and draw the chart, in build/demo/'
 	@echo 'make fuzz    feed the readers of the desk with damaged input for long: ROUNDS=$(ROUNDS) SEED=$(SEED)'
 	@echo 'make bench   measure the library beside the original and C, on one core: BENCH="--seed 7", bench/run --help'
@@ -70,6 +75,22 @@ build/libgavberin.so: build/libgavberin.a library/exports
 	@ln -sf $(SHARED) $@
 
 desk: build/desk
+
+man: build/desk.1
+
+build/desk.1: build/desk library/man
+	@library/man build/desk $(VERSION) >$@
+
+install: build/libgavberin.so build/desk build/desk.1
+	@install -d "$(INSTALLED)/include" "$(INSTALLED)/lib/pkgconfig" "$(INSTALLED)/bin" "$(INSTALLED)/share/man/man1"
+	@install -m 644 include/gavberin.h "$(INSTALLED)/include/"
+	@install -m 644 build/libgavberin.a "$(INSTALLED)/lib/"
+	@install -m 755 build/$(SHARED) "$(INSTALLED)/lib/"
+	@ln -sf $(SHARED) "$(INSTALLED)/lib/libgavberin.so"
+	@sed 's|@PREFIX@|$(PREFIX)|; s|@VERSION@|$(VERSION)|' library/gavberin.pc.in >"$(INSTALLED)/lib/pkgconfig/gavberin.pc"
+	@chmod 644 "$(INSTALLED)/lib/pkgconfig/gavberin.pc"
+	@install -m 755 build/desk "$(INSTALLED)/bin/"
+	@install -m 644 build/desk.1 "$(INSTALLED)/share/man/man1/"
 
 demo: build/desk
 	@desk/demo
