@@ -60,8 +60,11 @@ fmt:
 lib: build/libgavberin.a build/libgavberin.so
 
 # Made anew where the code of a crate has changed since; `make lib` itself always asks rt, which proves what has changed.
-build/libgavberin.a: $(shell find crates -name '*.rt') build/words.o tools/native-lib $(if $(filter lib,$(MAKECMDGOALS)),always)
+build/proved.a: $(shell find crates -name '*.rt') tools/native-lib $(if $(filter lib,$(MAKECMDGOALS)),always)
 	@tools/native-lib desk $@
+
+build/libgavberin.a: build/proved.a build/words.o
+	@cp build/proved.a $@
 	@$(AR) rs $@ build/words.o
 
 build/words.o: library/words.c include/gavberin.h
