@@ -5,6 +5,9 @@ PACKAGES = $(shell command -v python3 >/dev/null || echo python3) \
            $(shell command -v cargo >/dev/null || echo cargo) \
            $(shell test -f "$$(sed -n 's/^path = "\(.*\)"$$/\1/p' oracle/libm/Cargo.toml)" || echo librust-libm-dev) \
            $(shell command -v cc >/dev/null && command -v gcc >/dev/null || echo gcc libc6-dev) \
+           $(shell command -v c++ >/dev/null || echo g++) \
+           $(shell command -v pkg-config >/dev/null || echo pkg-config) \
+           $(shell command -v groff >/dev/null || echo groff-base) \
            $(shell test "$$(uname -m)" = x86_64 || command -v x86_64-linux-gnu-gcc >/dev/null || echo gcc-x86-64-linux-gnu libc6-dev-amd64-cross) \
            $(shell command -v sox >/dev/null || echo sox) \
            $(shell command -v sndfile-info >/dev/null || echo sndfile-programs)
