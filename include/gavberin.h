@@ -73,19 +73,19 @@ extern "C" {
 
 /* The numbers of an answer. The place is the record's index for those of a record, else 0. */
 enum gav_answer {
-    GAV_DONE = 0,             /* the count is what the call says below */
-    GAV_SCORE_LENGTH = 1,     /* the score's length is no multiple of 10, or it has more than 4,096 records */
-    GAV_SCORE_MARK = 2,       /* a record of the score: it does not begin with 56 4E (hex) */
-    GAV_SCORE_KIND = 3,       /* a record of the score: its kind is not 1, 2 or 3 */
-    GAV_SCORE_FIELD = 4,      /* a record of the score: a field is out of range, or the last byte is not 0 */
-    GAV_SCORE_ORDER = 5,      /* a record of the score: its position is below that of the record before */
-    GAV_SETTING = 6,          /* a rate, a code, a pulse's duty or an envelope setting outside its limits */
-    GAV_SIZE = 7,             /* too many samples, a shelf of the wrong size, or too little room for a listing */
-    GAV_START_ENTRY = 8,      /* re-render: the entry to start from is no state, or the new score has another number of
-                                 records before it than have acted */
-    GAV_ARGUMENT = 9,         /* another argument outside its limits */
-    GAV_GIVEN_STATE = 10,     /* continue: the state is none, or the score has another number of records before its
-                                 position than have acted */
+    GAV_DONE = 0,              /* the count is what the call says below */
+    GAV_SCORE_LENGTH = 1,      /* the score's length is no multiple of 10, or it has more than 4,096 records */
+    GAV_SCORE_MARK = 2,        /* a record of the score: it does not begin with 56 4E (hex) */
+    GAV_SCORE_KIND = 3,        /* a record of the score: its kind is not 1, 2 or 3 */
+    GAV_SCORE_FIELD = 4,       /* a record of the score: a field is out of range, or the last byte is not 0 */
+    GAV_SCORE_ORDER = 5,       /* a record of the score: its position is below that of the record before */
+    GAV_SETTING = 6,           /* a rate, a code, a pulse's duty or an envelope setting outside its limits */
+    GAV_SIZE = 7,              /* too many samples, a shelf of the wrong size, or too little room for a listing */
+    GAV_START_ENTRY = 8,       /* re-render: the entry to start from is no state, or the new score has another number of
+                                  records before it than have acted */
+    GAV_ARGUMENT = 9,          /* another argument outside its limits */
+    GAV_GIVEN_STATE = 10,      /* continue: the state is none, or the score has another number of records before its
+                                  position than have acted */
     GAV_NEW_SCORE_LENGTH = 17, /* 17 to 21: as 1 to 5, of a re-render's new score */
     GAV_NEW_SCORE_MARK = 18,
     GAV_NEW_SCORE_KIND = 19,

@@ -244,6 +244,8 @@ static void continues(void) {
     }
     HOLD(position == N && SAME(played, all));
     HOLD(state[5] == 60 + 256 + 512 + 3 * 65536 && state[12] == state_before[12]);
+    /* one key is held, note 60 at velocity 100 */
+    HOLD(state[8] == 60 + 256 * 100 && state[9] == 0 && state[10] == 0 && state[11] == 0);
 }
 
 static void lists(void) {
