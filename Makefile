@@ -5,30 +5,42 @@ PACKAGES = $(shell command -v python3 >/dev/null || echo python3) \
            $(shell command -v cargo >/dev/null || echo cargo) \
            $(shell test -f "$$(sed -n 's/^path = "\(.*\)"$$/\1/p' oracle/libm/Cargo.toml)" || echo librust-libm-dev) \
            $(shell command -v cc >/dev/null && command -v gcc >/dev/null || echo gcc libc6-dev) \
+           $(shell command -v c++ >/dev/null || echo g++) \
+           $(shell command -v pkg-config >/dev/null || echo pkg-config) \
+           $(shell command -v groff >/dev/null || echo groff-base) \
            $(shell test "$$(uname -m)" = x86_64 || command -v x86_64-linux-gnu-gcc >/dev/null || echo gcc-x86-64-linux-gnu libc6-dev-amd64-cross) \
            $(shell command -v sox >/dev/null || echo sox) \
            $(shell command -v sndfile-info >/dev/null || echo sndfile-programs)
 
 # The desk is C over the library, the same for use, under sanitizers and in tests.
 CC = gcc
-C_FLAGS = -std=c11 -Wall -Wextra -Werror -pedantic -ffp-contract=off -D_XOPEN_SOURCE=700 -Idesk
+C_FLAGS = -std=c11 -Wall -Wextra -Werror -pedantic -ffp-contract=off -D_XOPEN_SOURCE=700 -Iinclude -Idesk
 SANITIZED = -g -O1 -fsanitize=address,undefined -fno-sanitize-recover=all
 DESK_SOURCES = $(wildcard desk/*.c)
 READERS = $(filter-out desk/main.c,$(DESK_SOURCES))
-DESK_NEEDS = desk/desk.h desk/gavberin.h build/libgavberin.a
+DESK_NEEDS = desk/desk.h include/gavberin.h build/libgavberin.a
 ROUNDS = 4000000
 SEED = 1
 
+# The library's version is the header's; the shared library is named for it. What `make install` puts where.
+VERSION := $(shell sed -n 's/^\#define GAV_VERSION //p' include/gavberin.h)
+SHARED = libgavberin.so.$(VERSION)
+PREFIX = /usr/local
+INSTALLED = $(DESTDIR)$(PREFIX)
+
 .DEFAULT_GOAL = help
-.PHONY: help check test ci fmt lib desk demo fuzz bench deps vectors clean
+.DELETE_ON_ERROR:
+.PHONY: always help check test ci fmt lib desk man install demo fuzz bench deps vectors clean
 
 help:
 	@echo 'make check   prove every crate and run each program (rt check)'
 	@echo 'make test    run the host tests (tests/run); some read what rt ci left in target/'
 	@echo 'make ci      run the gate: rt ci, then the host tests'
 	@echo 'make fmt     lay out every .rt and .antt file (rt fmt)'
-	@echo 'make lib     prove what C sees and build it for this processor: build/libgavberin.a'
+	@echo 'make lib     prove what C sees and build it for this processor: build/libgavberin.a and build/libgavberin.so'
 	@echo 'make desk    build the desk, build/desk, and the library that it stands on'
+	@echo 'make man     write the man page of the desk, build/desk.1, from what its verbs say of themselves'
+	@echo 'make install put header, libraries, gavberin.pc, desk and its man page under PREFIX=$(PREFIX), below DESTDIR'
 	@echo 'make demo    build both, render a tune, edit it five times and draw the chart, in build/demo/'
 	@echo 'make fuzz    feed the readers of the desk with damaged input for long: ROUNDS=$(ROUNDS) SEED=$(SEED)'
 	@echo 'make bench   measure the library beside the original and C, on one core: BENCH="--seed 7", bench/run --help'
@@ -48,14 +60,43 @@ ci:
 fmt:
 	@rt fmt
 
-lib:
-	@tools/native-lib desk build/libgavberin.a
+lib: build/libgavberin.a build/libgavberin.so
 
-# The library is built anew where the code of a crate has changed since.
-build/libgavberin.a: $(shell find crates -name '*.rt') tools/native-lib
-	@$(MAKE) --no-print-directory lib
+# Made anew where the code of a crate has changed since; `make lib` itself always asks rt, which proves what has changed.
+build/proved.a: $(shell find crates -name '*.rt') tools/native-lib $(if $(filter lib,$(MAKECMDGOALS)),always)
+	@tools/native-lib desk $@
+
+build/libgavberin.a: build/proved.a build/words.o
+	@cp build/proved.a $@
+	@$(AR) rs $@ build/words.o
+
+build/words.o: library/words.c include/gavberin.h
+	@mkdir -p build
+	@$(CC) $(C_FLAGS) -O2 -fPIC -c -o $@ library/words.c
+
+# Nothing but the calls of the header can be seen from outside.
+build/libgavberin.so: build/libgavberin.a library/exports
+	@$(CC) -shared -nostartfiles -Wl,-soname,$(SHARED) -Wl,--version-script=library/exports -Wl,--no-undefined \
+		-o build/$(SHARED) -Wl,--whole-archive build/libgavberin.a -Wl,--no-whole-archive -lm
+	@ln -sf $(SHARED) $@
 
 desk: build/desk
+
+man: build/desk.1
+
+build/desk.1: build/desk library/man
+	@library/man build/desk $(VERSION) >$@
+
+install: build/libgavberin.so build/desk build/desk.1
+	@install -d "$(INSTALLED)/include" "$(INSTALLED)/lib/pkgconfig" "$(INSTALLED)/bin" "$(INSTALLED)/share/man/man1"
+	@install -m 644 include/gavberin.h "$(INSTALLED)/include/"
+	@install -m 644 build/libgavberin.a "$(INSTALLED)/lib/"
+	@install -m 755 build/$(SHARED) "$(INSTALLED)/lib/"
+	@ln -sf $(SHARED) "$(INSTALLED)/lib/libgavberin.so"
+	@sed 's|@PREFIX@|$(PREFIX)|; s|@VERSION@|$(VERSION)|' library/gavberin.pc.in >"$(INSTALLED)/lib/pkgconfig/gavberin.pc"
+	@chmod 644 "$(INSTALLED)/lib/pkgconfig/gavberin.pc"
+	@install -m 755 build/desk "$(INSTALLED)/bin/"
+	@install -m 644 build/desk.1 "$(INSTALLED)/share/man/man1/"
 
 demo: build/desk
 	@desk/demo

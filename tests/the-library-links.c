@@ -1,5 +1,6 @@
 /* A host of the library: calls each function of gavberin.h on document 01's example score and on what is refused, and holds
- * every answer to 01's table, and every lent buffer to what it says of them. */
+ * every answer to 01's table, and every lent buffer to what it says of them. The proof's account of floats has one NaN, so
+ * that only a test can tell whether a NaN in a lent buffer keeps its bits: samples are NaNs of many kinds before a call. */
 #include "gavberin.h"
 
 #include <math.h>
@@ -52,9 +53,22 @@ static uint64_t bits(double x) {
     return word;
 }
 
+/* A NaN for each i, its bits put where they stand: either sign, quiet and signalling, payloads from 1 to all bits. */
+static void put_nan(double *at, size_t i) {
+    static const uint64_t kinds[] = {0x7ff8000000000000, 0x7ff0000000000001, 0x7fffffffffffffff, 0x7ff7ffffffffffff};
+    uint64_t payload = (i * 0x9e3779b97f4a7c15 >> 12) | 1;
+    uint64_t word = i < 2 * LEN(kinds) ? kinds[i / 2] : 0x7ff0000000000000 | payload;
+    word |= (uint64_t)(i % 2) << 63;
+    memcpy(at, &word, sizeof word);
+}
+
+static void put_nans(double *at, size_t n) {
+    for (size_t i = 0; i < n; i++) put_nan(at + i, i);
+}
+
 /* Every buffer with a pattern that no call leaves, and a copy of each. */
 static void spoil(void) {
-    for (size_t i = 0; i < N; i++) out[i] = 1e300 + (double)i;
+    put_nans(out, N);
     memset(shelf, 0xA5, sizeof shelf);
     memset(state, 0xA5, sizeof state);
     memset(text, '~', sizeof text);
@@ -71,6 +85,14 @@ static int untouched(void) {
 static void answers(void) {
     uint64_t answer = says(21, 4095, GAV_MOST_SAMPLES);
     HOLD(gav_number(answer) == 21 && gav_place(answer) == 4095 && gav_count(answer) == GAV_MOST_SAMPLES);
+    HOLD(gav_version() == GAV_VERSION);
+    HOLD(strcmp(gav_words(GAV_DONE), "done") == 0 && strcmp(gav_words(says(GAV_DONE, 0, N)), "done") == 0);
+    HOLD(strstr(gav_words(says(21, 4095, 0)), "of the new score has a position below that of the record before it") != NULL);
+    const char *unknown = gav_words(255);
+    for (unsigned number = 0; number < 256; number++) {
+        int known = number <= 10 || (number >= 17 && number <= 21);
+        HOLD((strcmp(gav_words(number), unknown) != 0) == known);
+    }
     HOLD(gav_shelf_words(0) == 0 && gav_shelf_words(1) == 12 && gav_shelf_words(4096) == 12 && gav_shelf_words(4097) == 24);
 }
 
@@ -122,6 +144,8 @@ static void renders(void) {
 
 /* After renders(): out and shelf are those of the example. */
 static void rerenders(void) {
+    memcpy(played, out, sizeof out);
+    put_nans(out, N);
     memcpy(out_before, out, sizeof out);
     memcpy(shelf_before, shelf, sizeof shelf);
     HOLD(gav_rerender(SETTINGS, example, 20, example, 20, out, N, shelf, 24) == 0);
@@ -134,15 +158,55 @@ static void rerenders(void) {
     HOLD(gav_rerender(SETTINGS, example, 20, longer, 30, out, N, shelf, 24) == says(8, 0, 0));
     shelf[12 + 1] = 4;
     HOLD(SAME(out, out_before) && SAME(shelf, shelf_before));
+    memcpy(out, played, sizeof out);
+    memcpy(out_before, played, sizeof out);
 
-    /* from the mark at 4,096 on it is the new score's render; what lies before stays, here a sample that is none */
-    out[7] = 77;
-    HOLD(gav_rerender(SETTINGS, example, 20, longer, 30, out, N, shelf, 24) == says(0, 0, N - 4096));
-    HOLD(out[7] == 77);
-    out[7] = out_before[7];
+    /* from the mark at 4,096 on it is the new score's render; what lies before stays, here NaNs of every kind */
+    put_nans(out, GAV_MARK);
+    memcpy(played, out, sizeof out);
+    HOLD(gav_rerender(SETTINGS, example, 20, longer, 30, out, N, shelf, 24) == says(0, 0, N - GAV_MARK));
+    HOLD(memcmp(out, played, GAV_MARK * sizeof *out) == 0);
+    memcpy(out, out_before, GAV_MARK * sizeof *out);
     HOLD(gav_render(SETTINGS, longer, 30, all, N, entries, 24) == says(0, 0, N));
     HOLD(SAME(out, all) && SAME(shelf, entries));
     HOLD(!SAME(out, out_before));
+}
+
+/* After rerenders(): out is the render of the longer score. The old score and the new one in one buffer. */
+static void overlaps(void) {
+    HOLD(gav_rerender(SETTINGS, longer, 30, longer, 20, out, N, shelf, 24) == says(0, 0, N - GAV_MARK));
+    HOLD(SAME(out, out_before) && SAME(shelf, shelf_before));
+    HOLD(gav_rerender(SETTINGS, longer, 20, longer, 20, out, N, shelf, 24) == 0);
+    HOLD(SAME(out, out_before) && SAME(shelf, shelf_before));
+    HOLD(gav_rerender(SETTINGS, longer, 20, longer, 30, out, N, shelf, 24) == says(0, 0, N - GAV_MARK));
+    HOLD(SAME(out, all) && SAME(shelf, entries));
+    HOLD(gav_rerender(SETTINGS, longer, 30, longer + 1, 20, out, N, shelf, 24) == says(18, 0, 0));
+    HOLD(SAME(out, all) && SAME(shelf, entries));
+    /* the second record is the first of the new score, so it begins at entry 0 */
+    HOLD(gav_rerender(SETTINGS, longer, 30, longer + 10, 20, out, N, shelf, 24) == says(0, 0, N));
+    HOLD(gav_render(SETTINGS, longer + 10, 20, played, N, shelf_before, 24) == says(0, 0, N));
+    HOLD(SAME(out, played) && SAME(shelf, shelf_before));
+}
+
+/* The wrappers hand each setting on in its place: a pulse of its own duty, and settings that all differ. */
+static void wrappers(void) {
+    struct gav_settings s = GAV_SETTINGS_DEFAULT;
+    HOLD(s.rate == 48000 && s.code == GAV_SAWTOOTH && s.duty == 0.5);
+    HOLD(s.attack == 0.01 && s.decay == 0.1 && s.sustain == 0.7 && s.release == 0.3);
+    s.rate = 9000;
+    s.code = GAV_PULSE;
+    s.duty = 0.25;
+    s.release = 0.02;
+    HOLD(gav_render(9000, GAV_PULSE, 0.25, 0.01, 0.1, 0.7, 0.02, example, 20, out, N, shelf, 24) == says(0, 0, N));
+    HOLD(gav_render_with(&s, example, 20, played, N, shelf_before, 24) == says(0, 0, N));
+    HOLD(SAME(out, played) && SAME(shelf, shelf_before));
+    const uint64_t done = says(0, 0, N - GAV_MARK);
+    HOLD(gav_rerender(9000, GAV_PULSE, 0.25, 0.01, 0.1, 0.7, 0.02, example, 20, longer, 30, out, N, shelf, 24) == done);
+    HOLD(gav_rerender_with(&s, example, 20, longer, 30, played, N, shelf_before, 24) == done);
+    HOLD(SAME(out, played) && SAME(shelf, shelf_before));
+    HOLD(gav_fresh(state, 12) == 0);
+    HOLD(gav_continue_with(&s, longer, 30, state, 12, 0, played, N) == says(0, 0, N));
+    HOLD(SAME(out, played));
 }
 
 /* After rerenders(): all is the render of the longer score, and entries its shelf. */
@@ -157,13 +221,13 @@ static void continues(void) {
     HOLD(memcmp(state, entries, 12 * sizeof *state) == 0 && state[12] == state_before[12]);
 
     memcpy(state_before, state, sizeof state);
-    HOLD(gav_continue(RATE, 9, 0, ADSR, longer, 29, state, 11, GAV_MOST_SAMPLES, out, 1) == says(6, 0, 0));
+    HOLD(gav_continue(RATE, 9, 0, ADSR, longer, 29, state, 11, GAV_MOST_SAMPLES, out, N) == says(6, 0, 0));
     HOLD(gav_continue(SETTINGS, longer, 29, state, 11, GAV_MOST_SAMPLES, out, 1) == says(7, 0, 0));
-    HOLD(gav_continue(SETTINGS, longer, 29, state, 11, UINT64_MAX, out, 1) == says(7, 0, 0));
-    HOLD(gav_continue(SETTINGS, falling, 20, state, 11, 0, out, 1) == says(5, 1, 0));
-    HOLD(gav_continue(SETTINGS, longer, 30, state, 11, 0, out, 1) == says(10, 0, 0));
-    HOLD(gav_continue(SETTINGS, longer, 30, state, 13, 0, out, 1) == says(10, 0, 0));
-    HOLD(gav_continue(SETTINGS, longer, 30, state, 12, 1, out, 1) == says(10, 0, 0));
+    HOLD(gav_continue(SETTINGS, longer, 29, state, 11, UINT64_MAX, out, N) == says(7, 0, 0));
+    HOLD(gav_continue(SETTINGS, falling, 20, state, 11, 0, out, N) == says(5, 1, 0));
+    HOLD(gav_continue(SETTINGS, longer, 30, state, 11, 0, out, N) == says(10, 0, 0));
+    HOLD(gav_continue(SETTINGS, longer, 30, state, 13, 0, out, N) == says(10, 0, 0));
+    HOLD(gav_continue(SETTINGS, longer, 30, state, 12, 1, out, N) == says(10, 0, 0));
     HOLD(untouched());
 
     /* the last position there is, and nothing after it */
@@ -180,6 +244,8 @@ static void continues(void) {
     }
     HOLD(position == N && SAME(played, all));
     HOLD(state[5] == 60 + 256 + 512 + 3 * 65536 && state[12] == state_before[12]);
+    /* one key is held, note 60 at velocity 100 */
+    HOLD(state[8] == 60 + 256 * 100 && state[9] == 0 && state[10] == 0 && state[11] == 0);
 }
 
 static void lists(void) {
@@ -202,8 +268,10 @@ int main(void) {
     samples();
     renders();
     rerenders();
+    overlaps();
     continues();
     lists();
+    wrappers();
     printf("%d facts held, %d faults\n", held - faults, faults);
     return faults != 0;
 }

@@ -16,28 +16,6 @@
 #include <stdint.h>
 #include <string.h>
 
-#ifndef GAV_VERSION
-struct gav_settings {
-    uint32_t rate, code;
-    double duty, attack, decay, sustain, release;
-};
-#define GAV_FLAT(s) (s)->rate, (s)->code, (s)->duty, (s)->attack, (s)->decay, (s)->sustain, (s)->release
-static inline uint64_t gav_render_with(const struct gav_settings *s, const uint8_t *score, size_t len, double *out,
-                                       size_t n, uint64_t *shelf, size_t words) {
-    return gav_render(GAV_FLAT(s), score, len, out, n, shelf, words);
-}
-static inline uint64_t gav_rerender_with(const struct gav_settings *s, const uint8_t *old, size_t old_len,
-                                         const uint8_t *new_, size_t new_len, double *out, size_t n, uint64_t *shelf,
-                                         size_t words) {
-    return gav_rerender(GAV_FLAT(s), old, old_len, new_, new_len, out, n, shelf, words);
-}
-static inline uint64_t gav_continue_with(const struct gav_settings *s, const uint8_t *score, size_t len,
-                                         uint64_t *state, size_t state_words, uint64_t position, double *part,
-                                         size_t n) {
-    return gav_continue(GAV_FLAT(s), score, len, state, state_words, position, part, n);
-}
-#endif
-
 /* The bits of the original's constants. */
 #define TAU 6.283185307179586
 #define INV_TAU 0.15915494309189535

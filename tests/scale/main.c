@@ -27,6 +27,10 @@ int main(int argc, char **argv) {
     static struct round round;
     struct tally tally = {0};
     if (argc < 3 || argc > 4) read_number("");
+    if (gav_version() != GAV_VERSION) {
+        printf("scale: the library has version %u, the header %u\n", (unsigned)gav_version(), (unsigned)GAV_VERSION);
+        return 1;
+    }
     uint64_t seed = read_number(argv[1]), rounds = read_number(argv[2]), first = argc > 3 ? read_number(argv[3]) : 0;
     round.tally = &tally;
     make_buffers(&round.lent);

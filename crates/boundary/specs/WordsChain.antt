@@ -1,4 +1,4 @@
--- A chain of continuing calls as C makes them, on twelve words. desk/gavberin.h, of gav_continue: "Parts of any lengths, one after the other from gav_fresh at position 0, under the same settings and a score that grows only at its
+-- A chain of continuing calls as C makes them, on twelve words. include/gavberin.h, of gav_continue: "Parts of any lengths, one after the other from gav_fresh at position 0, under the same settings and a score that grows only at its
 -- end, are the samples of one gav_render of the last score". Each call takes the words that the call before it left, at the end of the part before. Definitions only.
 use mathlib.Core.Path.{_≡_}
 use mathlib.Core.Bool.{cond}

@@ -1,4 +1,4 @@
--- Edits as C makes them: gav_render of a score, then gav_rerender into each next one, on one output and shelf. desk/gavberin.h, of gav_rerender: "old, old_len: the score that out and shelf were rendered of"; "out, n; shelf, words:
+-- Edits as C makes them: gav_render of a score, then gav_rerender into each next one, on one output and shelf. include/gavberin.h, of gav_rerender: "old, old_len: the score that out and shelf were rendered of"; "out, n; shelf, words:
 -- as for gav_render, holding what it or the last gav_rerender left". Definitions only.
 use mathlib.Core.List.{List, [], _∷_}
 use Prim.Native.Nat.{ℕ}

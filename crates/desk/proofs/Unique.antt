@@ -4,7 +4,11 @@ use mathlib.Core.List.{List}
 use Prim.Native.Nat.{ℕ}
 use lib.Ieee.{Float}
 use Rattle.desk.specs.Packed.{packedOf}
+use Rattle.desk.specs.Version.{version}
 use Rattle.desk.specs.Desk.{Outcome, leaves, Filled, fills, choiceOf, adsrOf, checkOf, singleOf, renderFor, rerenderFor, continueFor, freshFor, listFor}
+
+pub gav-version-unique : (r t : ℕ) → r ≡ version → t ≡ version → r ≡ t
+gav-version-unique r t p q = p ∙ sym q
 
 pub gav-check-score-unique : (s : List ℕ) (r t : ℕ) → r ≡ checkOf s → t ≡ checkOf s → r ≡ t
 gav-check-score-unique s r t p q = p ∙ sym q

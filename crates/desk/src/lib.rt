@@ -1,10 +1,11 @@
 // What C sees: the calls of the crates below, on numbers and slices, each with its answer in one word. 01 asks for the check of
 // a score and for single samples; render, re-render, continuing call, fresh state and listing go beyond it. A slice is a
-// pointer and a length in C; desk/gavberin.h declares every function here, with the caller's duties, which nothing here can
+// pointer and a length in C; include/gavberin.h declares every function here, with the caller's duties, which nothing here can
 // test. Left out: the ported calls of phase, voice, envelope, oscillator and LFO, and the end state of a render.
 ghost use mathlib.Core.Path.{_≡_};
 ghost use Rattle.shelf.specs.Shelf.{isEntry};
 ghost use Rattle.desk.specs.Packed.{packedOf};
+ghost use Rattle.desk.specs.Version.{version};
 ghost use Rattle.desk.specs.Desk.{leaves, fills, choiceOf, adsrOf, settingsOf, checkOf, singleOf, renderFor, rerenderFor, continueIn, continueFor, freshFor, listFor};
 use answers::Answer;
 use answers::Refusal;
@@ -14,10 +15,21 @@ use shelf::ENTRY_WORDS;
 use state::Settings;
 use waveform::Waveform;
 
+// GAV_VERSION of the header.
+const VERSION: u32 = 1;
+
 // The waveform of a code, where it has one.
 enum Choice {
     Known(Waveform),
     Unknown,
+}
+
+// Which signatures and how many words of a state a host has to be written for.
+#[no_mangle]
+pub extern "C" fn gav_version() -> u32
+    ensures { λ r. ⌜ r ≡ version ⌝ }
+{
+    VERSION
 }
 
 // What a score is refused for, or 0.

@@ -1,0 +1,45 @@
+/* What an answer says, in words: the part of the library that is plain C, and not proved. The words stand after
+ * "refused NUMBER at place PLACE: ", and before what a host can tell of the record, the settings or the files that it
+ * lent. */
+#include "gavberin.h"
+
+/* What a score is refused for is said alike of an old or only score and of a new one. */
+#define LENGTH "'s length is no multiple of 10 bytes, or above 4,096 records"
+#define MARK " does not begin with the mark 56 4E (hex)"
+#define KIND " is of a kind that is not 1 (on), 2 (off) or 3 (reset)"
+#define FIELD " has a field out of range, or a last byte that is not 0"
+#define ORDER " has a position below that of the record before it"
+#define RECORD "a record"
+#define NEW_RECORD "a record of the new score"
+
+static const struct {
+    unsigned number;
+    const char *words;
+} sayings[] = {
+    {GAV_DONE, "done"},
+    {GAV_SCORE_LENGTH, "the score" LENGTH},
+    {GAV_SCORE_MARK, RECORD MARK},
+    {GAV_SCORE_KIND, RECORD KIND},
+    {GAV_SCORE_FIELD, RECORD FIELD},
+    {GAV_SCORE_ORDER, RECORD ORDER},
+    {GAV_SETTING, "the rate, the waveform, a pulse's duty or an envelope setting is outside its limits"},
+    {GAV_SIZE, "too many samples, a shelf of the wrong size, or too little room for a listing"},
+    {GAV_START_ENTRY, "the shelf's entry to start from is no state, or has acted on another number of records than the "
+                      "new score has before it"},
+    {GAV_ARGUMENT, "an argument is outside its limits"},
+    {GAV_GIVEN_STATE,
+     "the state to continue from is none, or has acted on another number of records than the score has "
+     "before its position"},
+    {GAV_NEW_SCORE_LENGTH, "the new score" LENGTH},
+    {GAV_NEW_SCORE_MARK, NEW_RECORD MARK},
+    {GAV_NEW_SCORE_KIND, NEW_RECORD KIND},
+    {GAV_NEW_SCORE_FIELD, NEW_RECORD FIELD},
+    {GAV_NEW_SCORE_ORDER, NEW_RECORD ORDER},
+};
+
+const char *gav_words(uint64_t answer) {
+    for (size_t i = 0; i < sizeof sayings / sizeof *sayings; i++) {
+        if (sayings[i].number == gav_number(answer)) return sayings[i].words;
+    }
+    return "a number that no call of this library gives";
+}

@@ -1,0 +1,196 @@
+/* How much stack each call of gavberin.h takes. A call runs on a thread whose stack is painted; what is no longer paint
+ * afterwards was used. The stack is far larger than what is allowed, so that a call which takes too much is told and
+ * does not crash. Prints the bytes of each call, and exits with 1 where one is above GAV's 64 KB. */
+#include "gavberin.h"
+
+#include <math.h>
+#include <pthread.h>
+#include <stdio.h>
+#include <stdlib.h>
+#include <string.h>
+
+#define ALLOWED 65536
+#define ROOM (1024 * 1024)
+#define PAINT 0xA7
+#define RECORDS 4096
+#define N 100000
+#define LEN(list) (sizeof(list) / sizeof *(list))
+
+static _Alignas(65536) unsigned char stack[ROOM];
+static unsigned char *entered;
+
+static double out[GAV_MOST_SAMPLES];
+static uint64_t shelf[GAV_MOST_SAMPLES / GAV_MARK * GAV_STATE_WORDS], state[GAV_STATE_WORDS];
+static uint8_t score[10 * RECORDS], edited[10 * RECORDS], text[GAV_LIST_ROOM];
+static struct gav_settings settings = GAV_SETTINGS_DEFAULT;
+
+/* A call with its arguments; what it answers has to be that number, so that it did the work and was not refused early.
+ */
+struct call {
+    const char *name;
+    uint64_t (*make)(void);
+    unsigned number;
+};
+
+static uint64_t version(void) { return gav_version() == GAV_VERSION ? 0 : 1; }
+static uint64_t words(void) { return gav_words(GAV_NEW_SCORE_ORDER)[0] != 0 && gav_words(255)[0] != 0 ? 0 : 1; }
+static uint64_t check(void) { return gav_check_score(score, sizeof score); }
+static uint64_t check_length(void) { return gav_check_score(score, 19); }
+static uint64_t list(void) { return gav_list(score, sizeof score, text, sizeof text); }
+static uint64_t list_refused(void) { return gav_list(score, 19, text, sizeof text); }
+static uint64_t list_short(void) { return gav_list(score, sizeof score, text, 1); }
+static uint64_t fresh(void) { return gav_fresh(state, GAV_STATE_WORDS); }
+static uint64_t fresh_refused(void) { return gav_fresh(state, 1); }
+
+static uint64_t samples(void) {
+    uint64_t said = 0;
+    for (uint32_t code = GAV_SINE; code <= GAV_PULSE; code++) {
+        for (double phase = 0; phase <= 1; phase += 0.125) {
+            said |= gav_sample_says(code, phase, 0.3, 0.5);
+            out[0] = gav_sample(code, phase, 0.3, 0.5);
+        }
+    }
+    return said;
+}
+static uint64_t sample_refused(void) {
+    return gav_sample_says(GAV_PULSE, 0.5, 0.1, 2) | (uint64_t)gav_sample(9, 0, 0, 0);
+}
+
+static uint64_t render_of(uint32_t code, size_t n) {
+    settings.code = code;
+    return gav_render_with(&settings, score, sizeof score, out, n, shelf, gav_shelf_words(n));
+}
+static uint64_t render_longest(void) { return render_of(GAV_SINE, GAV_MOST_SAMPLES); }
+static uint64_t render_sine(void) { return render_of(GAV_SINE, N); }
+static uint64_t render_square(void) { return render_of(GAV_SQUARE, N); }
+static uint64_t render_sawtooth(void) { return render_of(GAV_SAWTOOTH, N); }
+static uint64_t render_triangle(void) { return render_of(GAV_TRIANGLE, N); }
+static uint64_t render_pulse(void) { return render_of(GAV_PULSE, N); }
+static uint64_t render_refused(void) { return render_of(GAV_PULSE + 1, N); }
+
+/* After a render of the pulse. The edit is in the last record, which lies before N. */
+static uint64_t rerender_of(const uint8_t *old, const uint8_t *new_, size_t new_len) {
+    return gav_rerender_with(&settings, old, sizeof score, new_, new_len, out, N, shelf, gav_shelf_words(N));
+}
+static uint64_t rerender_late(void) { return rerender_of(score, edited, sizeof edited); }
+static uint64_t rerender_all(void) { return rerender_of(edited, score, 0); }
+static uint64_t rerender_equal(void) { return rerender_of(score, score, sizeof score); }
+static uint64_t rerender_refused(void) { return rerender_of(score, score, 19); }
+static uint64_t rerender_start(void) {
+    memset(shelf, 0xFF, sizeof shelf);
+    return rerender_of(score, score, 0);
+}
+
+static uint64_t continue_of(uint32_t code) {
+    uint64_t said = gav_fresh(state, GAV_STATE_WORDS);
+    settings.code = code;
+    for (size_t at = 0; at < N && said == 0; at += 997) {
+        size_t n = N - at < 997 ? N - at : 997;
+        said = gav_number(gav_continue_with(&settings, score, sizeof score, state, GAV_STATE_WORDS, at, out, n));
+    }
+    return said;
+}
+static uint64_t continue_sine(void) { return continue_of(GAV_SINE); }
+static uint64_t continue_triangle(void) { return continue_of(GAV_TRIANGLE); }
+static uint64_t continue_pulse(void) { return continue_of(GAV_PULSE); }
+static uint64_t continue_refused(void) {
+    return gav_continue_with(&settings, score, sizeof score, state, 1, 0, out, 1);
+}
+
+static const struct call calls[] = {
+    {"gav_version", version, 0},
+    {"gav_words", words, 0},
+    {"gav_check_score, 4,096 records", check, 0},
+    {"gav_check_score, refused", check_length, GAV_SCORE_LENGTH},
+    {"gav_sample, gav_sample_says", samples, 0},
+    {"gav_sample, refused", sample_refused, GAV_SETTING},
+    {"gav_fresh", fresh, 0},
+    {"gav_fresh, refused", fresh_refused, GAV_ARGUMENT},
+    {"gav_list, 4,096 records", list, 0},
+    {"gav_list, a refused score", list_refused, 0},
+    {"gav_list, refused", list_short, GAV_SIZE},
+    {"gav_render, the longest sine", render_longest, 0},
+    {"gav_render, sine", render_sine, 0},
+    {"gav_render, square", render_square, 0},
+    {"gav_render, sawtooth", render_sawtooth, 0},
+    {"gav_render, triangle", render_triangle, 0},
+    {"gav_render, refused", render_refused, GAV_SETTING},
+    {"gav_render, pulse", render_pulse, 0},
+    {"gav_rerender, the last record", rerender_late, 0},
+    {"gav_rerender, into no record", rerender_all, 0},
+    {"gav_rerender, equal scores", rerender_equal, 0},
+    {"gav_rerender, a refused score", rerender_refused, GAV_NEW_SCORE_LENGTH},
+    {"gav_rerender, no state", rerender_start, GAV_START_ENTRY},
+    {"gav_continue, sine", continue_sine, 0},
+    {"gav_continue, triangle", continue_triangle, 0},
+    {"gav_continue, pulse", continue_pulse, 0},
+    {"gav_continue, refused", continue_refused, GAV_GIVEN_STATE},
+};
+
+/* 4,096 records, 24 samples apart: keys down and up, and now and then a reset. */
+static void make_scores(void) {
+    for (uint32_t i = 0; i < RECORDS; i++) {
+        const uint32_t at = 24 * i;
+        const uint8_t kind = i % 100 == 99 ? 3 : 1 + i % 3 / 2;
+        const uint8_t note = kind == 3 ? 0 : (uint8_t)(40 + i * 7 % 60);
+        const uint8_t record[10] = {0x56, 0x4E, (uint8_t)at, (uint8_t)(at >> 8),  (uint8_t)(at >> 16),
+                                    0,    kind, note,        kind == 1 ? 100 : 0, 0};
+        memcpy(score + 10 * i, record, sizeof record);
+    }
+    memcpy(edited, score, sizeof score);
+    edited[sizeof edited - 3] = 77;
+    edited[sizeof edited - 4] = 1;
+}
+
+/* Takes more than a call may, to see that it is told. */
+static uint64_t waste(void) {
+    volatile unsigned char much[ALLOWED + 1000];
+    for (size_t i = 0; i < sizeof much; i++) much[i] = 1;
+    return much[0] == 1 ? 0 : 1;
+}
+
+static void *on_thread(void *given) {
+    static uint64_t said;
+    const struct call *call = given;
+    entered = __builtin_frame_address(0);
+    said = call->make();
+    return &said;
+}
+
+/* The bytes of stack that a call took, from the frame that made it down. */
+static size_t measure(const struct call *call) {
+    pthread_attr_t attributes;
+    pthread_t thread;
+    void *said;
+    memset(stack, PAINT, sizeof stack);
+    if (pthread_attr_init(&attributes) || pthread_attr_setstack(&attributes, stack, sizeof stack) ||
+        pthread_create(&thread, &attributes, on_thread, (void *)(uintptr_t)call) || pthread_join(thread, &said)) {
+        printf("no thread could be run\n");
+        exit(1);
+    }
+    pthread_attr_destroy(&attributes);
+    if (gav_number(*(uint64_t *)said) != call->number) {
+        printf("%s: answers %u, and not %u\n", call->name, gav_number(*(uint64_t *)said), call->number);
+        exit(1);
+    }
+    unsigned char *low = stack;
+    while (low < entered && *low == PAINT) low++;
+    return (size_t)(entered - low);
+}
+
+int main(void) {
+    static const struct call wasteful = {"a wasteful call", waste, 0};
+    size_t most = 0;
+    make_scores();
+    if (measure(&wasteful) <= ALLOWED) {
+        printf("a wasteful call is measured at %zu bytes: the measure is wrong\n", measure(&wasteful));
+        return 1;
+    }
+    for (size_t i = 0; i < LEN(calls); i++) {
+        size_t used = measure(&calls[i]);
+        printf("%6zu bytes  %s%s\n", used, calls[i].name, used > ALLOWED ? ": TOO MUCH" : "");
+        if (used > most) most = used;
+    }
+    printf("at most %zu bytes, %zu KB\n", most, (most + 1023) / 1024);
+    return most > ALLOWED;
+}
