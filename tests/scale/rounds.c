@@ -43,7 +43,18 @@ static void part(struct round *r, uint64_t *state, size_t known, size_t position
     r->tally->words += GAV_STATE_WORDS;
 }
 
-/* Parts of any length from the fresh state on are the render; the score grows at its end in every other round. */
+/* What the parts left is the render of the whole. */
+static void same_whole(const struct round *r, const uint64_t *state) {
+    const uint64_t *played = words_of(&r->lent, OUT);
+    if (memcmp(state, r->heard.state, sizeof r->heard.state) != 0)
+        differ(r, "the state at the end is not the render's");
+    for (size_t i = 0; i < r->n; i++) {
+        bool same = is_judged(r, number(played[i]), r->heard.samples[i], r->heard.scales[i]);
+        if (!same) differ(r, "sample %zu is not the render's", i);
+    }
+}
+
+/* Parts of any length from the fresh state on; the score grows at its end in every other round. */
 static void parts(struct round *r) {
     uint64_t state[GAV_STATE_WORDS];
     size_t known = 0, position = 0, count = score_count(&r->score);
@@ -58,12 +69,7 @@ static void parts(struct round *r) {
         part(r, state, known, position, length);
         position += length;
     } while (position < r->n);
-    if (memcmp(state, r->heard.state, sizeof state) != 0) differ(r, "the state at the end is not the render's");
-    for (size_t i = 0; i < r->n; i++) {
-        double sample = number(words_of(&r->lent, OUT)[i]);
-        if (!is_judged(r, sample, r->heard.samples[i], r->heard.scales[i]))
-            differ(r, "sample %zu is not the render's", i);
-    }
+    same_whole(r, state);
 }
 
 /* A part from a state that no score may reach. */

@@ -92,16 +92,22 @@ static int by_size(const void *a, const void *b) {
     return (x > y) - (x < y);
 }
 
-/* From no record to 4,096, over the whole output and somewhat more, or all near its begin. */
-void random_score(struct chance *c, size_t n, struct score *score) {
-    static uint32_t positions[MOST_RECORDS];
-    static struct hands hands;
+/* Over the whole output and somewhat more, or all near its begin. */
+static void random_positions(struct chance *c, size_t n, uint32_t *positions, size_t count) {
     const size_t windows[] = {n, n, n + n / 4, n < 150 ? n : 150};
-    size_t count = random_count(c, n), window = 1 + PICK(c, windows);
+    size_t window = 1 + PICK(c, windows);
     for (size_t i = 0; i < count; i++) {
         positions[i] = random_position(c, window, n, i > 0 ? &positions[i - 1] : NULL);
     }
     qsort(positions, count, sizeof *positions, by_size);
+}
+
+/* From no record to 4,096. */
+void random_score(struct chance *c, size_t n, struct score *score) {
+    static uint32_t positions[MOST_RECORDS];
+    static struct hands hands;
+    size_t count = random_count(c, n);
+    random_positions(c, n, positions, count);
     sit_down(c, &hands);
     for (size_t i = 0; i < count; i++) play_next(c, &hands, score->bytes + RECORD * i, positions[i]);
     score->len = RECORD * count;
