@@ -8,7 +8,8 @@
 #define PAD_WINDOWS 92u
 #define MOST_LATE_MS 1000
 
-static const struct settings falling = {48000, 1, 0.5, 0.06, 10, 0, 0.3};
+static const struct gav_settings falling = {
+    .rate = 48000, .code = GAV_SQUARE, .duty = 0.5, .attack = 0.06, .decay = 10, .sustain = 0, .release = 0.3};
 
 struct chart_call {
     const char *svg_path, *table_path;
@@ -64,9 +65,9 @@ static bool write_files(const struct chart_call *c, struct why *why) {
     return done;
 }
 
-static bool read_pad(const struct setting_texts *texts, const char *edits_text, const char *late_text, struct pad *pad,
+static bool read_pad(struct setting_texts *texts, const char *edits_text, const char *late_text, struct pad *pad,
                      struct why *why) {
-    struct settings given;
+    struct gav_settings given;
     uint64_t edits = 5;
     double late = 20;
     if (!read_settings(texts, &given, why)) return false;
@@ -77,7 +78,7 @@ static bool read_pad(const struct setting_texts *texts, const char *edits_text, 
         return misuse(why, "--late: %s is not 0 to %d ms", late_text, MOST_LATE_MS);
     pad->settings = falling;
     pad->settings.rate = given.rate;
-    if (texts->wave) pad->settings.code = given.code;
+    if (*setting_text(texts, "--wave")) pad->settings.code = given.code;
     /* A rate that the library will refuse still needs a window of a sample, and no more than it would need at the
      * highest. */
     uint32_t rate = given.rate < 8000 ? 8000 : given.rate > 192000 ? 192000 : given.rate;
@@ -89,14 +90,17 @@ static bool read_pad(const struct setting_texts *texts, const char *edits_text, 
 }
 
 static bool read_chart(char **given, struct chart_call *c, struct why *why) {
-    struct setting_texts texts = {NULL, NULL, NULL, NULL, NULL};
+    struct setting_texts texts = {.of = {NULL}};
     const char *edits = NULL, *late = NULL;
-    struct option options[] = {
-        {"-o", &c->svg_path, NULL}, {"--table", &c->table_path, NULL}, {"--edits", &edits, NULL},
-        {"--late", &late, NULL},    {"--rate", &texts.rate, NULL},     {"--wave", &texts.wave, NULL},
-        {NULL, NULL, NULL}};
-    struct option operands[] = {{NULL, NULL, NULL}};
-    if (!read_arguments(given, options, operands, why)) return false;
+    struct option options[] = {{.name = "-o", .value = &c->svg_path},
+                               {.name = "--table", .value = &c->table_path},
+                               {.name = "--edits", .value = &edits},
+                               {.name = "--late", .value = &late},
+                               {.name = "--rate", .value = setting_text(&texts, "--rate")},
+                               {.name = "--wave", .value = setting_text(&texts, "--wave")},
+                               {.name = NULL}};
+    struct option operands[] = {{.name = NULL}};
+    if (!read_arguments(given, &(struct arguments){.options = options, .operands = operands}, why)) return false;
     if (!c->svg_path) c->svg_path = "chart.svg";
     if (c->table_path && same_file(c->table_path, c->svg_path))
         return misuse(why, "the drawing and the table are one file");
@@ -114,18 +118,20 @@ static bool run_chart(char **given, struct why *why) {
 }
 
 const struct verb chart_verb = {
-    "chart",
-    "draws what edits do to a slowly falling pad, ours and the old way's",
-    "desk chart [-o chart.svg] [--table FILE] [--edits 5] [--late 20] [--rate 48000] [--wave square]\n"
-    "Renders a slowly falling pad and edits it in two ways: by the re-render, and in the old way, each edit from a "
-    "state\n"
-    "some milliseconds past the cut. Draws how far the level of both is from a render of the same score from sample\n"
-    "zero, and prints a table of it.\n"
-    "  -o FILE          the drawing (chart.svg)\n"
-    "  --table FILE     the table, instead of standard output\n"
-    "  --edits K        how many edits, 1 to 15 (5)\n"
-    "  --late MS        how late the old way is, 0 to 1000 ms (20)\n"
-    "  --rate HZ        samples a second, 8000 to 192000 Hz (48000)\n"
-    "  --wave NAME      the pad's waveform (square, whose level does not depend on where in a cycle it is taken)\n",
-    run_chart,
+    .name = "chart",
+    .summary = "draws what edits do to a slowly falling pad, ours and the old way's",
+    .help =
+        "desk chart [-o chart.svg] [--table FILE] [--edits 5] [--late 20] [--rate 48000] [--wave square]\n"
+        "Renders a slowly falling pad and edits it in two ways: by the re-render, and in the old way, each edit from a "
+        "state\n"
+        "some milliseconds past the cut. Draws how far the level of both is from a render of the same score from "
+        "sample\n"
+        "zero, and prints a table of it.\n"
+        "  -o FILE          the drawing (chart.svg)\n"
+        "  --table FILE     the table, instead of standard output\n"
+        "  --edits K        how many edits, 1 to 15 (5)\n"
+        "  --late MS        how late the old way is, 0 to 1000 ms (20)\n"
+        "  --rate HZ        samples a second, 8000 to 192000 Hz (48000)\n"
+        "  --wave NAME      the pad's waveform (square, whose level does not depend on where in a cycle it is taken)\n",
+    .run = run_chart,
 };

@@ -41,7 +41,7 @@ static void take_in(struct range *range, double percent) {
 }
 
 static struct range range_of(const struct pad *pad, const struct pad_chart *chart) {
-    struct range range = {0, -1, 0};
+    struct range range = {.highest = 0, .lowest = -1};
     for (unsigned i = 0; i <= pad->edits; i++) {
         take_in(&range, percent_off(chart->rows[i].ours, chart->rows[i].zero));
         take_in(&range, percent_off(chart->rows[i].old, chart->rows[i].zero));
@@ -112,8 +112,8 @@ static void draw_legend(FILE *out, const struct pad *pad) {
 void svg_draw(FILE *out, const struct pad *pad, const struct pad_chart *chart) {
     struct range range = range_of(pad, chart);
     double seconds = (double)pad->samples / pad->settings.rate;
-    struct panel left = {60, 56, 280, 200, pad->edits, range};
-    struct panel right = {420, 56, 280, 200, seconds, range};
+    struct panel left = {.left = 60, .top = 56, .width = 280, .height = 200, .across = pad->edits, .range = range};
+    struct panel right = {.left = 420, .top = 56, .width = 280, .height = 200, .across = seconds, .range = range};
     char title[64];
     fprintf(out, "<svg xmlns=\"http://www.w3.org/2000/svg\" width=\"720\" height=\"332\" viewBox=\"0 0 720 332\" "
                  "font-family=\"sans-serif\" font-size=\"11\" fill=\"#222\">\n"

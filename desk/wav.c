@@ -48,19 +48,6 @@ void wav_samples(unsigned bits, const double *from, size_t samples, uint8_t *to)
     }
 }
 
-bool wav_write(struct draft *draft, const struct wav *wav, const double *samples, struct why *why) {
-    uint8_t room[8 * GAV_MARK];
-    wav_head(wav, room);
-    if (!draft_write(draft, room, WAV_HEAD, why)) return false;
-    for (size_t done = 0; done < wav->samples;) {
-        size_t part = wav->samples - done < GAV_MARK ? wav->samples - done : GAV_MARK;
-        wav_samples(wav->bits, samples + done, part, room);
-        if (!draft_write(draft, room, wav->bits / 8 * part, why)) return false;
-        done += part;
-    }
-    return true;
-}
-
 /* The fmt chunk's fields; false in words where it is not one channel of floats. */
 static bool look_at_fmt(const uint8_t *at, size_t len, struct wav *wav, struct why *why) {
     if (wav->bits) return refuse(why, "it is damaged: it has two fmt chunks");
@@ -86,10 +73,11 @@ static bool look_at_data(size_t at, size_t len, struct wav *wav, struct why *why
 }
 
 bool wav_look(const uint8_t *file, size_t len, struct wav *wav, struct why *why) {
-    *wav = (struct wav){0, 0, 0, 0};
+    *wav = (struct wav){.bits = 0};
     if (len < 12 || memcmp(file, "RIFF", 4) != 0 || memcmp(file + 8, "WAVE", 4) != 0) {
         return refuse(why, "it is no WAV");
     }
+    if (len > WAV_MOST) return refuse(why, "it is longer than %zu bytes", (size_t)WAV_MOST);
     if (get_u32(file + 4) != len - CHUNK_HEAD) {
         return refuse(why, "it is damaged: it has %zu bytes, and says that it has %llu", len,
                       (unsigned long long)get_u32(file + 4) + CHUNK_HEAD);
@@ -107,4 +95,9 @@ bool wav_look(const uint8_t *file, size_t len, struct wav *wav, struct why *why)
         at = body + size + (size % 2 && body + size < len);
     }
     return wav->data ? true : refuse(why, "it is damaged: it has no data chunk");
+}
+
+size_t wav_without_peak(uint8_t *file, size_t len) {
+    (void)file;
+    return len;
 }
