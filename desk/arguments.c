@@ -49,7 +49,8 @@ bool read_arguments(char **given, const struct arguments *takes, struct why *why
             *operand++->value = word;
         }
     }
-    return operand->name ? misuse(why, "%s is missing", operand->name) : true;
+    if (!operand->name || (takes->or_no_operands && operand == takes->operands)) return true;
+    return misuse(why, "%s is missing", operand->name);
 }
 
 bool read_number(const char *name, const char *text, double *value, struct why *why) {

@@ -172,10 +172,11 @@ struct option {
     const char **value;
 };
 
-/* What a verb takes; settings is NULL where it takes none. */
+/* What a verb takes; settings is NULL where it takes none. or_no_operands: they may be left out, all together. */
 struct arguments {
     const struct option *options, *operands;
     struct setting_texts *settings;
+    bool or_no_operands;
 };
 
 bool read_arguments(char **given, const struct arguments *takes, struct why *why);
@@ -226,25 +227,89 @@ uint64_t voice_rerender(const struct gav_settings *s, const struct score *before
 uint64_t voice_continue(const struct gav_settings *s, const struct score *score, struct state *state, size_t position,
                         double *part, size_t samples);
 
-/* wav.c: a WAV of one channel of floats. */
+/* wav.c: a WAV of one channel, of floats or, as an export, of whole numbers. */
 
-#define WAV_HEAD 58u
-#define WAV_MOST (WAV_HEAD + 8u * GAV_MOST_SAMPLES + 1048576u)
+/* Bytes of the longest head that is written; and of a file that is read at most, with room for others' chunks. */
+#define WAV_HEAD_MOST 160u
+#define WAV_MOST (WAV_HEAD_MOST + 8u * GAV_MOST_SAMPLES + 1048576u)
+/* Where the first chunk stands. */
+#define WAV_CHUNKS 12u
 
+/* The first line describes a WAV that is written; gain is the decibels of an export, or empty, and data the byte where
+   the samples begin. The rest is what a file that was read says of itself. */
 struct wav {
     unsigned bits;
     uint32_t rate;
-    size_t samples;
-    size_t data;
+    size_t samples, data;
+    char gain[32];
+    unsigned format, channels, align;
+    uint32_t byte_rate, fact;
+    size_t bytes;
+    bool has_fmt, has_fact;
 };
 
-void wav_head(const struct wav *wav, uint8_t head[WAV_HEAD]);
-/* Samples as they stand in a file of so many bits. */
+struct chunk {
+    const uint8_t *name;
+    size_t body, size, next;
+};
+
+/* Puts the head, and answers its length. */
+size_t wav_head(const struct wav *wav, uint8_t head[WAV_HEAD_MOST]);
+/* Samples as they stand in a file of so many bits: 16, 24, 32 or 64. */
 void wav_samples(unsigned bits, const double *from, size_t samples, uint8_t *to);
-/* Where the samples stand in a file of any chunks. */
+/* What a file holds there. */
+void wav_values(const struct wav *wav, const uint8_t *file, size_t first, size_t samples, double *to);
+/* The bytes of the file, to be freed; says where the samples begin. */
+bool wav_bytes(struct wav *wav, const double *samples, struct bytes *file, struct why *why);
+/* The chunk at a byte within the file; false where it ends past the file. */
+bool wav_chunk(const uint8_t *file, size_t len, size_t at, struct chunk *chunk);
+bool wav_is_chunk(const struct chunk *chunk, const char name[5]);
+/* What the chunks of a file say, of any program; refused where it is no WAV, or its chunks are damaged. */
+bool wav_read(const uint8_t *file, size_t len, struct wav *wav, struct why *why);
+/* Of a file that was read: whether it has samples as the desk writes them, in a render or an export; */
+bool wav_is_readable(const struct wav *wav);
+/* of such a one, whether its numbers that follow from others are right (a player may seek by its byte rate); */
+bool wav_agrees(const struct wav *wav, struct why *why);
+/* and whether the desk can go on from it: one channel of floats without a gain. */
+bool wav_is_ours(const struct wav *wav, struct why *why);
+/* All of it: a WAV of the desk's. */
 bool wav_look(const uint8_t *file, size_t len, struct wav *wav, struct why *why);
-/* Takes out what another program said of the samples' peak; how long the file is then. */
+/* Takes the PEAK chunks out of a file that was looked at, since new samples make them wrong, and answers its new
+   length; the file is to be looked at again. */
 size_t wav_without_peak(uint8_t *file, size_t len);
+
+/* level.c: how loud samples are. */
+
+/* The largest magnitude and its first sample; below 0 where there are no samples. */
+struct peak {
+    double level;
+    size_t at;
+};
+
+struct peak peak_of(const double *from, size_t samples);
+double level_of(const double *from, size_t samples);
+/* In percent, never below -100. */
+double percent_off(double level, double reference);
+/* The peak in words, with the line's end; and after a path. */
+void put_peak(FILE *out, struct peak peak, uint32_t rate);
+void tell_peak(FILE *out, const char *path, struct peak peak, uint32_t rate);
+
+/* export.c: the bits and the gain of a WAV. */
+
+/* gain is the decibels in words, empty where none were given, and factor what they multiply a sample by. */
+struct export {
+    unsigned bits;
+    double factor;
+    char gain[32];
+};
+
+/* From the options' texts, NULL where one was not given; shelf is told that an export has none. */
+bool read_export(const char *bits, const char *gain, const char *shelf, struct export *export, struct why *why);
+/* The samples as the WAV will hold them, but not yet cut off at 1. */
+void export_apply(const struct export *export, double *at, size_t samples);
+struct wav export_wav(const struct export *export, uint32_t rate, size_t samples);
+/* How many samples whole numbers cut off at 1. */
+size_t export_clips(const struct export *export, const double *at, size_t samples);
 
 /* shelf_file.c: a shelf in a file, with all that a re-render needs beside the new score and the WAV. */
 
@@ -282,9 +347,64 @@ struct verb {
     bool (*run)(char **given, struct why *why);
 };
 
-extern const struct verb check_verb, list_verb, make_verb, render_verb, rerender_verb, play_verb, chart_verb;
+extern const struct verb check_verb, list_verb, make_verb, render_verb, rerender_verb, play_verb, verify_verb,
+    info_verb, chart_verb;
 
-/* pad.c: the pad of the chart and its edits; svg.c: its drawing. */
+/* from_zero.c: a WAV, and the render of its score from sample zero beside it, for verify and chart. */
+
+/* The paths and the options' texts are the verb's to fill in; shelf_path is NULL where none is given. held are the
+   WAV's samples, and zero's are rounded as the WAV holds them. */
+struct from_zero {
+    const char *score_path, *wav_path, *shelf_path;
+    struct setting_texts texts;
+    struct gav_settings settings;
+    struct score score;
+    struct bytes file, shelf;
+    struct wav wav;
+    struct shelf_file about;
+    double *held;
+    struct sound zero;
+};
+
+bool from_zero_make(struct from_zero *z, struct why *why);
+void from_zero_free(struct from_zero *z);
+/* How many samples both have. */
+size_t from_zero_common(const struct from_zero *z);
+
+/* svg.c: a drawing of levels. */
+
+struct curve {
+    const char *color;
+    size_t points;
+    const double *across, *percent;
+};
+
+/* How far it goes to the right, in the numbers of its curves, and from tick to tick. */
+struct panel {
+    double left, width, across, tick;
+    const char *title, *below;
+    size_t curves;
+    struct curve curve[2];
+};
+
+struct legend {
+    int left;
+    const char *color, *words;
+};
+
+/* Whose level it is that is drawn. */
+struct drawing {
+    const char *name;
+    size_t panels, legends;
+    struct panel panel[2];
+    struct legend legend[2];
+};
+
+void svg_draw(FILE *out, const struct drawing *drawing);
+/* From tick to tick, so that there are at most ten. */
+double svg_tick(double across);
+
+/* pad.c: the pad of the chart and its edits; chart_pad.c: its options, its drawing and its table. */
 
 struct pad {
     struct gav_settings settings;
@@ -304,13 +424,35 @@ struct pad_row {
 
 /* A row for no edit and for each edit; and at the end, window by window, how far the level is from zero's. */
 struct pad_chart {
+    const struct pad *pad;
     struct pad_row rows[PAD_MOST_EDITS + 1u];
     size_t points;
     double ours[PAD_POINTS], old[PAD_POINTS];
 };
 
+bool read_pad(struct setting_texts *texts, const char *edits, const char *late, struct pad *pad, struct why *why);
 bool pad_run(const struct pad *pad, struct pad_chart *chart, struct why *why);
-double percent_off(double level, double reference);
-void svg_draw(FILE *out, const struct pad *pad, const struct pad_chart *chart);
+void pad_draw(FILE *out, const void *chart);
+void pad_table(FILE *out, const void *chart);
+
+/* chart_wav.c: the chart of a WAV beside the render from zero. */
+
+#define CHART_POINTS 640u
+
+struct wav_row {
+    size_t first, samples, differ;
+    double zero, held;
+};
+
+struct wav_chart {
+    const struct from_zero *beside;
+    size_t samples, window, points, differ;
+    struct wav_row rows[CHART_POINTS];
+    double across[CHART_POINTS], percent[CHART_POINTS];
+};
+
+bool wav_chart_make(const struct from_zero *beside, struct wav_chart *chart, struct why *why);
+void wav_chart_draw(FILE *out, const void *chart);
+void wav_chart_table(FILE *out, const void *chart);
 
 #endif

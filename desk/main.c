@@ -5,7 +5,8 @@
 #include <string.h>
 
 static const struct verb *const verbs[] = {
-    &check_verb, &list_verb, &make_verb, &render_verb, &rerender_verb, &play_verb, &chart_verb,
+    &check_verb, &list_verb,   &make_verb, &render_verb, &rerender_verb,
+    &play_verb,  &verify_verb, &info_verb, &chart_verb,
 };
 
 static void put_usage(FILE *out) {

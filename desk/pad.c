@@ -6,7 +6,6 @@
    same score from sample zero, never to the render before. */
 #include "desk.h"
 
-#include <math.h>
 #include <stdlib.h>
 #include <string.h>
 
@@ -58,13 +57,6 @@ static bool edit_the_old_way(struct pad_edit *e, size_t cut, struct why *why) {
     return judged(e, voice_continue(s, &e->after, &late, cut, e->old.at + cut, e->pad->samples - cut), why);
 }
 
-/* The root of the mean square. */
-static double level_of(const double *from, size_t samples) {
-    double sum = 0;
-    for (size_t i = 0; i < samples; i++) sum += from[i] * from[i];
-    return sqrt(sum / (double)samples);
-}
-
 static size_t count_differing(const struct sound *one, const struct sound *other) {
     size_t count = 0;
     for (size_t i = 0; i < one->samples; i++) count += bits_of(one->at[i]) != bits_of(other->at[i]);
@@ -81,11 +73,6 @@ static struct pad_row measure(const struct pad_edit *e, size_t cut) {
         .ours_differ = count_differing(&e->ours, &e->zero),
         .old_differ = count_differing(&e->old, &e->zero),
     };
-}
-
-double percent_off(double level, double reference) {
-    if (reference > 0) return 100 * (level - reference) / reference;
-    return level > 0 ? 100 : 0;
 }
 
 static void measure_windows(const struct pad_edit *e, struct pad_chart *chart) {
@@ -130,7 +117,7 @@ static bool make_edits(struct pad_edit *e, struct pad_chart *chart, struct why *
 bool pad_run(const struct pad *pad, struct pad_chart *chart, struct why *why) {
     struct pad_edit *e = calloc(1, sizeof *e);
     if (!e) return refuse(why, "no memory for %zu bytes", sizeof *e);
-    e->pad = pad;
+    e->pad = chart->pad = pad;
     bool done = start(e, why) && make_edits(e, chart, why);
     sound_free(&e->zero);
     sound_free(&e->ours);

@@ -1,26 +1,32 @@
 /* The verb render: a score to a WAV, and to a shelf for later edits. */
 #include "desk.h"
 
+#include <errno.h>
 #include <stdlib.h>
 #include <string.h>
+#include <unistd.h>
 
 struct render {
     const char *score_path, *wav_path, *shelf_path;
+    struct export export;
     struct shelf_file about;
     struct sound sound;
     struct pair pair;
     struct bytes wav, shelf;
 };
 
-/* How the samples are to stand in the file. */
-static bool read_format(const char *bits, struct render *r, struct why *why) {
-    r->about.bits = bits && strcmp(bits, "64") == 0 ? 64 : 32;
-    if (!bits || r->about.bits == 64 || strcmp(bits, "32") == 0) return true;
-    return misuse(why, "--bits: %s is not 32 or 64 bits", bits);
+static bool is_pipe(const struct render *r) { return strcmp(r->wav_path, "-") == 0; }
+
+/* A shelf is compared with a WAV that can be found again, and no terminal wants samples. */
+static bool check_pipe(const struct render *r, struct why *why) {
+    if (r->shelf_path) return misuse(why, "--shelf beside -o -: a shelf needs the name of its WAV");
+    if (!isatty(STDOUT_FILENO)) return true;
+    return misuse(why, "standard output is a terminal: add | aplay, or -o OUT.wav");
 }
 
 static bool check_paths(const struct render *r, struct why *why) {
     if (!r->wav_path) return misuse(why, "-o OUT.wav is missing");
+    if (is_pipe(r)) return check_pipe(r, why);
     if (same_file(r->score_path, r->wav_path) || (r->shelf_path && same_file(r->score_path, r->shelf_path))) {
         return misuse(why, "%s would be written over", r->score_path);
     }
@@ -33,16 +39,18 @@ static bool check_paths(const struct render *r, struct why *why) {
 /* The score is read before the files are locked, since standard input may be slow. */
 static bool read_render(char **given, struct render *r, struct why *why) {
     struct setting_texts texts = {.of = {NULL}};
-    const char *bits = NULL;
+    const char *bits = NULL, *gain = NULL;
     struct option options[] = {{.name = "-o", .value = &r->wav_path},
                                {.name = "--shelf", .value = &r->shelf_path},
                                {.name = "--bits", .value = &bits},
+                               {.name = "--gain", .value = &gain},
                                {.name = NULL}};
     struct option operands[] = {{.name = "SCORE", .value = &r->score_path}, {.name = NULL}};
     struct arguments takes = {.options = options, .operands = operands, .settings = &texts};
     struct shelf_file *about = &r->about;
-    return read_arguments(given, &takes, why) && check_paths(r, why) && read_format(bits, r, why) &&
-           read_settings(&texts, &about->settings, why) && read_score(r->score_path, &about->score, why) &&
+    return read_arguments(given, &takes, why) && check_paths(r, why) &&
+           read_export(bits, gain, r->shelf_path, &r->export, why) && read_settings(&texts, &about->settings, why) &&
+           read_score(r->score_path, &about->score, why) &&
            read_length(&texts, &about->settings, &about->score, &about->samples, why);
 }
 
@@ -56,22 +64,41 @@ static bool render_sound(struct render *r, struct why *why) {
 
 /* The bytes of both files; without a shelf none for it. */
 static bool make_files(struct render *r, struct why *why) {
-    const struct shelf_file *about = &r->about;
-    struct wav wav = {.bits = about->bits, .rate = about->settings.rate, .samples = about->samples, .data = WAV_HEAD};
-    size_t len = WAV_HEAD + about->bits / 8 * about->samples;
-    r->wav = (struct bytes){.at = malloc(len), .len = len};
-    if (!r->wav.at) return refuse(why, "no memory for %zu bytes", len);
-    wav_head(&wav, r->wav.at);
-    wav_samples(wav.bits, r->sound.at, wav.samples, r->wav.at + WAV_HEAD);
-    return !r->shelf_path || shelf_bytes(about, &r->sound, &wav, r->wav.at, &r->shelf, why);
+    struct shelf_file *about = &r->about;
+    about->bits = r->export.bits;
+    export_apply(&r->export, r->sound.at, about->samples);
+    struct wav wav = export_wav(&r->export, about->settings.rate, about->samples);
+    return wav_bytes(&wav, r->sound.at, &r->wav, why) &&
+           (!r->shelf_path || shelf_bytes(about, &r->sound, &wav, r->wav.at, &r->shelf, why));
 }
 
-static void tell(const struct render *r) {
+static bool open_files(struct render *r, struct why *why) {
+    return is_pipe(r) || pair_open(&r->pair, r->wav_path, r->shelf_path, why);
+}
+
+static bool write_files(struct render *r, struct why *why) {
+    if (!is_pipe(r)) return pair_write(&r->pair, &r->wav, &r->shelf, why);
+    if (write_all(STDOUT_FILENO, r->wav.at, r->wav.len)) return true;
+    return refuse(why, "standard output: cannot be written: %s", strerror(errno));
+}
+
+/* The form of the samples, their peak, and what was cut off. */
+static void tell_wav(FILE *out, const char *path, const struct render *r) {
     const struct gav_settings *s = &r->about.settings;
-    size_t samples = r->about.samples, entries = r->sound.words / GAV_STATE_WORDS;
-    printf("%s: %zu %s, %.3f s at %u Hz, %s, %u-bit floats\n", r->wav_path, samples,
-           counted(samples, "sample", "samples"), (double)samples / s->rate, s->rate, wave_name(s->code),
-           r->about.bits);
+    const struct export *export = &r->export;
+    size_t samples = r->about.samples, clips = export_clips(export, r->sound.at, samples);
+    fprintf(out, "%s: %zu %s, %.3f s at %u Hz, %s, %u-bit %s%s%s%s\n", path, samples,
+            counted(samples, "sample", "samples"), (double)samples / s->rate, s->rate, wave_name(s->code), export->bits,
+            export->bits < 32 ? "whole numbers" : "floats", *export->gain ? ", gain " : "", export->gain,
+            *export->gain ? " dB" : "");
+    tell_peak(out, path, peak_of(r->sound.at, samples), s->rate);
+    if (clips > 0) fprintf(out, "%s: %zu of %zu samples are above 1, and clipped\n", path, clips, samples);
+}
+
+/* What goes into a pipe is told beside it. */
+static void tell(const struct render *r) {
+    size_t entries = r->sound.words / GAV_STATE_WORDS;
+    tell_wav(is_pipe(r) ? stderr : stdout, is_pipe(r) ? "standard output" : r->wav_path, r);
     if (!r->shelf_path) return;
     printf("%s: %zu %s of %d words\n", r->shelf_path, entries, counted(entries, "entry", "entries"), GAV_STATE_WORDS);
 }
@@ -80,8 +107,8 @@ static bool run_render(char **given, struct why *why) {
     struct render *r = calloc(1, sizeof *r);
     if (!r) return refuse(why, "no memory for %zu bytes", sizeof *r);
     r->pair = NO_PAIR;
-    bool done = read_render(given, r, why) && pair_open(&r->pair, r->wav_path, r->shelf_path, why) &&
-                render_sound(r, why) && make_files(r, why) && pair_write(&r->pair, &r->wav, &r->shelf, why);
+    bool done = read_render(given, r, why) && open_files(r, why) && render_sound(r, why) && make_files(r, why) &&
+                write_files(r, why);
     if (done) tell(r);
     pair_drop(&r->pair);
     sound_free(&r->sound);
@@ -97,9 +124,12 @@ const struct verb render_verb = {
     .help = "desk render SCORE -o OUT.wav [options]\n"
             "Renders every sample of the score from sample zero. SCORE may be - for standard input.\n"
             "The sound has at most 16777216 samples (349.5 s at 48000 Hz).\n"
-            "  -o OUT.wav       the WAV: one channel of floats\n"
-            "  --bits 32|64     bits of a sample in the WAV (32)\n"
-            "  --shelf FILE     what `desk rerender` needs beside the WAV: states, settings, length and score\n",
+            "  -o OUT.wav       the WAV: one channel; - for standard output, as in desk render SCORE -o - | aplay\n"
+            "  --shelf FILE     what `desk rerender` needs beside the WAV: states, settings, length and score\n"
+            "  --bits 32|64     bits of a sample, a float (32)\n"
+            "  --bits 16|24     an export for other programs: whole numbers, rounded; what is above 1 is clipped\n"
+            "  --gain DB        an export that is louder, or softer where DB is below 0; -200 to 200 dB\n"
+            "An export has no shelf, since a re-render would go on without the gain or the rounding.\n",
     .settings = true,
     .run = run_render,
 };

@@ -92,7 +92,8 @@ static bool write_files(struct rerender *r, struct why *why) {
            pair_write(&r->pair, r->count > 0 ? &r->wav_file : &nothing, &r->new_shelf, why);
 }
 
-static void tell(const struct rerender *r) {
+/* The peak of the whole sound, of which the voice made only the end. */
+static void tell(struct rerender *r) {
     size_t samples = r->about.samples, mark = samples - r->count;
     const char *of = counted(samples, "sample", "samples");
     if (r->equal) {
@@ -103,6 +104,8 @@ static void tell(const struct rerender *r) {
         printf("%s: %zu of %zu %s rendered again, from sample %zu (%.3f s) on\n", r->wav_path, r->count, samples, of,
                mark, (double)mark / r->about.settings.rate);
     }
+    wav_values(&r->wav, r->wav_file.at, 0, samples, r->sound.at);
+    tell_peak(stdout, r->wav_path, peak_of(r->sound.at, samples), r->wav.rate);
 }
 
 static bool read_rerender(char **given, struct rerender *r, struct why *why) {
