@@ -32,6 +32,14 @@ static void hold(const struct dice *dice, bool holds, const char *promise) {
     exit(1);
 }
 
+/* Room for words, and none in it. */
+static struct why *no_words(void) {
+    static struct why why;
+    why.status = DONE;
+    why.text[0] = '\0';
+    return &why;
+}
+
 /* Keeps count of what a reader said, and answers it. */
 static bool said(struct dice *dice, bool accepted) {
     uint64_t reader = dice->round % READERS;
@@ -104,23 +112,23 @@ static size_t list(const struct dice *dice, const struct score *score, uint8_t *
 static void hold_inverse(const struct dice *dice, const struct score *score) {
     static uint8_t text[GAV_LIST_ROOM];
     static struct score again;
-    struct why why;
+    struct why *why = no_words();
     size_t len = list(dice, score, text);
     uint8_t *copy = exact(text, len);
-    hold(dice, score_of_text(copy, len, &again, &why), "a list makes no score");
+    hold(dice, score_of_text(copy, len, &again, why), "a list makes no score");
     hold(dice, again.len == score->len && memcmp(again.at, score->at, score->len) == 0, "a list makes another score");
     free(copy);
 }
 
 static void try_score(struct dice *dice) {
     static struct score score;
-    struct why why = {DONE, ""};
+    struct why *why = no_words();
     random_score(dice, &score);
     score.len = damage(dice, score.at, score.len, sizeof score.at);
-    if (said(dice, check_score("score", &score, &why))) {
+    if (said(dice, check_score("score", &score, why))) {
         hold_inverse(dice, &score);
     } else {
-        hold(dice, why.status == REFUSED && strstr(why.text, "refused ") != NULL,
+        hold(dice, why->status == REFUSED && strstr(why->text, "refused ") != NULL,
              "a score is refused without a number");
     }
 }
@@ -128,52 +136,75 @@ static void try_score(struct dice *dice) {
 static void try_text(struct dice *dice) {
     static uint8_t text[GAV_LIST_ROOM + 4096];
     static struct score score;
-    struct why why = {DONE, ""};
+    struct why *why = no_words();
     random_score(dice, &score);
     size_t len = damage(dice, text, list(dice, &score, text), sizeof text);
     uint8_t *copy = exact(text, len);
-    if (said(dice, score_of_text(copy, len, &score, &why))) {
+    if (said(dice, score_of_text(copy, len, &score, why))) {
         hold_inverse(dice, &score);
     } else {
-        hold(dice, why.status == REFUSED && strstr(why.text, "line ") == why.text, "a text is refused without a line");
+        hold(dice, why->status == REFUSED && strstr(why->text, "line ") == why->text,
+             "a text is refused without a line");
     }
     free(copy);
 }
 
-/* The library answers to whatever words an accepted shelf has. */
-static void use_shelf(struct dice *dice, const uint8_t *file, const struct shelf_head *head) {
-    static struct score before, after;
+/* The library answers to whatever words an accepted shelf has, and the desk has words for the answer. */
+static void use_shelf(struct dice *dice, const uint8_t *file, const struct shelf_file *about) {
+    static struct score after;
+    struct why *why = no_words();
     struct sound sound;
-    struct why why;
-    random_score(dice, &before);
     random_score(dice, &after);
-    if (head->samples > 20000 || !sound_make(&sound, head->samples, &why)) return;
+    if (about->samples > 20000 || !sound_make(&sound, about->samples, why)) return;
     shelf_words(file, &sound);
-    unsigned number = gav_number(voice_rerender(&head->settings, &before, &after, &sound));
-    hold(dice, number <= 8 || (number >= 17 && number <= 21), "a re-render gives a number that is not its own");
+    for (size_t i = 0; i < sound.words / GAV_STATE_WORDS; i++) shelf_sum(file, i);
+    uint64_t answer = voice_rerender(&about->settings, &about->score, &after, &sound);
+    unsigned number = gav_number(answer);
+    hold(dice, number == 0 || (number >= 6 && number <= 8), "a re-render gives a number that is not its own");
+    struct asked asked = {.old_path = "shelf",
+                          .old_score = &about->score,
+                          .new_path = "new",
+                          .new_score = &after,
+                          .settings = &about->settings,
+                          .samples = about->samples};
+    hold(dice, accepted(answer, &asked, why) == (number == 0), "an answer is told as another");
+    sound_free(&sound);
+}
+
+/* The bytes of a good shelf, in a file of its own. */
+static void good_shelf(struct dice *dice, struct bytes *file) {
+    static struct shelf_file about;
+    struct why *why = no_words();
+    static uint8_t samples[8 * 13000];
+    struct gav_settings settings = GAV_SETTINGS_DEFAULT;
+    struct sound sound;
+    settings.rate = 8000 + (uint32_t)roll(dice, 184001);
+    settings.code = (uint32_t)roll(dice, 6);
+    about.settings = settings;
+    about.samples = roll(dice, 4) ? roll(dice, 300) : roll(dice, 13000);
+    about.bits = roll(dice, 2) ? 32 : 64;
+    random_score(dice, &about.score);
+    if (!sound_make(&sound, about.samples, why)) exit(1);
+    voice_render(&settings, &about.score, &sound);
+    wav_samples(about.bits, sound.at, sound.samples, samples);
+    struct wav wav = {.bits = about.bits, .rate = settings.rate, .samples = about.samples};
+    if (!shelf_bytes(&about, &sound, &wav, samples, file, why)) exit(1);
     sound_free(&sound);
 }
 
 static void try_shelf(struct dice *dice) {
-    static struct score score;
-    struct settings settings = {8000 + (uint32_t)roll(dice, 184001), (uint32_t)roll(dice, 6), 0.5, 0.01, 0.1, 0.7, 0.3};
-    struct sound sound;
+    static struct shelf_file about;
+    struct why *why = no_words();
     struct bytes file;
-    struct why why = {DONE, ""};
-    random_score(dice, &score);
-    if (!sound_make(&sound, roll(dice, 4) ? roll(dice, 300) : roll(dice, 13000), &why)) exit(1);
-    voice_render(&settings, &score, &sound);
-    struct shelf_head head = {settings, sound.samples, 0};
-    if (!shelf_bytes(&head, &sound, &file, &why)) exit(1);
-    sound_free(&sound);
+    good_shelf(dice, &file);
     size_t len = damage(dice, file.at, file.len, file.len);
     /* A sum that was made right again, so that what lies behind it is read. */
     if (len >= 8 && roll(dice, 2)) put_u64(file.at + len - 8, sum_of(file.at, len - 8));
     uint8_t *copy = exact(file.at, len);
-    if (said(dice, shelf_look(copy, len, &head, &why))) {
-        use_shelf(dice, copy, &head);
+    if (said(dice, shelf_look(copy, len, &about, why))) {
+        use_shelf(dice, copy, &about);
     } else {
-        hold(dice, why.status == REFUSED && why.text[0], "a shelf is refused without words");
+        hold(dice, why->status == REFUSED && why->text[0], "a shelf is refused without words");
     }
     free(copy);
     free(file.at);
@@ -181,18 +212,18 @@ static void try_shelf(struct dice *dice) {
 
 static void try_wav(struct dice *dice) {
     static uint8_t file[ROOM];
-    struct wav wav = {roll(dice, 2) ? 32 : 64, 48000, roll(dice, 50), WAV_HEAD};
-    struct why why = {DONE, ""};
+    struct why *why = no_words();
+    struct wav wav = {.bits = roll(dice, 2) ? 32 : 64, .rate = 48000, .samples = roll(dice, 50), .data = WAV_HEAD};
     double samples[50] = {0};
     wav_head(&wav, file);
     wav_samples(wav.bits, samples, wav.samples, file + WAV_HEAD);
     size_t len = damage(dice, file, WAV_HEAD + wav.bits / 8 * wav.samples, ROOM);
     if (len >= 8 && roll(dice, 2)) put_u32(file + 4, (uint32_t)len - 8);
     uint8_t *copy = exact(file, len);
-    if (said(dice, wav_look(copy, len, &wav, &why))) {
+    if (said(dice, wav_look(copy, len, &wav, why))) {
         hold(dice, wav.data <= len && wav.samples * (wav.bits / 8) <= len - wav.data, "samples lie outside a WAV");
     } else {
-        hold(dice, why.status == REFUSED && why.text[0], "a WAV is refused without words");
+        hold(dice, why->status == REFUSED && why->text[0], "a WAV is refused without words");
     }
     free(copy);
 }
@@ -202,7 +233,7 @@ int main(int argc, char **argv) {
     static const char *const names[READERS] = {"scores", "texts", "shelves", "WAVs"};
     if (argc < 2 || argc > 3) return 2;
     uint64_t rounds = strtoull(argv[1], NULL, 10), seed = argc == 3 ? strtoull(argv[2], NULL, 10) : 1;
-    struct dice dice = {seed * UINT64_C(0x9E3779B97F4A7C15) | 1, 0, {0}, {0}};
+    struct dice dice = {.state = seed * UINT64_C(0x9E3779B97F4A7C15) | 1};
     for (; dice.round < rounds; dice.round++) tries[dice.round % READERS](&dice);
     printf("fuzz: %llu rounds from seed %llu", (unsigned long long)rounds, (unsigned long long)seed);
     for (unsigned i = 0; i < READERS; i++) {
