@@ -99,6 +99,8 @@ struct draft {
 
 #define NO_DRAFT ((struct draft){.fd = -1})
 
+/* Whether a path can be of a file that is written: - cannot. */
+bool names_file(const char *path, struct why *why);
 bool draft_open(struct draft *draft, const char *path, struct why *why);
 bool draft_write(struct draft *draft, const void *at, size_t len, struct why *why);
 /* All of it is on the disk after this, or it is refused. */

@@ -133,10 +133,13 @@ static bool take_temporary(struct draft *draft, struct why *why) {
     return refuse(why, "other desks are at work on %s, one after the other", draft->path);
 }
 
+bool names_file(const char *path, struct why *why) {
+    return strcmp(path, "-") != 0 || misuse(why, "what is written needs the name of a file, and not -");
+}
+
 bool draft_open(struct draft *draft, const char *path, struct why *why) {
     *draft = (struct draft){.path = path, .fd = -1};
-    if (strcmp(path, "-") == 0) return misuse(why, "what is written needs the name of a file, and not -");
-    if (!find_target(draft, why)) return false;
+    if (!names_file(path, why) || !find_target(draft, why)) return false;
     draft->temporary = temporary_name(draft->target);
     if (!draft->temporary) return refuse(why, "%s: no memory for a name beside it", path);
     let_signals_wait(draft);

@@ -114,6 +114,7 @@ static bool read_rerender(char **given, struct rerender *r, struct why *why) {
         {.name = "NEW", .value = &r->new_path}, {.name = "OUT.wav", .value = &r->wav_path}, {.name = NULL}};
     if (!read_arguments(given, &(struct arguments){.options = options, .operands = operands}, why)) return false;
     if (!r->shelf_path) return misuse(why, "--shelf FILE is missing");
+    if (!names_file(r->wav_path, why) || !names_file(r->shelf_path, why)) return false;
     if (same_file(r->shelf_path, r->wav_path)) return misuse(why, "the WAV and the shelf are one file");
     if (same_file(r->new_path, r->wav_path) || same_file(r->new_path, r->shelf_path)) {
         return misuse(why, "%s would be written over", r->new_path);

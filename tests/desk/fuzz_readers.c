@@ -48,17 +48,25 @@ static uint8_t *exact(const uint8_t *from, size_t len) {
     return copy;
 }
 
+/* Room for words, and none in it. */
+static struct why *no_words(void) {
+    static struct why why;
+    why.status = DONE;
+    why.text[0] = '\0';
+    return &why;
+}
+
 static bool is_told(const struct why *why) { return why->status == REFUSED && why->text[0]; }
 
 /* An accepted score, by way of its list. */
 static void hold_inverse(const struct score *score) {
     static uint8_t text[GAV_LIST_ROOM];
     static struct score again;
-    static struct why why;
+    struct why *why = no_words();
     uint64_t answer = gav_list(score->at, score->len, text, GAV_LIST_ROOM);
     hold(gav_number(answer) == 0 && gav_count(answer) <= GAV_LIST_ROOM, "an accepted score is not listed");
     uint8_t *copy = exact(text, gav_count(answer));
-    hold(score_of_text(copy, gav_count(answer), &again, &why), "a list makes no score");
+    hold(score_of_text(copy, gav_count(answer), &again, why), "a list makes no score");
     hold(same_score(&again, score), "a list makes another score");
     free(copy);
 }
@@ -66,36 +74,36 @@ static void hold_inverse(const struct score *score) {
 /* A longer input is a file that fills the room of a score. */
 static bool take_score(const uint8_t *at, size_t len) {
     static struct score score;
-    static struct why why;
+    struct why *why = no_words();
     score.len = len < sizeof score.at ? len : sizeof score.at;
     memcpy(score.at, at, score.len);
-    if (check_score("score", &score, &why)) {
+    if (check_score("score", &score, why)) {
         hold_inverse(&score);
         return true;
     }
-    hold(is_told(&why) && strstr(why.text, "refused ") != NULL, "a score is refused without a number");
+    hold(is_told(why) && strstr(why->text, "refused ") != NULL, "a score is refused without a number");
     return false;
 }
 
 static bool take_text(const uint8_t *at, size_t len) {
     static struct score score;
-    static struct why why;
-    if (score_of_text(at, len, &score, &why)) {
+    struct why *why = no_words();
+    if (score_of_text(at, len, &score, why)) {
         hold_inverse(&score);
         return true;
     }
-    hold(is_told(&why) && strncmp(why.text, "line ", 5) == 0, "a text is refused without a line");
+    hold(is_told(why) && strncmp(why->text, "line ", 5) == 0, "a text is refused without a line");
     return false;
 }
 
-/* The library answers to whatever words an accepted shelf has: its score without its last record is made of it. */
+/* The library answers to whatever words an accepted shelf has: the first half of its score is made of it. */
 static void use_shelf(const uint8_t *file, const struct shelf_file *about) {
     static struct score after;
-    static struct why why;
+    struct why *why = no_words();
     struct sound sound;
     after = about->score;
-    after.len -= after.len > 0 ? RECORD_BYTES : 0;
-    if (about->samples > MOST_MADE || !sound_make(&sound, about->samples, &why)) return;
+    after.len -= after.len / RECORD_BYTES / 2 * RECORD_BYTES;
+    if (about->samples > MOST_MADE || !sound_make(&sound, about->samples, why)) return;
     shelf_words(file, &sound);
     for (size_t i = 0; i < sound.words / GAV_STATE_WORDS; i++) shelf_sum(file, i);
     uint64_t answer = voice_rerender(&about->settings, &about->score, &after, &sound);
@@ -107,26 +115,26 @@ static void use_shelf(const uint8_t *file, const struct shelf_file *about) {
                           .settings = &about->settings,
                           .samples = about->samples};
     hold(number == 0 || (number >= 6 && number <= 8), "a re-render gives a number that is not its own");
-    hold(accepted(answer, &asked, &why) == (number == 0), "an answer is told as another");
+    hold(accepted(answer, &asked, why) == (number == 0), "an answer is told as another");
     sound_free(&sound);
 }
 
 static bool take_shelf(const uint8_t *at, size_t len) {
     static struct shelf_file about;
-    static struct why why;
-    if (shelf_look(at, len, &about, &why)) {
+    struct why *why = no_words();
+    if (shelf_look(at, len, &about, why)) {
         use_shelf(at, &about);
         return true;
     }
-    hold(is_told(&why), "a shelf is refused without words");
+    hold(is_told(why), "a shelf is refused without words");
     return false;
 }
 
 /* The values of every WAV whose samples can be read, taken or not, as info reads them. */
 static void read_values(const uint8_t *at, size_t len) {
-    static struct why why;
+    struct why *why = no_words();
     struct wav wav;
-    if (!wav_read(at, len, &wav, &why) || !wav_is_readable(&wav)) return;
+    if (!wav_read(at, len, &wav, why) || !wav_is_readable(&wav)) return;
     hold(wav.data <= len && wav.samples * (wav.bits / 8) <= len - wav.data, "samples lie outside a WAV");
     double *values = malloc((wav.samples + 1) * sizeof *values);
     if (!values) exit(1);
@@ -136,12 +144,12 @@ static void read_values(const uint8_t *at, size_t len) {
 }
 
 static void take_peak_out(const uint8_t *at, size_t len, const struct wav *wav) {
-    static struct why why;
+    struct why *why = no_words();
     struct wav after;
     struct chunk chunk;
     uint8_t *copy = exact(at, len);
     size_t left = wav_without_peak(copy, len);
-    hold(left <= len && wav_look(copy, left, &after, &why), "a WAV is none without its PEAK");
+    hold(left <= len && wav_look(copy, left, &after, why), "a WAV is none without its PEAK");
     hold(after.samples == wav->samples && after.bits == wav->bits && after.rate == wav->rate &&
              memcmp(copy + after.data, at + wav->data, wav->bits / 8 * wav->samples) == 0,
          "a WAV has other samples without its PEAK");
@@ -152,14 +160,14 @@ static void take_peak_out(const uint8_t *at, size_t len, const struct wav *wav) 
 }
 
 static bool take_wav(const uint8_t *at, size_t len) {
-    static struct why why;
     struct wav wav;
     read_values(at, len);
-    if (wav_look(at, len, &wav, &why)) {
+    struct why *why = no_words();
+    if (wav_look(at, len, &wav, why)) {
         take_peak_out(at, len, &wav);
         return true;
     }
-    hold(is_told(&why), "a WAV is refused without words");
+    hold(is_told(why), "a WAV is refused without words");
     return false;
 }
 
