@@ -94,20 +94,20 @@ static bool run_chart(char **given, struct why *why) {
 const struct verb chart_verb = {
     .name = "chart",
     .summary = "draws how far a WAV's level is from a render from sample zero; or what edits do to a pad",
-    .help =
-        "desk chart SCORE OUT.wav [--shelf FILE] [-o chart.svg] [--table FILE] [options]\n"
-        "desk chart [-o chart.svg] [--table FILE] [--edits 5] [--late 20] [--rate 48000] [--wave square]\n"
-        "With SCORE and OUT.wav: renders the score from sample zero, and draws how far the level of the WAV is from\n"
-        "that, each tenth of a second. Settings and length are the shelf's; without --shelf the options', with the\n"
-        "WAV's own rate and length. `desk verify` tells what differs.\n"
-        "Without: renders a slowly falling pad and edits it in two ways, by the re-render, and in the old way, each\n"
-        "edit from a state some milliseconds past the cut, and draws how far the level of both is from a render of\n"
-        "the same score from sample zero.\n"
-        "  -o FILE          the drawing (chart.svg)\n"
-        "  --table FILE     the table, instead of standard output\n"
-        "  --shelf FILE     the shelf that OUT.wav was rendered with\n"
-        "  --edits K        of the pad: how many edits, 1 to 15 (5)\n"
-        "  --late MS        of the pad: how late the old way is, 0 to 1000 ms (20)\n",
+    .help = "desk chart SCORE OUT.wav [--shelf FILE] [-o chart.svg] [--table FILE] [options]\n"
+            "desk chart [-o chart.svg] [--table FILE] [--edits 5] [--late 20] [--rate 48000] [--wave square]\n"
+            "With SCORE and OUT.wav: renders the score from sample zero, and draws how far the level of the WAV is\n"
+            "from that, each tenth of a second. Settings and length are the shelf's; without --shelf the options',\n"
+            "with the WAV's own rate and length. `desk verify` tells what differs.\n"
+            "Without: renders a slowly falling pad and edits it in two ways, by the re-render, and in the old way,\n"
+            "each edit from a state some milliseconds past the cut, and draws how far the level of both is from a\n"
+            "render of the same score from sample zero. The pad is a square wave, whose level does not depend on\n"
+            "where in a cycle it is taken.\n"
+            "  -o FILE          the drawing (chart.svg)\n"
+            "  --table FILE     the table, instead of standard output\n"
+            "  --shelf FILE     the shelf that OUT.wav was rendered with\n"
+            "  --edits K        of the pad: how many edits, 1 to 15 (5)\n"
+            "  --late MS        of the pad: how late the old way is, 0 to 1000 ms (20)\n",
     .settings = true,
     .run = run_chart,
 };

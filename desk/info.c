@@ -158,12 +158,9 @@ const struct verb info_verb = {
     .name = "info",
     .summary = "tells what a file is: a WAV, a shelf, a score, or a text of one",
     .help = "desk info FILE\n"
-            "Tells what the file is, its kind first. Of a WAV: length, format, peak, and chunks that are not the "
-            "desk's; of a\n"
-            "shelf: version, settings, length, marks (entries) and the records of its score; of a score, or of a text "
-            "that\n"
-            "`desk make` takes: its records. A file that is damaged, or none of them, ends with status 1 and what is "
-            "wrong.\n"
-            "FILE may be - for standard input.\n",
+            "Tells what the file is, its kind first. Of a WAV: format, length, peak, and chunks of other programs;\n"
+            "of a shelf: version, settings, length, marks (entries) and the records of its score; of a score, or of\n"
+            "a text that `desk make` takes: its records. A file that is damaged, or none of these, ends with status\n"
+            "1 and what is wrong. FILE may be - for standard input.\n",
     .run = run_info,
 };

@@ -125,12 +125,13 @@ const struct verb render_verb = {
     .help = "desk render SCORE -o OUT.wav [options]\n"
             "Renders every sample of the score from sample zero. SCORE may be - for standard input.\n"
             "The sound has at most 16777216 samples (349.5 s at 48000 Hz).\n"
-            "  -o OUT.wav       the WAV: one channel; - for standard output, as in desk render SCORE -o - | aplay\n"
+            "An export, by --bits 16 or 24 or by --gain, is for other programs: it has no shelf, since a re-render\n"
+            "would go on without its rounding or its gain.\n"
+            "  -o OUT.wav       the WAV: one channel; - for standard output: desk render SCORE -o - | aplay\n"
             "  --shelf FILE     what `desk rerender` needs beside the WAV: states, settings, length and score\n"
-            "  --bits 32|64     bits of a sample, a float (32)\n"
-            "  --bits 16|24     an export for other programs: whole numbers, rounded; what is above 1 is clipped\n"
-            "  --gain DB        an export that is louder, or softer where DB is below 0; -200 to 200 dB\n"
-            "An export has no shelf, since a re-render would go on without the gain or the rounding.\n",
+            "  --bits 32|64     floats of so many bits (32)\n"
+            "  --bits 16|24     an export: whole numbers, rounded to the nearest; what is above 1 is clipped\n"
+            "  --gain DB        an export: louder, or softer where DB is below 0; -200 to 200 dB\n",
     .settings = true,
     .run = run_render,
 };

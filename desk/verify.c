@@ -186,17 +186,17 @@ static bool run_verify(char **given, struct why *why) {
 const struct verb verify_verb = {
     .name = "verify",
     .summary = "says whether a WAV is its score's, rendered from sample zero, and what differs",
-    .help =
-        "desk verify SCORE OUT.wav [--shelf FILE] [options]\n"
-        "Renders the score from sample zero, beside the files, and compares every sample as the WAV holds it, bit for\n"
-        "bit; with --shelf also every entry, the shelf's score, and its sums of the WAV. Nothing is written.\n"
-        "Settings and length are the shelf's; without --shelf the options', with the WAV's own rate and length.\n"
-        "The last line of standard output is, for scripts, one of\n"
-        "  same: OUT.wav is the score's: N samples\n"
-        "  differs: ..., with what differs first\n"
-        "and the exit status is 0 or 1. Status 1 without that line: it could not be compared, and why.\n"
-        "An export (--bits 16 or 24, --gain) is not compared. One of the files may be - for standard input.\n"
-        "  --shelf FILE     the shelf that OUT.wav was rendered with\n",
+    .help = "desk verify SCORE OUT.wav [--shelf FILE] [options]\n"
+            "Renders the score from sample zero, beside the files, and compares every sample as the WAV holds it,\n"
+            "bit for bit; with --shelf also every entry, the shelf's score, and its sums of the WAV. Nothing is\n"
+            "written. Settings and length are the shelf's; without --shelf the options', with the WAV's own rate\n"
+            "and length. An export (--bits 16 or 24, --gain) is not compared. The last line that is printed is, for\n"
+            "scripts, one of\n"
+            "  same: OUT.wav is the score's: N samples\n"
+            "  differs: WHAT DIFFERS FIRST\n"
+            "with exit status 0 and 1. Status 1 without such a line: it could not be compared, and why.\n"
+            "One of the files may be - for standard input.\n"
+            "  --shelf FILE     the shelf that OUT.wav was rendered with\n",
     .settings = true,
     .run = run_verify,
 };
