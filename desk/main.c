@@ -2,7 +2,9 @@
 #include "desk.h"
 
 #include <errno.h>
+#include <fcntl.h>
 #include <string.h>
+#include <unistd.h>
 
 static const struct verb *const verbs[] = {
     &check_verb, &list_verb,   &make_verb, &render_verb, &rerender_verb,
@@ -73,11 +75,19 @@ static int run(const struct verb *verb, char **given, struct why *why) {
     return end(verb->name, true, why);
 }
 
+/* A stream that was closed gives its number to no file: nothing can be read from it, nor written. */
+static void keep_stream_numbers(void) {
+    for (int fd = STDIN_FILENO; fd <= STDERR_FILENO; fd++) {
+        if (fcntl(fd, F_GETFD) < 0 && open("/dev/null", fd == STDIN_FILENO ? O_WRONLY : O_RDONLY) < 0) return;
+    }
+}
+
 int main(int argc, char **argv) {
     static struct why why = {.status = DONE};
     /* A reader that goes away and a file that may not grow are errors of a write, and told as such. */
     signal(SIGPIPE, SIG_IGN);
     signal(SIGXFSZ, SIG_IGN);
+    keep_stream_numbers();
     if (argc < 2) {
         put_usage(stderr);
         return MISUSED;
