@@ -58,27 +58,28 @@ struct curves {
     double second[PAD_POINTS];
 };
 
-static void fill_curves(const struct pad_chart *chart, struct curves *curves) {
-    const struct pad *pad = chart->pad;
-    for (unsigned i = 0; i <= pad->edits; i++) {
+static void fill_edits(const struct pad_chart *chart, struct curves *curves) {
+    for (unsigned i = 0; i <= chart->pad->edits; i++) {
         const struct pad_row *row = &chart->rows[i];
         curves->edit[i] = i;
         curves->ours[i] = percent_off(row->ours, row->zero);
         curves->old[i] = percent_off(row->old, row->zero);
     }
+}
+
+static void fill_seconds(const struct pad_chart *chart, struct curves *curves) {
+    const struct pad *pad = chart->pad;
     for (size_t i = 0; i < chart->points; i++) {
         curves->second[i] = ((double)i + 0.5) * (double)pad->window / pad->settings.rate;
     }
 }
 
-/* A panel with both ways, the old one under ours. */
-static struct panel panel_of(size_t points, const double *across, const double *old, const double *ours) {
-    return (struct panel){
-        .width = 280,
-        .curves = 2,
-        .curve = {{.color = OLD, .points = points, .across = across, .percent = old},
-                  {.color = OURS, .points = points, .across = across, .percent = ours}},
-    };
+/* Both ways in a panel: the old one under ours. */
+static void add_curves(struct panel *panel, size_t points, const double *across, const double *old,
+                       const double *ours) {
+    panel->curves = 2;
+    panel->curve[0] = (struct curve){.color = OLD, .points = points, .across = across, .percent = old};
+    panel->curve[1] = (struct curve){.color = OURS, .points = points, .across = across, .percent = ours};
 }
 
 void pad_draw(FILE *out, const void *from) {
@@ -87,23 +88,27 @@ void pad_draw(FILE *out, const void *from) {
     double rate = pad->settings.rate, seconds = (double)pad->samples / rate;
     char last[96], whole[96], late[96];
     struct curves curves;
-    fill_curves(chart, &curves);
-    struct panel edits = panel_of(pad->edits + 1, curves.edit, curves.old, curves.ours);
-    struct panel sound = panel_of(chart->points, curves.second, chart->old, chart->ours);
-    edits.left = 60, edits.across = pad->edits, edits.tick = 1, edits.title = last, edits.below = "edits";
-    sound.left = 420, sound.across = seconds, sound.tick = svg_tick(seconds), sound.title = whole,
-    sound.below = "seconds";
+    struct drawing drawing = {
+        .name = "a slowly falling pad",
+        .panels = 2,
+        .panel = {{.left = 60, .width = 280, .across = pad->edits, .tick = 1, .title = last, .below = "edits"},
+                  {.left = 420,
+                   .width = 280,
+                   .across = seconds,
+                   .tick = svg_tick(seconds),
+                   .title = whole,
+                   .below = "seconds"}},
+        .legends = 2,
+        .legend = {{.left = 60, .color = OURS, .words = "re-render"}, {.left = 180, .color = OLD, .words = late}},
+    };
     snprintf(last, sizeof last, "the last %g s, after each edit", (double)pad->window / rate);
     snprintf(whole, sizeof whole, "the whole sound, after %u %s", pad->edits, counted(pad->edits, "edit", "edits"));
     snprintf(late, sizeof late, "the old way: each edit from a state %g ms past the cut",
              1000.0 * (double)pad->late / rate);
-    const struct drawing drawing = {
-        .name = "a slowly falling pad",
-        .panels = 2,
-        .panel = {edits, sound},
-        .legends = 2,
-        .legend = {{.left = 60, .color = OURS, .words = "re-render"}, {.left = 180, .color = OLD, .words = late}},
-    };
+    fill_edits(chart, &curves);
+    fill_seconds(chart, &curves);
+    add_curves(&drawing.panel[0], pad->edits + 1, curves.edit, curves.old, curves.ours);
+    add_curves(&drawing.panel[1], chart->points, curves.second, chart->old, chart->ours);
     svg_draw(out, &drawing);
 }
 

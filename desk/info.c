@@ -30,14 +30,19 @@ static void tell_length(size_t samples, uint32_t rate) {
     printf("\n");
 }
 
+/* What cannot be printed of its name is a '?'. */
+static void tell_chunk(const struct chunk *chunk, size_t at) {
+    put_name("chunk");
+    for (size_t i = 0; i < 4; i++) putchar(chunk->name[i] >= ' ' && chunk->name[i] <= '~' ? chunk->name[i] : '?');
+    printf(", %zu bytes at byte %zu\n", chunk->size, at);
+}
+
 /* The chunks beside those that every WAV of the desk has. */
 static void tell_chunks(const struct bytes *file) {
     struct chunk chunk;
     for (size_t at = WAV_CHUNKS; at < file->len && wav_chunk(file->at, file->len, at, &chunk); at = chunk.next) {
         if (wav_is_chunk(&chunk, "fmt ") || wav_is_chunk(&chunk, "fact") || wav_is_chunk(&chunk, "data")) continue;
-        put_name("chunk");
-        for (size_t i = 0; i < 4; i++) putchar(chunk.name[i] >= ' ' && chunk.name[i] <= '~' ? chunk.name[i] : '?');
-        printf(", %zu bytes at byte %zu\n", chunk.size, at);
+        tell_chunk(&chunk, at);
     }
 }
 

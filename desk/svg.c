@@ -37,11 +37,13 @@ static void take_in(struct range *range, const struct curve *curve) {
     }
 }
 
+static void take_in_panel(struct range *range, const struct panel *p) {
+    for (size_t i = 0; i < p->curves; i++) take_in(range, &p->curve[i]);
+}
+
 static struct range range_of(const struct drawing *drawing) {
     struct range range = {.highest = 0, .lowest = -1};
-    for (size_t i = 0; i < drawing->panels; i++) {
-        for (size_t j = 0; j < drawing->panel[i].curves; j++) take_in(&range, &drawing->panel[i].curve[j]);
-    }
+    for (size_t i = 0; i < drawing->panels; i++) take_in_panel(&range, &drawing->panel[i]);
     range.step = step_for(range.highest - range.lowest);
     range.highest = range.step * ceil(range.highest / range.step);
     range.lowest = fmax(LOWEST_PERCENT, range.step * floor(range.lowest / range.step));

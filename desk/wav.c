@@ -74,9 +74,9 @@ static double full_scale(unsigned bits) { return bits == 16 ? 32767 : 8388607; }
 /* The bits of a sample in a WAV; what is above 1 is cut off there in whole numbers, which have no more. */
 static uint64_t word_of(unsigned bits, double value) {
     uint32_t word;
-    float narrow = (float)value;
     if (bits == 64) return bits_of(value);
     if (bits == 32) {
+        float narrow = (float)value;
         memcpy(&word, &narrow, sizeof word);
         return word;
     }
@@ -85,25 +85,26 @@ static uint64_t word_of(unsigned bits, double value) {
 }
 
 static double value_of(unsigned bits, const uint8_t *at) {
-    uint32_t word;
     float narrow;
     if (bits == 64) return from_bits(get_u64(at));
     if (bits == 32) {
-        word = get_u32(at);
+        uint32_t word = get_u32(at);
         memcpy(&narrow, &word, sizeof narrow);
         return (double)narrow;
     }
-    int32_t high = at[bits / 8 - 1] < 128 ? at[bits / 8 - 1] : at[bits / 8 - 1] - 256;
+    /* The last byte has the sign. */
+    int32_t last = at[bits / 8 - 1], high = last < 128 ? last : last - 256;
     int32_t whole = bits == 16 ? 256 * high + at[0] : 65536 * high + (int32_t)get_u16(at);
     return whole / full_scale(bits);
 }
 
+static void put_word(uint8_t *at, uint64_t word, size_t bytes) {
+    for (size_t i = 0; i < bytes; i++) at[i] = (uint8_t)(word >> 8 * i);
+}
+
 void wav_samples(unsigned bits, const double *from, size_t samples, uint8_t *to) {
     size_t frame = bits / 8;
-    for (size_t i = 0; i < samples; i++) {
-        uint64_t word = word_of(bits, from[i]);
-        for (size_t byte = 0; byte < frame; byte++) to[frame * i + byte] = (uint8_t)(word >> 8 * byte);
-    }
+    for (size_t i = 0; i < samples; i++) put_word(to + frame * i, word_of(bits, from[i]), frame);
 }
 
 void wav_values(const struct wav *wav, const uint8_t *file, size_t first, size_t samples, double *to) {
