@@ -322,6 +322,9 @@ size_t export_clips(const struct export *export, const double *at, size_t sample
     (8u * (SHELF_HEAD_WORDS + (GAV_STATE_WORDS + SHELF_BESIDE_WORDS) * (GAV_MOST_SAMPLES / GAV_MARK) +                 \
            MOST_SCORE / 8u + 1u))
 
+/* The version of the file's layout. */
+#define SHELF_LAYOUT 2u
+
 /* What stands in the file beside the words of the entries. */
 struct shelf_file {
     struct gav_settings settings;
@@ -333,6 +336,8 @@ struct shelf_file {
 /* The bytes of the file, to be freed, for a sound and the WAV that was made of it. */
 bool shelf_bytes(const struct shelf_file *about, const struct sound *sound, const struct wav *wav,
                  const uint8_t *wav_file, struct bytes *file, struct why *why);
+/* Whether a file begins as a shelf does. */
+bool shelf_begins(const uint8_t *file, size_t len);
 bool shelf_look(const uint8_t *file, size_t len, struct shelf_file *about, struct why *why);
 /* The entries of a file that was looked at, into a sound of its length. */
 void shelf_words(const uint8_t *file, struct sound *sound);

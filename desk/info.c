@@ -5,8 +5,6 @@
 #include <stdlib.h>
 #include <string.h>
 
-static const char shelf_mark[] = "GAVSHELF";
-
 static bool begins_with(const struct bytes *file, const char *mark, size_t len) {
     return file->len >= len && memcmp(file->at, mark, len) == 0;
 }
@@ -97,13 +95,11 @@ static bool tell_wav(const char *path, const struct bytes *file, struct why *why
 
 static bool tell_shelf(const char *path, const struct bytes *file, struct why *why) {
     struct shelf_file about;
-    printf("%s: shelf", path);
-    if (file->len >= 16) printf(", version %llu", (unsigned long long)get_u64(file->at + 8));
-    printf("\n");
+    printf("%s: shelf\n", path);
     if (!shelf_look(file->at, file->len, &about, why)) return false;
     size_t entries = gav_shelf_words(about.samples) / GAV_STATE_WORDS;
-    put_name("voice");
-    printf("version %llu\n", (unsigned long long)get_u64(file->at + 16));
+    put_name("version");
+    printf("%u of the file, %u of the voice\n", SHELF_LAYOUT, (unsigned)gav_version());
     put_name("settings");
     put_settings(stdout, &about.settings);
     printf("\n");
@@ -142,7 +138,7 @@ static bool tell_text(const char *path, const struct bytes *file, struct why *wh
 
 static bool tell_file(const char *path, const struct bytes *file, struct why *why) {
     if (begins_with(file, "RIFF", 4)) return tell_wav(path, file, why);
-    if (begins_with(file, shelf_mark, strlen(shelf_mark))) return tell_shelf(path, file, why);
+    if (shelf_begins(file->at, file->len)) return tell_shelf(path, file, why);
     if (file->len == 0 || begins_with(file, "\x56\x4E", 2)) return tell_score(path, file, why);
     return tell_text(path, file, why);
 }

@@ -21,7 +21,6 @@
 enum word { MAGIC, LAYOUT, VOICE, SAMPLES, BITS, SCORE_LEN, ENTRY_WORDS, BESIDE_WORDS };
 
 #define HEAD (8u * SHELF_HEAD_WORDS)
-#define LAYOUT_VERSION 2u
 #define SECTION_WORDS (GAV_STATE_WORDS + SHELF_BESIDE_WORDS)
 
 static const char magic[] = "GAVSHELF";
@@ -47,7 +46,7 @@ uint64_t shelf_sum(const uint8_t *file, size_t section) {
 
 static void put_head(uint8_t *head, const struct shelf_file *about) {
     memcpy(head, magic, 8);
-    put_u64(head + 8 * LAYOUT, LAYOUT_VERSION);
+    put_u64(head + 8 * LAYOUT, SHELF_LAYOUT);
     put_u64(head + 8 * VOICE, gav_version());
     put_u64(head + 8 * SAMPLES, about->samples);
     put_u64(head + 8 * BITS, about->bits);
@@ -76,9 +75,11 @@ bool shelf_bytes(const struct shelf_file *about, const struct sound *sound, cons
     return true;
 }
 
+bool shelf_begins(const uint8_t *file, size_t len) { return len >= 8 && memcmp(file, magic, 8) == 0; }
+
 /* Its own marks: the magic word, the length, the sum, and then the versions. A shelf of version 1 has another sum. */
 static bool look_at_marks(const uint8_t *file, size_t len, struct why *why) {
-    if (len < 8 || memcmp(file, magic, 8) != 0) {
+    if (!shelf_begins(file, len)) {
         return refuse(why, "it is no shelf of the desk: it does not begin with %s", magic);
     }
     if (len > SHELF_MOST) return refuse(why, "it is damaged: it is longer than %zu bytes", (size_t)SHELF_MOST);
@@ -92,11 +93,11 @@ static bool look_at_marks(const uint8_t *file, size_t len, struct why *why) {
                       len);
     }
     uint64_t layout = get_u64(file + 8 * LAYOUT), voice = get_u64(file + 8 * VOICE);
-    if (layout == LAYOUT_VERSION && voice == gav_version()) return true;
+    if (layout == SHELF_LAYOUT && voice == gav_version()) return true;
     return refuse(why,
                   "it is a shelf of version %llu, voice %llu, and this desk has version %u, voice %u: render again "
                   "with `desk render`",
-                  (unsigned long long)layout, (unsigned long long)voice, LAYOUT_VERSION, (unsigned)gav_version());
+                  (unsigned long long)layout, (unsigned long long)voice, SHELF_LAYOUT, (unsigned)gav_version());
 }
 
 /* The words of the head that say how long the file is. */

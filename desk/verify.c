@@ -21,7 +21,7 @@ struct found {
         if ((found)->summary.status == DONE) refuse(&(found)->summary, __VA_ARGS__);                                   \
     } while (0)
 
-static double seconds_at(const struct found *f, size_t sample) { return (double)sample / f->beside.wav.rate; }
+static double seconds_at(const struct found *f, size_t sample) { return (double)sample / f->beside.settings.rate; }
 
 /* A difference that is no number is larger than all. */
 static bool is_larger(double difference, double than) {
