@@ -112,7 +112,12 @@ static enum lock lock_file(const struct draft *draft, int fd, struct why *why) {
         return TAKEN;
     }
     if (fcntl(fd, F_GETLK, &lock) == 0 && lock.l_type == F_UNLCK) return GONE;
-    refuse(why, "another desk (process %ld) is at work on %s", (long)lock.l_pid, draft->path);
+    if (lock.l_pid > 0) {
+        refuse(why, "another desk (process %ld) is at work on %s", (long)lock.l_pid, draft->path);
+    } else {
+        /* A process elsewhere, as behind a network, has no number here. */
+        refuse(why, "another desk is at work on %s", draft->path);
+    }
     return TAKEN;
 }
 
