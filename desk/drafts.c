@@ -86,7 +86,8 @@ static enum lock open_temporary(const struct draft *draft, int *fd, struct why *
     *fd = open(draft->temporary, O_RDWR | O_CREAT | O_NOFOLLOW | O_NONBLOCK | O_CLOEXEC, 0600);
     bool opened = *fd >= 0 && fstat(*fd, &found) == 0;
     if (!opened && errno != ELOOP && errno != EISDIR && errno != ENXIO) {
-        refuse(why, "%s: no new file can be made beside it: %s", draft->path, strerror(errno));
+        refuse(why, "%s: %s, where it would be written first, cannot be opened: %s", draft->path, draft->temporary,
+               strerror(errno));
         return TAKEN;
     }
     if (opened && S_ISREG(found.st_mode) && found.st_uid == geteuid() && found.st_nlink <= 1) {
@@ -108,7 +109,8 @@ static enum lock lock_file(const struct draft *draft, int fd, struct why *why) {
         return still ? LOCKED : GONE;
     }
     if (errno != EACCES && errno != EAGAIN) {
-        refuse(why, "%s: %s beside it cannot be locked: %s", draft->path, draft->temporary, strerror(errno));
+        refuse(why, "%s: %s, where it would be written first, cannot be locked: %s", draft->path, draft->temporary,
+               strerror(errno));
         return TAKEN;
     }
     if (fcntl(fd, F_GETLK, &lock) == 0 && lock.l_type == F_UNLCK) return GONE;
