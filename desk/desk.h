@@ -17,7 +17,7 @@ struct gav_settings {
     double duty, attack, decay, sustain, release;
 };
 #define GAV_SETTINGS_DEFAULT                                                                                           \
-    { 48000, GAV_SAWTOOTH, 0.5, 0.01, 0.1, 0.7, 0.3 }
+    { .rate = 48000, .code = GAV_SAWTOOTH, .duty = 0.5, .attack = 0.01, .decay = 0.1, .sustain = 0.7, .release = 0.3 }
 static inline uint32_t gav_version(void) { return GAV_VERSION; }
 static inline const char *gav_words(uint64_t answer) {
     return gav_number(answer) == 8 ? "the entry to start from is no state, or has acted on other records"
@@ -109,8 +109,6 @@ bool draft_seal(struct draft *draft, struct why *why);
 bool draft_publish(struct draft *draft, struct why *why);
 /* Frees it, and removes what was not published. */
 void draft_drop(struct draft *draft);
-/* Whether a draft can be opened, so that long work is not done in vain. */
-bool can_write(const char *path, struct why *why);
 
 /* The two files of a sound, locked together; the shelf's path is NULL where there is none. */
 struct pair {

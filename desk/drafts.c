@@ -86,7 +86,8 @@ static enum lock open_temporary(const struct draft *draft, int *fd, struct why *
     *fd = open(draft->temporary, O_RDWR | O_CREAT | O_NOFOLLOW | O_NONBLOCK | O_CLOEXEC, 0600);
     bool opened = *fd >= 0 && fstat(*fd, &found) == 0;
     if (!opened && errno != ELOOP && errno != EISDIR && errno != ENXIO) {
-        refuse(why, "%s: no new file can be made beside it: %s", draft->path, strerror(errno));
+        refuse(why, "%s: %s, where it would be written first, cannot be opened: %s", draft->path, draft->temporary,
+               strerror(errno));
         return TAKEN;
     }
     if (opened && S_ISREG(found.st_mode) && found.st_uid == geteuid() && found.st_nlink <= 1) {
@@ -108,11 +109,17 @@ static enum lock lock_file(const struct draft *draft, int fd, struct why *why) {
         return still ? LOCKED : GONE;
     }
     if (errno != EACCES && errno != EAGAIN) {
-        refuse(why, "%s: %s beside it cannot be locked: %s", draft->path, draft->temporary, strerror(errno));
+        refuse(why, "%s: %s, where it would be written first, cannot be locked: %s", draft->path, draft->temporary,
+               strerror(errno));
         return TAKEN;
     }
     if (fcntl(fd, F_GETLK, &lock) == 0 && lock.l_type == F_UNLCK) return GONE;
-    refuse(why, "another desk (process %ld) is at work on %s", (long)lock.l_pid, draft->path);
+    if (lock.l_pid > 0) {
+        refuse(why, "another desk (process %ld) is at work on %s", (long)lock.l_pid, draft->path);
+    } else {
+        /* A process elsewhere, as behind a network, has no number here. */
+        refuse(why, "another desk is at work on %s", draft->path);
+    }
     return TAKEN;
 }
 
@@ -147,13 +154,6 @@ bool draft_open(struct draft *draft, const char *path, struct why *why) {
     /* What a killed desk left goes. */
     if (ftruncate(draft->fd, 0) == 0) return true;
     return refuse(why, "%s: cannot be written: %s", path, strerror(errno));
-}
-
-bool can_write(const char *path, struct why *why) {
-    struct draft draft;
-    bool opened = draft_open(&draft, path, why);
-    draft_drop(&draft);
-    return opened;
 }
 
 bool draft_write(struct draft *draft, const void *at, size_t len, struct why *why) {
