@@ -42,6 +42,7 @@ static bool write_files(const struct chart_call *c, put_chart *draw, put_chart *
 
 /* What is read is never written over. */
 static bool stay_apart(const struct chart_call *c, struct why *why) {
+    if (!names_file(c->svg_path, why) || (c->table_path && !names_file(c->table_path, why))) return false;
     const char *const read[] = {c->beside.score_path, c->beside.wav_path, c->beside.shelf_path};
     for (size_t i = 0; i < COUNT_OF(read); i++) {
         if (!read[i]) continue;
