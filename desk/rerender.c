@@ -66,8 +66,7 @@ static bool sections_are_kept(const struct rerender *r, size_t first, size_t las
     return true;
 }
 
-/* What is not made anew has to be as the shelf says: all that stands before the mark; where nothing is made,
- * everything. */
+/* What is not made anew has to be as the shelf says: all that stands before the mark, and all where nothing is made. */
 static bool rest_is_kept(const struct rerender *r, struct why *why) {
     size_t mark = r->about.samples - r->count;
     return sections_are_kept(r, 0, (mark + GAV_MARK - 1) / GAV_MARK, why);
