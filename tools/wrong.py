@@ -50,14 +50,18 @@ def files(folder):
     return sorted(ROOT.glob(f"crates/*/{folder}/*.edit"))
 
 
+def misfit(file, why):
+    return ValueError(f"{file.relative_to(ROOT)}: {why}")
+
+
 def read(file):
     """The program of a file. ValueError where the file is not of the form."""
-    text = file.read_text("utf-8")
+    text = file.read_bytes().decode("utf-8", "replace")
     form = FORM.fullmatch(text)
     if not form:
-        raise ValueError("its lines are not those that the head of tools/wrong.py names, in that order")
+        raise misfit(file, "its lines are not those that the head of tools/wrong.py names, in that order")
     if (form["gate"] is not None) != (file.parent.name == "wrong"):
-        raise ValueError("a line `gate:` stands in every file of wrong/, and in no other")
+        raise misfit(file, "a line `gate:` stands in every file of wrong/, and in no other")
     name, old, edits = "", "", []
     for key, value in EDIT.findall(text):
         if key == "file":
@@ -72,7 +76,7 @@ def read(file):
 def texts_of(folder):
     """The files of a crate: name and text."""
     found = [f for part in ("src", "specs", "proofs") for f in (folder / part).rglob("*") if f.is_file()]
-    return {f.relative_to(folder).as_posix(): f.read_text("utf-8") for f in found}
+    return {f.relative_to(folder).as_posix(): f.read_bytes().decode("utf-8") for f in found}
 
 
 def made(program):
@@ -80,12 +84,12 @@ def made(program):
     texts = texts_of(ROOT / "crates" / program.crate)
     for name, old, new in program.edits:
         if not re.match("(?:src|specs)/", name) or name not in texts:
-            raise ValueError(f"{name} is no file of src/ or specs/")
+            raise misfit(program.file, f"{name} is no file of src/ or specs/")
         times = texts[name].count(old)
         if times != 1:
-            raise ValueError(f"its `old:` stands in {name} {times} times and not once: {old}")
+            raise misfit(program.file, f"its `old:` stands in {name} {times} times and not once: {old}")
         if old == new:
-            raise ValueError(f"it changes nothing: {old}")
+            raise misfit(program.file, f"it changes nothing: {old}")
         texts[name] = texts[name].replace(old, new)
     return texts
 
@@ -137,7 +141,7 @@ class Checker:
             home = self.room / str(self.made)
         for name, text in texts.items():
             (home / name).parent.mkdir(parents=True, exist_ok=True)
-            (home / name).write_text(text, "utf-8")
+            (home / name).write_bytes(text.encode("utf-8"))
         return home
 
     def run(self, words):
@@ -160,7 +164,7 @@ class Checker:
         complaint, no_fact = said(log, str(home).strip("/"))
         taken = re.search(f"^crate {crate}: modules loaded=[1-9]", log, re.M) is not None
         if status == 0:
-            return "it is proved", "", taken
+            return "it is proved: no statement rules it out", "", taken
         if status is None:
             return f"no verdict in {SECONDS} s", "", taken
         if status != 1 or not re.search("^logic=not-proved", log, re.M):
