@@ -20,12 +20,13 @@ ROUNDS = 4000000
 SEED = 1
 
 .DEFAULT_GOAL = help
-.PHONY: help check test ci fmt lib desk demo fuzz bench deps vectors clean
+.PHONY: help check test ci judges judges-deps fmt lib desk demo fuzz bench deps vectors clean
 
 help:
 	@echo 'make check   prove every crate and run each program (rt check)'
 	@echo 'make test    run the host tests (tests/run); some read what rt ci left in target/'
 	@echo 'make ci      run the gate: rt ci, then the host tests'
+	@echo 'make judges  run what no gate does: ffmpeg, aplay, JACK and ten minutes of libFuzzer beside the desk and the library'
 	@echo 'make fmt     lay out every .rt and .antt file (rt fmt)'
 	@echo 'make lib     prove what C sees and build it for this processor: build/libgavberin.a'
 	@echo 'make desk    build the desk, build/desk, and the library that it stands on'
@@ -44,6 +45,12 @@ test:
 
 ci:
 	@bash .ci/run
+
+judges:
+	@tests/run --judges
+
+judges-deps:
+	@$(MAKE) --no-print-directory deps PACKAGES='ffmpeg alsa-utils jackd2 jack-capture libjack-jackd2-dev clang libclang-rt-dev'
 
 fmt:
 	@rt fmt
@@ -81,6 +88,9 @@ build/fuzz: $(READERS) tests/desk/fuzz.c $(DESK_NEEDS)
 
 build/samples: tests/desk/samples.c $(DESK_NEEDS)
 	@$(CC) $(C_FLAGS) -O2 -o $@ tests/desk/samples.c build/libgavberin.a -lm
+
+build/jack-host: tests/judges/jack_host.c $(DESK_NEEDS)
+	@$(CC) $(C_FLAGS) -O2 -o $@ tests/judges/jack_host.c build/libgavberin.a -ljack -lm
 
 build/failing.so: tests/desk/failing.c
 	@mkdir -p build

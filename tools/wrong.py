@@ -104,7 +104,7 @@ class Checker:
     """
 
     def __init__(self, room):
-        self.room, self.lock, self.made = Path(room), threading.Lock(), 0
+        self.room, self.lock, self.made, self.env = Path(room), threading.Lock(), 0, os.environ | {"TMPDIR": str(room)}
         guide = subprocess.run(["rt", "doc"], capture_output=True, text=True, check=True).stdout.strip()
         self.kit = Path(guide).parent.parent
         self.own = self.kit / "on" / os.uname().machine
@@ -147,7 +147,7 @@ class Checker:
     def run(self, words):
         """The exit status and all that was said; no status where it took too long."""
         try:
-            ran = subprocess.run(words, capture_output=True, stdin=subprocess.DEVNULL, timeout=SECONDS)
+            ran = subprocess.run(words, capture_output=True, stdin=subprocess.DEVNULL, timeout=SECONDS, env=self.env)
         except subprocess.TimeoutExpired:
             return None, ""
         return ran.returncode, (ran.stdout + ran.stderr).decode("utf-8", "replace")
@@ -189,13 +189,21 @@ def current(crates):
         raise ValueError(ran.stdout + ran.stderr)
 
 
+def in_memory():
+    """A folder for files that a check writes and removes by the thousand: in memory, where there are 4 GB to be had."""
+    place = "/dev/shm"
+    if "TMPDIR" in os.environ or not os.access(place, os.W_OK) or shutil.disk_usage(place).free < 4e9:
+        return None
+    return place
+
+
 def try_all(programs):
     """Tries the programs, two at a time, those of large crates first; what became of each."""
     if not programs:
         return
     crates = sorted({program.crate for program in programs})
     current(crates)
-    with tempfile.TemporaryDirectory(prefix="wrong-") as room, ThreadPoolExecutor(AT_A_TIME) as pool:
+    with tempfile.TemporaryDirectory(prefix="wrong-", dir=in_memory()) as room, ThreadPoolExecutor(AT_A_TIME) as pool:
         checker = Checker(room)
         size = {crate: sum(1 for _ in checker.seed_of(crate).glob("*")) for crate in crates}
         checker.learn_seeds(min(crates, key=lambda crate: (size[crate] == 0, size[crate])))
