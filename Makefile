@@ -34,12 +34,13 @@ INSTALLED = $(DESTDIR)$(PREFIX)
 
 .DEFAULT_GOAL = help
 .DELETE_ON_ERROR:
-.PHONY: always help check test ci fmt lib desk man install demo fuzz bench deps vectors clean
+.PHONY: always help check test ci judges judges-deps fmt lib desk man install demo fuzz bench deps vectors clean
 
 help:
 	@echo 'make check   prove every crate and run each program (rt check)'
 	@echo 'make test    run the host tests (tests/run); some read what rt ci left in target/'
 	@echo 'make ci      run the gate: rt ci, then the host tests'
+	@echo 'make judges  run what no gate does: ffmpeg, aplay, JACK and ten minutes of libFuzzer beside the desk and the library'
 	@echo 'make fmt     lay out every .rt and .antt file (rt fmt)'
 	@echo 'make lib     prove what C sees and build it for this processor: build/libgavberin.a and build/libgavberin.so'
 	@echo 'make desk    build the desk, build/desk, and the library that it stands on'
@@ -61,6 +62,12 @@ test:
 
 ci:
 	@bash .ci/run
+
+judges:
+	@tests/run --judges
+
+judges-deps:
+	@$(MAKE) --no-print-directory deps PACKAGES='ffmpeg alsa-utils jackd2 jack-capture libjack-jackd2-dev clang libclang-rt-dev'
 
 fmt:
 	@rt fmt
@@ -135,6 +142,9 @@ build/libfuzzer: $(READERS) $(FUZZ) $(DESK_NEEDS)
 
 build/samples: tests/desk/samples.c $(DESK_NEEDS)
 	@$(CC) $(C_FLAGS) -O2 -o $@ tests/desk/samples.c build/libgavberin.a -lm
+
+build/jack-host: tests/judges/jack_host.c $(DESK_NEEDS)
+	@$(CC) $(C_FLAGS) -O2 -o $@ tests/judges/jack_host.c build/libgavberin.a -ljack -lm
 
 build/failing.so: tests/desk/failing.c
 	@mkdir -p build
