@@ -1,0 +1,121 @@
+// Replays the original's answers: parts on standard input, each a head and its rows (oracle/README.md says what they are), and
+// a line for each part: how many rows there are, how many are equal, and of a part that measures a sine how far it is off. A row
+// that is cut short, names no call or is not there counts as unequal; a head that names no part ends the replay.
+use libc::STDIN_FILENO;
+use libc::STDOUT_FILENO;
+use tally::Finding;
+use tally::Tally;
+
+mod fields;
+mod nearness;
+mod phase_rows;
+mod pitch_rows;
+mod tally;
+
+// The bytes of a head: a name with zeros after it, and how many rows follow.
+const HEAD: usize = 16;
+
+// The names, low byte first.
+const PHASE: u64 = 0x65_7361_6870;
+
+const PITCH: u64 = 0x68_6374_6970;
+
+fn main() {
+    let mut row = [0u8; 201680];
+    replay(&mut row);
+}
+
+// A proved loop has to end, and nothing says that the input does: the loop counts its turns down.
+fn replay(row: &mut [u8]) {
+    let mut turns = u64::MAX;
+    while turns > 0 {
+        let mut head = [0u8; 16];
+        let got = io::read_full(STDIN_FILENO, &mut head);
+        if got == 0 {
+            return;
+        }
+        let name = words::u64_at(&head, 0);
+        if (got < HEAD) | (first_of(name) == 0) {
+            io::write_all(STDOUT_FILENO, b"no part\n");
+            return;
+        }
+        tell(name, replayed(name, words::u64_at(&head, 8), row));
+        turns -= 1;
+    }
+}
+
+fn replayed(name: u64, rows: u64, row: &mut [u8]) -> Tally {
+    let mut tally = tally::none_of(rows);
+    let mut left = rows;
+    while left > 0 {
+        if !is_read(name, row) {
+            return tally;
+        }
+        tally = tally::counted(tally, compared(name, row));
+        left -= 1;
+    }
+    tally
+}
+
+// Reads a row: its first bytes, then as many words as those say. Whether all of it was there.
+fn is_read(name: u64, row: &mut [u8]) -> bool {
+    let first = first_of(name);
+    if first > row.len() {
+        return false;
+    }
+    if io::read_full(STDIN_FILENO, &mut row[0..first]) < first {
+        return false;
+    }
+    let more = more_of(name, row);
+    if more > (row.len() - first) as u64 / 8 {
+        return false;
+    }
+    let size = 8 * more as usize;
+    let end = first + size;
+    io::read_full(STDIN_FILENO, &mut row[first..end]) == size
+}
+
+// The first bytes of a part's rows; none where no part has that name.
+fn first_of(name: u64) -> usize {
+    match name {
+        PHASE => phase_rows::ROW,
+        PITCH => pitch_rows::ROW,
+        _ => 0,
+    }
+}
+
+fn more_of(name: u64, row: &[u8]) -> u64 {
+    0
+}
+
+fn compared(name: u64, row: &[u8]) -> Finding {
+    match name {
+        _ => tally::exactly(is_equal(name, row)),
+    }
+}
+
+fn is_equal(name: u64, row: &[u8]) -> bool {
+    match name {
+        PHASE => phase_rows::is_equal(row),
+        PITCH => pitch_rows::is_equal(row),
+        _ => false,
+    }
+}
+
+fn tell(name: u64, tally: Tally) {
+    tell_name(name);
+    io::write_all(STDOUT_FILENO, b": ");
+    io::print_decimal(STDOUT_FILENO, tally.rows);
+    io::write_all(STDOUT_FILENO, b" rows, ");
+    io::print_decimal(STDOUT_FILENO, tally.equal);
+    io::write_all(STDOUT_FILENO, b" equal\n");
+}
+
+fn tell_name(name: u64) {
+    let mut rest = name;
+    while rest > 0 {
+        let letter = [(rest % 256) as u8];
+        io::write_all(STDOUT_FILENO, &letter);
+        rest /= 256;
+    }
+}
