@@ -6,11 +6,18 @@ use libc::STDOUT_FILENO;
 use tally::Finding;
 use tally::Tally;
 
+mod block_rows;
+mod envelope_rows;
 mod fields;
 mod nearness;
 mod phase_rows;
 mod pitch_rows;
+mod polyblep_rows;
+mod render_rows;
+mod sine_rows;
 mod tally;
+mod voice_rows;
+mod waveform_rows;
 
 // The bytes of a head: a name with zeros after it, and how many rows follow.
 const HEAD: usize = 16;
@@ -18,7 +25,21 @@ const HEAD: usize = 16;
 // The names, low byte first.
 const PHASE: u64 = 0x65_7361_6870;
 
+const POLYBLEP: u64 = 0x7065_6c62_796c_6f70;
+
 const PITCH: u64 = 0x68_6374_6970;
+
+const SINE: u64 = 0x656e_6973;
+
+const ENVELOPE: u64 = 0x6570_6f6c_6576_6e65;
+
+const WAVEFORM: u64 = 0x6d72_6f66_6576_6177;
+
+const VOICE: u64 = 0x65_6369_6f76;
+
+const BLOCKS: u64 = 0x736b_636f_6c62;
+
+const RENDER: u64 = 0x7265_646e_6572;
 
 fn main() {
     let mut row = [0u8; 201680];
@@ -79,17 +100,32 @@ fn is_read(name: u64, row: &mut [u8]) -> bool {
 fn first_of(name: u64) -> usize {
     match name {
         PHASE => phase_rows::ROW,
+        POLYBLEP => polyblep_rows::ROW,
         PITCH => pitch_rows::ROW,
+        SINE => sine_rows::ROW,
+        ENVELOPE => envelope_rows::ROW,
+        WAVEFORM => waveform_rows::ROW,
+        VOICE => voice_rows::ROW,
+        BLOCKS => block_rows::ROW,
+        RENDER => render_rows::ROW,
         _ => 0,
     }
 }
 
+// How many words follow them.
 fn more_of(name: u64, row: &[u8]) -> u64 {
-    0
+    match name {
+        BLOCKS => block_rows::samples_of(row),
+        RENDER => render_rows::more_of(row),
+        _ => 0,
+    }
 }
 
 fn compared(name: u64, row: &[u8]) -> Finding {
     match name {
+        SINE => sine_rows::compared(row),
+        BLOCKS => block_rows::compared(row),
+        RENDER => render_rows::compared(row),
         _ => tally::exactly(is_equal(name, row)),
     }
 }
@@ -97,7 +133,11 @@ fn compared(name: u64, row: &[u8]) -> Finding {
 fn is_equal(name: u64, row: &[u8]) -> bool {
     match name {
         PHASE => phase_rows::is_equal(row),
+        POLYBLEP => polyblep_rows::is_equal(row),
         PITCH => pitch_rows::is_equal(row),
+        ENVELOPE => envelope_rows::is_equal(row),
+        WAVEFORM => waveform_rows::is_equal(row),
+        VOICE => voice_rows::is_equal(row),
         _ => false,
     }
 }
@@ -108,7 +148,19 @@ fn tell(name: u64, tally: Tally) {
     io::print_decimal(STDOUT_FILENO, tally.rows);
     io::write_all(STDOUT_FILENO, b" rows, ");
     io::print_decimal(STDOUT_FILENO, tally.equal);
-    io::write_all(STDOUT_FILENO, b" equal\n");
+    match name {
+        SINE => tell_measure(b" within 0.000001, largest difference ", tally.farthest),
+        BLOCKS | RENDER => tell_measure(b" equal, largest difference of a sine ", tally.farthest),
+        _ => {
+            io::write_all(STDOUT_FILENO, b" equal\n");
+        }
+    }
+}
+
+fn tell_measure(words: &[u8], farthest: f64) {
+    io::write_all(STDOUT_FILENO, words);
+    io::print_decimal(STDOUT_FILENO, nearness::billionths(farthest) as u64);
+    io::write_all(STDOUT_FILENO, b" billionths\n");
 }
 
 fn tell_name(name: u64) {

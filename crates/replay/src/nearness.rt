@@ -1,5 +1,8 @@
 // How far two numbers are apart, and how the largest of such differences is told.
 
+// How far a sine may be off at full level.
+pub const NEAR: f64 = 0.000001;
+
 // The largest number of billionths that is told.
 const MOST: u32 = 1000000;
 
