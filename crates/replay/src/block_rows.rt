@@ -17,13 +17,6 @@ pub const ROW: usize = 88;
 // A frequency that is refused where it sounds.
 const UNHEARD: f64 = -1.0;
 
-// What a call gave beside the samples, and whether the block has kept its settings.
-struct Outcome {
-    answer: Answer,
-    phase: Radians,
-    kept: bool,
-}
-
 // How many samples a row asks for, and so how many words follow its first ones.
 pub fn samples_of(row: &[u8]) -> u64 {
     words::u64_at(row, 56)
@@ -40,10 +33,10 @@ fn compared_in(row: &[u8], out: &mut [f64]) -> Finding {
         return tally::exactly(false);
     }
     let lent = length as usize;
-    let got = called(row, &mut out[0..lent]);
+    let told = is_called(row, &mut out[0..lent]);
     let found = compared_samples(row, &out[0..lent]);
     Finding {
-        equal: names_a_call(row) & is_outcome(row, got) & found.equal,
+        equal: told & names_a_call(row) & found.equal,
         farthest: found.farthest,
     }
 }
@@ -57,27 +50,23 @@ fn names_a_call(row: &[u8]) -> bool {
         & ((op == 1) | fields::is_word(row, 40, 1.0))
 }
 
-fn called(row: &[u8], out: &mut [f64]) -> Outcome {
+// Whether the call answers what it must, and the block has kept its settings.
+fn is_called(row: &[u8], out: &mut [f64]) -> bool {
     match words::u64_at(row, 0) {
-        0 => by_oscillator(row, own_oscillator(row), out),
-        1 => by_lfo(row, out),
-        _ => by_oscillator(row, set_oscillator(row), out),
+        0 => is_oscillated(row, own_oscillator(row), out),
+        1 => is_modulated(row, given_lfo(row), out),
+        _ => is_oscillated(row, set_oscillator(row), out),
     }
 }
 
-fn by_oscillator(row: &[u8], given: OscillatorBlock, out: &mut [f64]) -> Outcome {
+fn is_oscillated(row: &[u8], given: OscillatorBlock, out: &mut [f64]) -> bool {
     let mut block = given;
     let start = Radians(fields::float_at(row, 48));
     block.phase = start;
     let got = block.process(words::u32_at(row, 24), out);
     let answer = got.answer;
     let after = got.block;
-    let phase = after.phase;
-    Outcome {
-        answer,
-        phase,
-        kept: is_oscillator(row, after),
-    }
+    is_oscillator(row, after) & is_outcome(row, answer, after.phase.0)
 }
 
 fn own_oscillator(row: &[u8]) -> OscillatorBlock {
@@ -108,37 +97,33 @@ fn is_oscillator(row: &[u8], block: OscillatorBlock) -> bool {
     sounds & is_waveform(row, waveform)
 }
 
-fn by_lfo(row: &[u8], out: &mut [f64]) -> Outcome {
-    let mut block = LfoBlock::new(
-        fields::float_at(row, 32),
-        fields::float_at(row, 40),
-        waveform_of(row),
-    );
+fn is_modulated(row: &[u8], given: LfoBlock, out: &mut [f64]) -> bool {
+    let mut block = given;
     let start = Radians(fields::float_at(row, 48));
     block.phase = start;
     let got = block.process(words::u32_at(row, 24), out);
     let answer = got.answer;
     let after = got.block;
-    let phase = after.phase;
-    let waveform = after.waveform;
-    Outcome {
-        answer,
-        phase,
-        kept: fields::is_given(row, 32, after.frequency)
-            & fields::is_given(row, 40, after.depth)
-            & is_waveform(row, waveform),
-    }
+    is_lfo(row, after) & is_outcome(row, answer, after.phase.0)
 }
 
-fn is_outcome(row: &[u8], got: Outcome) -> bool {
-    let answer = got.answer;
-    let phase = got.phase;
-    let numbers = answers::in_numbers(answer);
-    got.kept
-        & (numbers.number as u64 == words::u64_at(row, 64))
-        & (numbers.place == 0)
-        & (numbers.count as u64 == words::u64_at(row, 72))
-        & fields::is_word(row, 80, phase.0)
+fn given_lfo(row: &[u8]) -> LfoBlock {
+    LfoBlock::new(
+        fields::float_at(row, 32),
+        fields::float_at(row, 40),
+        waveform_of(row),
+    )
+}
+
+fn is_lfo(row: &[u8], block: LfoBlock) -> bool {
+    let waveform = block.waveform;
+    fields::is_given(row, 32, block.frequency)
+        & fields::is_given(row, 40, block.depth)
+        & is_waveform(row, waveform)
+}
+
+fn is_outcome(row: &[u8], answer: Answer, phase: f64) -> bool {
+    fields::is_counted(row, 64, answer) & fields::is_word(row, 80, phase)
 }
 
 // A sine is measured where the original was asked; a refusal has left every number as it was. The depth is the scale of all.

@@ -17,32 +17,41 @@ pub fn is_equal(row: &[u8]) -> bool {
     }
     let lent = length as usize;
     let mut slots = [fields::UNWRITTEN; 8];
-    let got = called(row, &mut slots[0..lent]);
-    names_a_call(row)
-        & is_answer(row, got)
-        & is_block(row, got)
-        & fields::are_slots(row, 136, &slots)
+    let told = is_called(row, &mut slots[0..lent]);
+    told & names_a_call(row) & fields::are_slots(row, 136, &slots)
 }
 
 fn names_a_call(row: &[u8]) -> bool {
     (words::u64_at(row, 0) < 5) & (words::u32_at(row, 44) == 0) & (words::u64_at(row, 56) < 5)
 }
 
-fn called(row: &[u8], out: &mut [f64]) -> Processed {
-    let block = EnvelopeBlock {
+// Whether the call answers and leaves what it must.
+fn is_called(row: &[u8], out: &mut [f64]) -> bool {
+    let got = called(row, given(row), out);
+    let answer = got.answer;
+    let block = got.block;
+    fields::is_counted(row, 88, answer) & is_block(row, block)
+}
+
+fn given(row: &[u8]) -> EnvelopeBlock {
+    EnvelopeBlock {
         adsr: settings(row),
         envelope: state(row),
-    };
+    }
+}
+
+fn called(row: &[u8], block: EnvelopeBlock, out: &mut [f64]) -> Processed {
     match words::u64_at(row, 0) {
         0 => block.note_on(),
         1 => block.note_off(),
         2 => block.reset(),
         3 => block.process(words::u32_at(row, 40), out),
-        _ => made(settings(row)),
+        _ => made(block),
     }
 }
 
-fn made(adsr: Adsr) -> Processed {
+fn made(given: EnvelopeBlock) -> Processed {
+    let adsr = given.adsr;
     Processed {
         answer: Answer::Done(0),
         block: EnvelopeBlock::new(adsr.attack, adsr.decay, adsr.sustain, adsr.release),
@@ -67,28 +76,26 @@ fn state(row: &[u8]) -> Envelope {
     }
 }
 
-fn is_answer(row: &[u8], got: Processed) -> bool {
-    let answer = got.answer;
-    let numbers = answers::in_numbers(answer);
-    (numbers.number as u64 == words::u64_at(row, 88))
-        & (numbers.place == 0)
-        & (numbers.count as u64 == words::u64_at(row, 96))
-}
-
 // The settings are those that were given, in every case.
-fn is_block(row: &[u8], got: Processed) -> bool {
-    let block = got.block;
+fn is_block(row: &[u8], block: EnvelopeBlock) -> bool {
     let adsr = block.adsr;
     let after = block.envelope;
-    let stage = after.stage;
     fields::is_given(row, 8, adsr.attack)
         & fields::is_given(row, 16, adsr.decay)
         & fields::is_given(row, 24, adsr.sustain)
         & fields::is_given(row, 32, adsr.release)
-        & (number_of(stage) == words::u64_at(row, 104))
-        & fields::is_word(row, 112, after.level)
-        & fields::is_word(row, 120, after.stage_time)
-        & fields::is_word(row, 128, after.release_level)
+        & is_state(row, after)
+}
+
+fn is_state(row: &[u8], after: Envelope) -> bool {
+    let stage = after.stage;
+    let told = [
+        number_of(stage),
+        words::f64_bits(after.level),
+        words::f64_bits(after.stage_time),
+        words::f64_bits(after.release_level),
+    ];
+    fields::are_words(row, 104, &told)
 }
 
 fn stage_of(number: u64) -> EnvelopeStage {

@@ -26,8 +26,20 @@ pub fn is_given(row: &[u8], at: usize, x: f64) -> bool {
     words::f64_bits(x) == words::f64_bits(float_at(row, at))
 }
 
+// The number of an answer that has neither place nor count; of another one a number that no row has.
 pub fn number_of(answer: Answer) -> u64 {
-    answers::in_numbers(answer).number as u64
+    let numbers = answers::in_numbers(answer);
+    if (numbers.place == 0) & (numbers.count == 0) {
+        return numbers.number as u64;
+    }
+    256
+}
+
+// An answer with a count and no place: the number, and the count after it.
+pub fn is_counted(row: &[u8], at: usize, answer: Answer) -> bool {
+    let numbers = answers::in_numbers(answer);
+    let told = [numbers.number as u64, numbers.count as u64];
+    (numbers.place == 0) & are_words(row, at, &told)
 }
 
 pub fn waveform_of(code: u64, duty: f64) -> Waveform {

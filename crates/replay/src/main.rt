@@ -22,6 +22,9 @@ mod waveform_rows;
 // The bytes of a head: a name with zeros after it, and how many rows follow.
 const HEAD: usize = 16;
 
+// The most words that follow the first bytes of a row.
+const MOST: u64 = 25170;
+
 // The names, low byte first.
 const PHASE: u64 = 0x65_7361_6870;
 
@@ -50,19 +53,26 @@ fn main() {
 fn replay(row: &mut [u8]) {
     let mut turns = u64::MAX;
     while turns > 0 {
-        let mut head = [0u8; 16];
-        let got = io::read_full(STDIN_FILENO, &mut head);
-        if got == 0 {
+        if !is_part(row) {
             return;
         }
-        let name = words::u64_at(&head, 0);
-        if (got < HEAD) | (first_of(name) == 0) {
-            io::write_all(STDOUT_FILENO, b"no part\n");
-            return;
-        }
-        tell(name, replayed(name, words::u64_at(&head, 8), row));
         turns -= 1;
     }
+}
+
+// Replays and tells a part; whether there was one.
+fn is_part(row: &mut [u8]) -> bool {
+    let got = filled(row, 0, HEAD);
+    if got == 0 {
+        return false;
+    }
+    let name = words::u64_at(row, 0);
+    if (got < HEAD) | (first_of(name) == 0) {
+        tell_nothing();
+        return false;
+    }
+    tell(name, replayed(name, words::u64_at(row, 8), row));
+    true
 }
 
 fn replayed(name: u64, rows: u64, row: &mut [u8]) -> Tally {
@@ -81,19 +91,27 @@ fn replayed(name: u64, rows: u64, row: &mut [u8]) -> Tally {
 // Reads a row: its first bytes, then as many words as those say. Whether all of it was there.
 fn is_read(name: u64, row: &mut [u8]) -> bool {
     let first = first_of(name);
-    if first > row.len() {
-        return false;
-    }
-    if io::read_full(STDIN_FILENO, &mut row[0..first]) < first {
+    if filled(row, 0, first) < first {
         return false;
     }
     let more = more_of(name, row);
-    if more > (row.len() - first) as u64 / 8 {
+    if more > MOST {
         return false;
     }
     let size = 8 * more as usize;
+    filled(row, first, size) == size
+}
+
+// Reads so many bytes to a place; how many there were, none where there is no room.
+fn filled(row: &mut [u8], first: usize, size: usize) -> usize {
+    if first > row.len() {
+        return 0;
+    }
+    if size > row.len() - first {
+        return 0;
+    }
     let end = first + size;
-    io::read_full(STDIN_FILENO, &mut row[first..end]) == size
+    io::read_full(STDIN_FILENO, &mut row[first..end])
 }
 
 // The first bytes of a part's rows; none where no part has that name.
@@ -140,6 +158,10 @@ fn is_equal(name: u64, row: &[u8]) -> bool {
         VOICE => voice_rows::is_equal(row),
         _ => false,
     }
+}
+
+fn tell_nothing() {
+    io::write_all(STDOUT_FILENO, b"no part\n");
 }
 
 fn tell(name: u64, tally: Tally) {

@@ -17,14 +17,8 @@ struct Outcome {
 }
 
 pub fn is_equal(row: &[u8]) -> bool {
-    let given = PhaseAccumulator {
-        phase: Cycles(words::f32_of(words::u32_at(row, 4))),
-        increment: Cycles(words::f32_of(words::u32_at(row, 8))),
-    };
-    let a = words::f32_of(words::u32_at(row, 12));
-    let b = words::f32_of(words::u32_at(row, 16));
     let op = words::u32_at(row, 0);
-    let got = called(op, given, a, b);
+    let got = called(op, given(row), float_at(row, 12), float_at(row, 16));
     (op < 8)
         & (got.number == words::u32_at(row, 20) as u64)
         & (got.value == words::u32_at(row, 24))
@@ -32,16 +26,39 @@ pub fn is_equal(row: &[u8]) -> bool {
         & (got.increment == words::u32_at(row, 32))
 }
 
+fn given(row: &[u8]) -> PhaseAccumulator {
+    PhaseAccumulator {
+        phase: Cycles(float_at(row, 4)),
+        increment: Cycles(float_at(row, 8)),
+    }
+}
+
+fn float_at(row: &[u8], at: usize) -> f32 {
+    words::f32_of(words::u32_at(row, at))
+}
+
 fn called(op: u32, given: PhaseAccumulator, a: f32, b: f32) -> Outcome {
     match op {
-        0 => changed(given.set_frequency(a, b)),
-        1 => changed(given.set_increment(Cycles(a))),
-        2 => shown(given.increment(), given),
+        0 | 1 | 5 | 6 => changed(set(op, given, a, b)),
+        2 | 4 => shown(asked(op, given), given),
         3 => stepped(given.next()),
-        4 => shown(given.phase(), given),
-        5 => changed(given.set_phase(Cycles(a))),
-        6 => changed(given.reset()),
         _ => of_state(0, 0, PhaseAccumulator::new()),
+    }
+}
+
+fn set(op: u32, given: PhaseAccumulator, a: f32, b: f32) -> Changed {
+    match op {
+        0 => given.set_frequency(a, b),
+        1 => given.set_increment(Cycles(a)),
+        5 => given.set_phase(Cycles(a)),
+        _ => given.reset(),
+    }
+}
+
+fn asked(op: u32, given: PhaseAccumulator) -> Shown {
+    match op {
+        2 => given.increment(),
+        _ => given.phase(),
     }
 }
 

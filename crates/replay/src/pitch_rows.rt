@@ -8,13 +8,18 @@ pub fn is_equal(row: &[u8]) -> bool {
     if note > 255 {
         return false;
     }
-    let single = pitch::midi_note_to_frequency(note as u8);
-    let double = pitch::midi_note_to_frequency_f64(note as u8);
-    let number = words::u64_at(row, 8);
-    let answer = single.answer;
-    let same = double.answer;
-    (fields::number_of(answer) == number)
-        & (fields::number_of(same) == number)
-        & (words::f32_bits(single.value) as u64 == words::u64_at(row, 16))
-        & fields::is_word(row, 24, double.value)
+    is_single(row, note as u8) & is_double(row, note as u8)
+}
+
+fn is_single(row: &[u8], note: u8) -> bool {
+    let got = pitch::midi_note_to_frequency(note);
+    let answer = got.answer;
+    let told = [fields::number_of(answer), words::f32_bits(got.value) as u64];
+    fields::are_words(row, 8, &told)
+}
+
+fn is_double(row: &[u8], note: u8) -> bool {
+    let got = pitch::midi_note_to_frequency_f64(note);
+    let answer = got.answer;
+    (fields::number_of(answer) == words::u64_at(row, 8)) & fields::is_word(row, 24, got.value)
 }

@@ -4,6 +4,7 @@
 use crate::fields;
 use crate::tally;
 use crate::tally::Finding;
+use answers::Answer;
 use envelope::Adsr;
 use render::Rendered;
 use state::Settings;
@@ -34,39 +35,30 @@ pub fn compared(row: &[u8]) -> Finding {
     compared_in(row, &mut out, &mut shelf)
 }
 
-// As much is lent as the row says; no call is named where there is not so much.
+// As much is lent as the row says; a row is unequal where there is not so much.
 fn compared_in(row: &[u8], out: &mut [f64], shelf: &mut [u64]) -> Finding {
     let samples = words::u64_at(row, 72) as usize;
-    let score = words::u64_at(row, 80) as usize;
-    let kept = words::u64_at(row, 88) as usize;
     if samples > out.len() {
         return tally::exactly(false);
     }
+    compared_with(row, &mut out[0..samples], shelf)
+}
+
+fn compared_with(row: &[u8], out: &mut [f64], shelf: &mut [u64]) -> Finding {
+    let kept = words::u64_at(row, 88) as usize;
     if kept > shelf.len() {
         return tally::exactly(false);
     }
-    if row.len() < ROW {
-        return tally::exactly(false);
-    }
-    if score > row.len() - ROW {
-        return tally::exactly(false);
-    }
-    let end = ROW + score;
-    let got = called(
-        row,
-        &row[ROW..end],
-        &mut out[0..samples],
-        &mut shelf[0..kept],
-    );
-    judged(row, got, &out[0..samples], &shelf[0..kept])
+    let told = is_called(row, out, &mut shelf[0..kept]);
+    judged(row, told, out, &shelf[0..kept])
 }
 
-fn judged(row: &[u8], got: Rendered, out: &[f64], shelf: &[u64]) -> Finding {
+fn judged(row: &[u8], told: bool, out: &[f64], shelf: &[u64]) -> Finding {
     let places = places_of(row);
     let found = compared_samples(row, places, out);
     Finding {
-        equal: names_a_call(row, places)
-            & is_outcome(row, got)
+        equal: told
+            & names_a_call(row, places)
             & found.equal
             & fields::are_words(row, places.shelf, shelf),
         farthest: found.farthest,
@@ -99,17 +91,42 @@ fn places_of(row: &[u8]) -> Places {
     }
 }
 
-fn called(row: &[u8], score: &[u8], out: &mut [f64], shelf: &mut [u64]) -> Rendered {
+// Whether the call answers what it must, and the state after it is the one that it must be.
+fn is_called(row: &[u8], out: &mut [f64], shelf: &mut [u64]) -> bool {
     if words::u64_at(row, 0) == 0 {
-        return render::render(settings_of(row), score, out, shelf);
+        return is_rendered(row, out, shelf);
     }
-    render::continue_render(
+    is_continued(row, out)
+}
+
+fn is_rendered(row: &[u8], out: &mut [f64], shelf: &mut [u64]) -> bool {
+    let got = render::render(settings_of(row), score_of(row), out, shelf);
+    is_outcome(row, got)
+}
+
+fn is_continued(row: &[u8], out: &mut [f64]) -> bool {
+    let position = words::u64_at(row, 96);
+    let got = render::continue_render(
         settings_of(row),
-        score,
+        score_of(row),
         state_of(row),
-        words::u64_at(row, 96),
+        position,
         out,
-    )
+    );
+    is_outcome(row, got)
+}
+
+// As much of the score as there is.
+fn score_of(row: &[u8]) -> &[u8] {
+    let size = words::u64_at(row, 80) as usize;
+    if row.len() < ROW {
+        return &row[0..0];
+    }
+    if size > row.len() - ROW {
+        return &row[ROW..];
+    }
+    let end = ROW + size;
+    &row[ROW..end]
 }
 
 fn settings_of(row: &[u8]) -> Settings {
@@ -146,12 +163,22 @@ fn state_of(row: &[u8]) -> State {
 fn is_outcome(row: &[u8], got: Rendered) -> bool {
     let answer = got.answer;
     let state = got.state;
+    is_answer(row, answer) & is_state(row, state)
+}
+
+fn is_answer(row: &[u8], answer: Answer) -> bool {
     let numbers = answers::in_numbers(answer);
+    let told = [
+        numbers.number as u64,
+        numbers.place as u64,
+        numbers.count as u64,
+    ];
+    fields::are_words(row, 200, &told)
+}
+
+fn is_state(row: &[u8], state: State) -> bool {
     let entry = shelf::encode(state);
-    (numbers.number as u64 == words::u64_at(row, 200))
-        & (numbers.place as u64 == words::u64_at(row, 208))
-        & (numbers.count as u64 == words::u64_at(row, 216))
-        & fields::are_words(row, 224, &entry)
+    fields::are_words(row, 224, &entry)
 }
 
 // A sine is measured where the original was asked; a refusal has left every number as it was.

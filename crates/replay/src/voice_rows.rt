@@ -1,6 +1,6 @@
 // The original's answers to the calls of voice.rs: a row is 31 u32, compared bit for bit: the number, what is answered, and
 // the state after with its held keys, which are 0 beyond their count.
-use answers::Answer;
+use crate::fields;
 use voice::Changed;
 use voice::Off;
 use voice::VoiceState;
@@ -12,17 +12,8 @@ pub const ROW: usize = 124;
 // What stands for no active note.
 const NONE: u32 = 256;
 
-// What a call gave: its answer, a yes or no or a number of keys, and the state after.
-struct Outcome {
-    answer: Answer,
-    value: u64,
-    voice: VoiceState,
-}
-
 pub fn is_equal(row: &[u8]) -> bool {
-    let got = called(row);
-    let voice = got.voice;
-    names_a_call(row) & is_answer(row, got) & is_state(row, voice)
+    names_a_call(row) & is_called(row, state(row))
 }
 
 fn names_a_call(row: &[u8]) -> bool {
@@ -33,61 +24,53 @@ fn names_a_call(row: &[u8]) -> bool {
         & (words::u32_at(row, 60) < 256)
 }
 
-fn called(row: &[u8]) -> Outcome {
-    let given = state(row);
+// Whether the call answers and leaves what it must.
+fn is_called(row: &[u8], given: VoiceState) -> bool {
     match words::u32_at(row, 0) {
-        0 => changed(given.note_on(byte_at(row, 56), byte_at(row, 60))),
-        1 => lifted(given.note_off(byte_at(row, 56))),
-        2 => changed(given.reset()),
-        3 => asked_active(given),
-        4 => asked_count(given),
-        _ => Outcome {
-            answer: Answer::Done(0),
-            value: 0,
-            voice: VoiceState::new(),
-        },
+        0 => is_changed(row, given.note_on(byte_at(row, 56), byte_at(row, 60))),
+        1 => is_lifted(row, given.note_off(byte_at(row, 56))),
+        2 => is_changed(row, given.reset()),
+        3 => is_activity(row, given),
+        4 => is_count(row, given),
+        _ => is_outcome(row, 0, 0, VoiceState::new()),
     }
 }
 
-fn changed(got: Changed) -> Outcome {
+fn is_changed(row: &[u8], got: Changed) -> bool {
     let answer = got.answer;
     let voice = got.voice;
-    Outcome {
-        answer,
-        value: 0,
-        voice,
-    }
+    is_outcome(row, fields::number_of(answer), 0, voice)
 }
 
-fn lifted(got: Off) -> Outcome {
+fn is_lifted(row: &[u8], got: Off) -> bool {
     let answer = got.answer;
     let voice = got.voice;
-    Outcome {
-        answer,
-        value: number_of(got.released),
+    is_outcome(
+        row,
+        fields::number_of(answer),
+        number_of(got.released),
         voice,
-    }
+    )
 }
 
 // A getter hands back no state: the one that was given.
-fn asked_active(given: VoiceState) -> Outcome {
+fn is_activity(row: &[u8], given: VoiceState) -> bool {
     let got = given.is_active();
     let answer = got.answer;
-    Outcome {
-        answer,
-        value: number_of(got.active),
-        voice: given,
-    }
+    is_outcome(row, fields::number_of(answer), number_of(got.active), given)
 }
 
-fn asked_count(given: VoiceState) -> Outcome {
+fn is_count(row: &[u8], given: VoiceState) -> bool {
     let got = given.held_note_count();
     let answer = got.answer;
-    Outcome {
-        answer,
-        value: got.count as u64,
-        voice: given,
-    }
+    is_outcome(row, fields::number_of(answer), got.count as u64, given)
+}
+
+// The number, a yes or no or a number of keys, and the state after.
+fn is_outcome(row: &[u8], number: u64, value: u64, after: VoiceState) -> bool {
+    (number == words::u32_at(row, 64) as u64)
+        & (value == words::u32_at(row, 68) as u64)
+        & is_state(row, after)
 }
 
 fn state(row: &[u8]) -> VoiceState {
@@ -102,8 +85,8 @@ fn keys_of(row: &[u8]) -> Keys {
     Keys {
         active: active_of(words::u32_at(row, 4)),
         gate: words::u32_at(row, 8) == 1,
-        notes: bytes_of(words::u64_at(row, 16), words::u64_at(row, 24)),
-        velocities: bytes_of(words::u64_at(row, 32), words::u64_at(row, 40)),
+        notes: bytes_at(row, 16),
+        velocities: bytes_at(row, 32),
         count: words::u32_at(row, 12) as usize,
     }
 }
@@ -115,17 +98,14 @@ fn active_of(code: u32) -> ActiveNote {
     ActiveNote::Silent
 }
 
-fn is_answer(row: &[u8], got: Outcome) -> bool {
-    let answer = got.answer;
-    let numbers = answers::in_numbers(answer);
-    (numbers.number as u32 == words::u32_at(row, 64))
-        & (numbers.place == 0)
-        & (numbers.count == 0)
-        & (got.value == words::u32_at(row, 68) as u64)
-}
-
 fn is_state(row: &[u8], after: VoiceState) -> bool {
     let keys = after.keys;
+    is_keys(row, keys)
+        & (words::f32_bits(after.velocity) == words::u32_at(row, 116))
+        & (words::f32_bits(after.frequency) == words::u32_at(row, 120))
+}
+
+fn is_keys(row: &[u8], keys: Keys) -> bool {
     let active = keys.active;
     let notes = keys.notes;
     let velocities = keys.velocities;
@@ -134,8 +114,6 @@ fn is_state(row: &[u8], after: VoiceState) -> bool {
         & (keys.count as u64 == words::u32_at(row, 80) as u64)
         & are_bytes(row, 84, &notes)
         & are_bytes(row, 100, &velocities)
-        & (words::f32_bits(after.velocity) == words::u32_at(row, 116))
-        & (words::f32_bits(after.frequency) == words::u32_at(row, 120))
 }
 
 fn code_of(active: ActiveNote) -> u32 {
@@ -158,24 +136,27 @@ fn byte_at(row: &[u8], at: usize) -> u8 {
     (words::u32_at(row, at) % 256) as u8
 }
 
-// The bytes of two words, low byte first.
-fn bytes_of(low: u64, high: u64) -> [u8; 16] {
+fn bytes_at(row: &[u8], at: usize) -> [u8; 16] {
     [
-        (low % 256) as u8,
-        (low / 0x100 % 256) as u8,
-        (low / 0x1_0000 % 256) as u8,
-        (low / 0x100_0000 % 256) as u8,
-        (low / 0x1_0000_0000 % 256) as u8,
-        (low / 0x100_0000_0000 % 256) as u8,
-        (low / 0x1_0000_0000_0000 % 256) as u8,
-        (low / 0x100_0000_0000_0000 % 256) as u8,
-        (high % 256) as u8,
-        (high / 0x100 % 256) as u8,
-        (high / 0x1_0000 % 256) as u8,
-        (high / 0x100_0000 % 256) as u8,
-        (high / 0x1_0000_0000 % 256) as u8,
-        (high / 0x100_0000_0000 % 256) as u8,
-        (high / 0x1_0000_0000_0000 % 256) as u8,
-        (high / 0x100_0000_0000_0000 % 256) as u8,
+        byte_after(row, at, 0),
+        byte_after(row, at, 1),
+        byte_after(row, at, 2),
+        byte_after(row, at, 3),
+        byte_after(row, at, 4),
+        byte_after(row, at, 5),
+        byte_after(row, at, 6),
+        byte_after(row, at, 7),
+        byte_after(row, at, 8),
+        byte_after(row, at, 9),
+        byte_after(row, at, 10),
+        byte_after(row, at, 11),
+        byte_after(row, at, 12),
+        byte_after(row, at, 13),
+        byte_after(row, at, 14),
+        byte_after(row, at, 15),
     ]
+}
+
+fn byte_after(row: &[u8], at: usize, i: usize) -> u8 {
+    byte_at(row, std::num::wrapping_add_usize(at, i))
 }

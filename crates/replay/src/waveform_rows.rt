@@ -21,10 +21,8 @@ pub fn is_equal(row: &[u8]) -> bool {
     let mut slots = [fields::UNWRITTEN; 8];
     let waveform = fields::waveform_of(words::u64_at(row, 8), fields::float_at(row, 16));
     let got = called(row, waveform, &mut slots[0..lent]);
-    names_a_call(row)
-        & (got.number == words::u64_at(row, 56))
-        & fields::is_word(row, 64, got.phase)
-        & fields::are_slots(row, 72, &slots)
+    let told = [got.number, words::f64_bits(got.phase)];
+    names_a_call(row) & fields::are_words(row, 56, &told) & fields::are_slots(row, 72, &slots)
 }
 
 fn names_a_call(row: &[u8]) -> bool {
