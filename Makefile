@@ -51,7 +51,7 @@ help:
 	@echo '             then by libFuzzer for SECONDS=$(SECONDS)'
 	@echo 'make bench   measure the library beside the original and C, on one core: BENCH="--seed 7", bench/run --help'
 	@echo 'make deps    install what the host tests need and is missing here, with apt-get'
-	@echo 'make vectors write the committed rows of the replays anew, from the original (oracle/)'
+	@echo 'make vectors write the committed rows of the replay anew, from the original (oracle/)'
 	@echo 'make clean   remove target/ and build/'
 
 check:

@@ -8,8 +8,8 @@ use crate::chance::Chance;
 use crate::envelope_rows::{random_rate, random_settings};
 use crate::library::{Buffers, Given};
 use crate::render::{on, untouched, Player, Record, Settings, Words, KIND_RESET, MARK};
+use crate::render_asked::{bytes_of, score_fault, shelf_words, MOST_RECORDS, MOST_SAMPLES};
 use crate::render_random::{audible, random_score, random_wave};
-use crate::render_rows::{bytes_of, score_fault, shelf_words, MOST_RECORDS, MOST_SAMPLES};
 use crate::waveform_rows::{not_a_unit, PULSE, SINE};
 
 /// What differed.
