@@ -18,9 +18,13 @@ C_FLAGS = -std=c11 -Wall -Wextra -Werror -pedantic -ffp-contract=off -D_XOPEN_SO
 SANITIZED = -g -O1 -fsanitize=address,undefined -fno-sanitize-recover=all
 DESK_SOURCES = $(wildcard desk/*.c)
 READERS = $(filter-out desk/main.c,$(DESK_SOURCES))
+FUZZ = tests/desk/fuzz_readers.c tests/desk/fuzz_readers.h
 DESK_NEEDS = desk/desk.h include/gavberin.h build/libgavberin.a
 ROUNDS = 4000000
+SECONDS = 60
 SEED = 1
+# libFuzzer is clang's. No test needs it, so that `make deps` leaves it out.
+CLANG = clang
 
 # The library's version is the header's; the shared library is named for it. What `make install` puts where.
 VERSION := $(shell sed -n 's/^\#define GAV_VERSION //p' include/gavberin.h)
@@ -30,22 +34,24 @@ INSTALLED = $(DESTDIR)$(PREFIX)
 
 .DEFAULT_GOAL = help
 .DELETE_ON_ERROR:
-.PHONY: always help check test ci fmt lib desk man install demo fuzz bench deps vectors clean
+.PHONY: always help check test ci judges judges-deps fmt lib desk man install demo fuzz bench deps vectors clean
 
 help:
 	@echo 'make check   prove every crate and run each program (rt check)'
 	@echo 'make test    run the host tests (tests/run); some read what rt ci left in target/'
 	@echo 'make ci      run the gate: rt ci, then the host tests'
+	@echo 'make judges  run what no gate does: ffmpeg, aplay, JACK and ten minutes of libFuzzer beside the desk and the library'
 	@echo 'make fmt     lay out every .rt and .antt file (rt fmt)'
 	@echo 'make lib     prove what C sees and build it for this processor: build/libgavberin.a and build/libgavberin.so'
 	@echo 'make desk    build the desk, build/desk, and the library that it stands on'
 	@echo 'make man     write the man page of the desk, build/desk.1, from what its verbs say of themselves'
 	@echo 'make install put header, libraries, gavberin.pc, desk and its man page under PREFIX=$(PREFIX), below DESTDIR'
 	@echo 'make demo    build both, render a tune, edit it five times and draw the chart, in build/demo/'
-	@echo 'make fuzz    feed the readers of the desk with damaged input for long: ROUNDS=$(ROUNDS) SEED=$(SEED)'
+	@echo 'make fuzz    feed the readers of the desk with damaged input for long: ROUNDS=$(ROUNDS) SEED=$(SEED),'
+	@echo '             then by libFuzzer for SECONDS=$(SECONDS)'
 	@echo 'make bench   measure the library beside the original and C, on one core: BENCH="--seed 7", bench/run --help'
 	@echo 'make deps    install what the host tests need and is missing here, with apt-get'
-	@echo 'make vectors write the committed rows of the replays anew, from the original (oracle/)'
+	@echo 'make vectors write the committed rows of the replay anew, from the original (oracle/)'
 	@echo 'make clean   remove target/ and build/'
 
 check:
@@ -56,6 +62,12 @@ test:
 
 ci:
 	@bash .ci/run
+
+judges:
+	@tests/run --judges
+
+judges-deps:
+	@$(MAKE) --no-print-directory deps PACKAGES='ffmpeg alsa-utils jackd2 jack-capture libjack-jackd2-dev clang libclang-rt-dev'
 
 fmt:
 	@rt fmt
@@ -101,8 +113,11 @@ install: build/libgavberin.so build/desk build/desk.1
 demo: build/desk
 	@desk/demo
 
+# SECONDS=0 leaves libFuzzer out.
 fuzz: build/fuzz
 	@build/fuzz $(ROUNDS) $(SEED)
+	@[ "$(SECONDS)" = 0 ] || $(MAKE) --no-print-directory build/desk build/libfuzzer
+	@[ "$(SECONDS)" = 0 ] || tests/desk/libfuzzer $(SECONDS) $(SEED)
 
 bench: build/libgavberin.a
 	@bench/run $(BENCH)
@@ -117,11 +132,19 @@ build/desk-sanitized: $(DESK_SOURCES) $(DESK_NEEDS)
 build/desk-wrong: $(DESK_SOURCES) tests/desk/wrong_rerender.c $(DESK_NEEDS)
 	@$(CC) $(C_FLAGS) -O2 -Wl,--wrap=gav_rerender -o $@ $(DESK_SOURCES) tests/desk/wrong_rerender.c build/libgavberin.a -lm
 
-build/fuzz: $(READERS) tests/desk/fuzz.c $(DESK_NEEDS)
-	@$(CC) $(C_FLAGS) $(SANITIZED) -o $@ $(READERS) tests/desk/fuzz.c build/libgavberin.a -lm
+build/fuzz: $(READERS) $(FUZZ) tests/desk/fuzz.c $(DESK_NEEDS)
+	@$(CC) $(C_FLAGS) $(SANITIZED) -o $@ $(READERS) tests/desk/fuzz_readers.c tests/desk/fuzz.c build/libgavberin.a -lm
+
+build/libfuzzer: $(READERS) $(FUZZ) $(DESK_NEEDS)
+	@echo 'int LLVMFuzzerTestOneInput(void) { return 0; }' | $(CLANG) -x c -fsanitize=fuzzer -o /dev/null - 2>/dev/null || \
+	    { echo "make fuzz: no libFuzzer here: install Debian's packages clang and libclang-rt-dev, or leave it out by SECONDS=0"; exit 1; }
+	@$(CLANG) $(C_FLAGS) $(SANITIZED) -fsanitize=fuzzer -o $@ $(READERS) tests/desk/fuzz_readers.c build/libgavberin.a -lm
 
 build/samples: tests/desk/samples.c $(DESK_NEEDS)
 	@$(CC) $(C_FLAGS) -O2 -o $@ tests/desk/samples.c build/libgavberin.a -lm
+
+build/jack-host: tests/judges/jack_host.c $(DESK_NEEDS)
+	@$(CC) $(C_FLAGS) -O2 -o $@ tests/judges/jack_host.c build/libgavberin.a -ljack -lm
 
 build/failing.so: tests/desk/failing.c
 	@mkdir -p build

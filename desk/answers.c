@@ -1,14 +1,35 @@
-/* What the library says, in words: document 01's table, and what is wrong at the place that it names. */
+/* What the library says, in words: a range of numbers at a time, and what is wrong at the place that it names. */
 #include "desk.h"
 
-/* The numbers of a score's faults are given plus 16 for a new score. */
-#define NEW_SCORE 16u
+#include <string.h>
+
+/* Bytes of a score that are looked at to tell a text. */
+#define TEXT_SEEN 32u
+
+/* A refusal, its number counted from the first of its range. */
+struct refusal {
+    uint64_t said;
+    unsigned number;
+    size_t place;
+    const struct asked *asked;
+};
+
+/* Whether it begins like the text that scores are made from. */
+static bool is_text(const struct score *score) {
+    if (score->len == 0 || memcmp(score->at, "VN", score->len < 2 ? 1 : 2) == 0) return false;
+    for (size_t i = 0; i < score->len && i < TEXT_SEEN; i++) {
+        uint8_t byte = score->at[i];
+        if ((byte < ' ' || byte > '~') && byte != '\n' && byte != '\r' && byte != '\t') return false;
+    }
+    return true;
+}
 
 static bool length_words(const struct score *score, struct why *why) {
     if (score->len > MOST_SCORE) {
         return refuse(why, "it is longer than %u records (%u bytes)", MOST_RECORDS, MOST_SCORE);
     }
-    return refuse(why, "%zu bytes are no whole number of records of %u bytes", score->len, RECORD_BYTES);
+    return refuse(why, "%zu %s no whole number of records of %u bytes", score->len,
+                  counted(score->len, "byte is", "bytes are"), RECORD_BYTES);
 }
 
 static bool field_words(const uint8_t *record, struct why *why) {
@@ -20,16 +41,16 @@ static bool field_words(const uint8_t *record, struct why *why) {
     return refuse(why, "its last byte is %u, and not 0", record[9]);
 }
 
-/* What is wrong with a record: numbers 2 to 5. */
+/* What is wrong with a record: the second to the fifth of a score's five numbers. */
 static bool record_words(unsigned number, const struct score *score, size_t place, struct why *why) {
     const uint8_t *record = score->at + RECORD_BYTES * place;
     switch (number) {
-    case 2:
+    case 1:
         return refuse(why, "it begins with the bytes %02X %02X (hex), and not with the mark 56 4E", record[0],
                       record[1]);
-    case 3:
+    case 2:
         return refuse(why, "its kind is %u, and not 1 (on), 2 (off) or 3 (reset)", record[6]);
-    case 4:
+    case 3:
         return field_words(record, why);
     default:
         return refuse(why, "its position, sample %u, is below that of the record before it, sample %u",
@@ -37,59 +58,90 @@ static bool record_words(unsigned number, const struct score *score, size_t plac
     }
 }
 
-bool refused_score(uint64_t said, const char *path, const struct score *score, struct why *why) {
-    unsigned given = gav_number(said), number = given > NEW_SCORE ? given - NEW_SCORE : given;
-    size_t place = gav_place(said), first = RECORD_BYTES * place;
-    if (number == 1) {
+/* The five numbers of a score. */
+static void score_words(const struct refusal *r, const struct score *score, struct why *why) {
+    size_t place = r->place, first = RECORD_BYTES * place;
+    if (score && r->number == 0) {
         length_words(score, why);
-    } else if (number >= 2 && number <= 5 && first + RECORD_BYTES <= score->len && (number < 5 || place > 0)) {
-        record_words(number, score, place, why);
+    } else if (score && first + RECORD_BYTES <= score->len && (r->number < 4 || place > 0)) {
+        record_words(r->number, score, place, why);
         preface(why, "record %zu, bytes %zu to %zu: ", place, first, first + RECORD_BYTES - 1);
     } else {
-        refuse(why, "the library gave an answer that is none for a score");
+        refuse(why, "%s", gav_words(r->said));
     }
-    preface(why, "refused %u at place %zu: ", given, place);
-    return path ? preface(why, "%s: ", path) : false;
+    if (score && r->number <= 1 && is_text(score)) preface(why, "it looks like a text, and needs `desk make` first: ");
+}
+
+static const char *old_score_words(const struct refusal *r, struct why *why) {
+    score_words(r, r->asked->old_score, why);
+    return r->asked->old_path;
+}
+
+static const char *new_score_words(const struct refusal *r, struct why *why) {
+    score_words(r, r->asked->new_score, why);
+    return r->asked->new_path;
 }
 
 /* Which setting the library refused. */
-static bool setting_words(const struct settings *s, struct why *why) {
-    if (s->rate < 8000 || s->rate > 192000)
-        return refuse(why, "the rate, %u Hz, is outside 8000 to 192000 Hz", s->rate);
-    if (s->code > 4) return refuse(why, "the waveform code, %u, is above 4", s->code);
-    if (s->code == 4 && !(s->duty >= 0 && s->duty <= 1)) {
-        return refuse(why, "the pulse's duty, %g of a cycle, is outside 0 to 1", s->duty);
+static const char *setting_words(const struct refusal *r, struct why *why) {
+    const struct gav_settings *s = r->asked->settings;
+    if (!s) {
+        refuse(why, "%s", gav_words(r->said));
+    } else if (s->rate < 8000 || s->rate > 192000) {
+        refuse(why, "the rate, %u Hz, is outside 8000 to 192000 Hz", s->rate);
+    } else if (!wave_name(s->code)) {
+        refuse(why, "the waveform code, %u, is of no waveform", s->code);
+    } else if (s->code == GAV_PULSE && !(s->duty >= 0 && s->duty <= 1)) {
+        refuse(why, "the pulse's duty, %g of a cycle, is outside 0 to 1", s->duty);
+    } else {
+        refuse(why, "an ADSR setting is no number (attack %g s, decay %g s, sustain %g, release %g s)", s->attack,
+               s->decay, s->sustain, s->release);
     }
-    return refuse(why, "an ADSR setting is no number (attack %g s, decay %g s, sustain %g, release %g s)", s->attack,
-                  s->decay, s->sustain, s->release);
+    return r->asked->shelf_path;
 }
 
-bool refused_sound(uint64_t said, const struct settings *settings, size_t samples, struct why *why) {
-    switch (gav_number(said)) {
-    case 6:
-        setting_words(settings, why);
-        break;
-    case 7:
-        if (samples > GAV_MOST_SAMPLES) {
-            refuse(why, "the sound is longer than %d samples (%.3f s at %u Hz)", GAV_MOST_SAMPLES,
-                   (double)GAV_MOST_SAMPLES / settings->rate, settings->rate);
-        } else {
-            refuse(why, "the shelf has not %d words for each %d of %zu samples", GAV_STATE_WORDS, GAV_MARK, samples);
-        }
-        break;
-    case 8:
-        refuse(why, "the shelf's entry to start from is no state, or has acted on other records than the new score has "
-                    "before it");
-        break;
-    case 9:
-        refuse(why, "an argument is outside its domain (phase 0 to 1 cycle, dt 0 to 4 cycles a sample)");
-        break;
-    case 10:
-        refuse(why, "the state to continue from is none, or has acted on another number of records than the score has "
-                    "before its position");
-        break;
-    default:
-        refuse(why, "the library gave an answer that is none of document 01's");
+static const char *size_words(const struct refusal *r, struct why *why) {
+    const struct gav_settings *s = r->asked->settings;
+    if (s && r->asked->samples > GAV_MOST_SAMPLES) {
+        refuse(why, "the sound is longer than %d samples (%.3f s at %u Hz)", GAV_MOST_SAMPLES,
+               (double)GAV_MOST_SAMPLES / s->rate, s->rate);
+    } else {
+        refuse(why, "%s", gav_words(r->said));
     }
-    return preface(why, "refused %u at place %u: ", gav_number(said), gav_place(said));
+    return r->asked->shelf_path;
+}
+
+static const char *entry_words(const struct refusal *r, struct why *why) {
+    refuse(why, "%s", gav_words(r->said));
+    return r->asked->shelf_path;
+}
+
+/* Who finds words for which numbers; the others have the library's own. */
+static const struct range {
+    unsigned first, last;
+    const char *(*words)(const struct refusal *refusal, struct why *why);
+} ranges[] = {
+    {.first = 1, .last = 5, .words = old_score_words},   {.first = 6, .last = 6, .words = setting_words},
+    {.first = 7, .last = 7, .words = size_words},        {.first = 8, .last = 8, .words = entry_words},
+    {.first = 17, .last = 21, .words = new_score_words},
+};
+
+bool accepted(uint64_t said, const struct asked *asked, struct why *why) {
+    struct refusal refusal = {.said = said, .place = gav_place(said), .asked = asked};
+    unsigned number = gav_number(said);
+    const char *path = NULL;
+    if (number == 0) return true;
+    refuse(why, "%s", gav_words(said));
+    for (size_t i = 0; i < COUNT_OF(ranges); i++) {
+        if (number < ranges[i].first || number > ranges[i].last) continue;
+        refusal.number = number - ranges[i].first;
+        path = ranges[i].words(&refusal, why);
+    }
+    preface(why, "refused %u at place %zu: ", number, refusal.place);
+    return path ? preface(why, "%s: ", path) : false;
+}
+
+bool check_score(const char *path, const struct score *score, struct why *why) {
+    struct asked asked = {.old_path = path, .old_score = score};
+    return accepted(gav_check_score(score->at, score->len), &asked, why);
 }

@@ -4,52 +4,53 @@
 #include <stdlib.h>
 #include <string.h>
 
-/* The option that a word names: by itself, or before a '='. */
-static const struct option *find(const struct option *options, const char *word) {
-    for (; options->name; options++) {
-        size_t len = strlen(options->name);
-        if (strncmp(word, options->name, len) == 0 && (word[len] == '\0' || word[len] == '=')) return options;
+/* An option's name is at most this long; a longer word is none. */
+#define MOST_NAME 32u
+
+/* Where the value of the option goes; NULL where the verb has no such option. */
+static const char **place_of_value(const struct arguments *takes, const char *name) {
+    for (const struct option *option = takes->options; option->name; option++) {
+        if (strcmp(option->name, name) == 0) return option->value;
     }
-    return NULL;
+    return takes->settings ? setting_text(takes->settings, name) : NULL;
 }
 
-/* Takes the option that stands at *given, which is then at its last word. */
-static bool take_option(char ***given, const struct option *options, struct why *why) {
-    const char *word = **given;
-    const struct option *option = find(options, word);
-    if (!option) return misuse(why, "unknown option %s", word);
-    const char *equals = strchr(word, '=');
-    if (option->flag) {
-        if (equals) return misuse(why, "%s takes no value", option->name);
-        *option->flag = true;
-        return true;
-    }
-    if (*option->value) return misuse(why, "%s is given twice", option->name);
+/* Takes the option that stands at *given, by itself or before a '='; *given is then at its last word. */
+static bool take_option(char ***given, const struct arguments *takes, struct why *why) {
+    const char *word = **given, *equals = strchr(word, '=');
+    size_t len = equals ? (size_t)(equals - word) : strlen(word);
+    char name[MOST_NAME + 1] = "";
+    if (len <= MOST_NAME) memcpy(name, word, len);
+    const char **value = place_of_value(takes, name);
+    if (!value) return misuse(why, "unknown option %s", word);
+    if (*value) return misuse(why, "%s is given twice", name);
     if (equals) {
-        *option->value = equals + 1;
+        *value = equals + 1;
     } else if ((*given)[1]) {
-        *option->value = *++*given;
+        *value = *++*given;
     } else {
-        return misuse(why, "%s needs a value", option->name);
+        return misuse(why, "%s needs a value", name);
     }
     return true;
 }
 
-bool read_arguments(char **given, const struct option *options, const struct option *operands, struct why *why) {
+bool read_arguments(char **given, const struct arguments *takes, struct why *why) {
+    const struct option *operand = takes->operands;
     bool only_operands = false;
     for (; *given; given++) {
         const char *word = *given;
         if (!only_operands && strcmp(word, "--") == 0) {
             only_operands = true;
         } else if (!only_operands && word[0] == '-' && word[1] != '\0') {
-            if (!take_option(&given, options, why)) return false;
-        } else if (!operands->name) {
+            if (!take_option(&given, takes, why)) return false;
+        } else if (!operand->name) {
             return misuse(why, "one argument too many: %s", word);
         } else {
-            *operands++->value = word;
+            *operand++->value = word;
         }
     }
-    return operands->name ? misuse(why, "%s is missing", operands->name) : true;
+    if (!operand->name || (takes->or_no_operands && operand == takes->operands)) return true;
+    return misuse(why, "%s is missing", operand->name);
 }
 
 bool read_number(const char *name, const char *text, double *value, struct why *why) {

@@ -29,9 +29,19 @@ double from_bits(uint64_t bits) {
     return value;
 }
 
-/* FNV-1a in 64 bits: each step is one to one, so that one changed byte always changes the sum. */
+/* A step of the sum. It is one to one in the sum and in the word, so that one changed word always changes the sum; the
+   shift brings high bits down, or flipped signs of two doubles would cancel. */
+static uint64_t add_word(uint64_t sum, uint64_t word) {
+    sum = (sum ^ word) * UINT64_C(0x9E3779B97F4A7C15);
+    return sum ^ sum >> 29;
+}
+
+/* 8 bytes a step, from a start that holds the length; zeros fill the last word. */
 uint64_t sum_of(const uint8_t *at, size_t len) {
-    uint64_t sum = UINT64_C(0xcbf29ce484222325);
-    for (size_t i = 0; i < len; i++) sum = (sum ^ at[i]) * UINT64_C(0x100000001b3);
-    return sum;
+    uint64_t sum = UINT64_C(0xcbf29ce484222325) ^ len;
+    uint8_t last[8] = {0};
+    for (; len >= 8; at += 8, len -= 8) sum = add_word(sum, get_u64(at));
+    if (len == 0) return sum;
+    memcpy(last, at, len);
+    return add_word(sum, get_u64(last));
 }

@@ -1,131 +1,114 @@
-/* The verb chart: edits of a slowly falling pad, ours and the old way's, against a render from sample zero. */
+/* The verb chart: how far the level of a WAV is from a render from sample zero, drawn and as a table; of the user's own
+   WAV, or of the built-in pad after edits in two ways. */
 #include "desk.h"
 
 #include <stdlib.h>
 
-/* Ten windows a second, and the pad's length in windows: where five edits of 20 ms cost the old way 11 percent. */
-#define WINDOWS_A_SECOND 10u
-#define PAD_WINDOWS 92u
-#define MOST_LATE_MS 1000
-
-static const struct settings falling = {48000, 1, 0.5, 0.06, 10, 0, 0.3};
-
 struct chart_call {
-    const char *svg_path, *table_path;
+    const char *svg_path, *table_path, *edits, *late;
+    struct from_zero beside;
     struct pad pad;
-    struct pad_chart chart;
+    struct pad_chart pad_chart;
+    struct wav_chart wav_chart;
 };
 
-static void put_table(FILE *out, const struct pad *pad, const struct pad_chart *chart) {
-    double rate = pad->settings.rate, window = (double)pad->window / rate;
-    fprintf(out, "# A slowly falling pad: %zu samples, %.3f s at %u Hz, %s.\n", pad->samples,
-            (double)pad->samples / rate, pad->settings.rate, wave_name(pad->settings.code));
-    fprintf(
-        out,
-        "# Levels are the root mean square of the last %g s (full scale is 1). off: how far from the render of the\n"
-        "# same score from sample zero, in percent. differ: samples that have other bits than there.\n"
-        "# The old way starts each edit from a state %g ms past the cut.\n",
-        window, 1000.0 * (double)pad->late / rate);
-    fprintf(out, "%4s %9s %10s | %10s %8s %8s | %10s %8s %8s\n", "edit", "cut at s", "from zero", "re-render", "off %",
-            "differ", "old way", "off %", "differ");
-    for (unsigned i = 0; i <= pad->edits; i++) {
-        const struct pad_row *row = &chart->rows[i];
-        fprintf(out, "%4u %9.3f %10.6f | %10.6f %8.3f %8zu | %10.6f %8.3f %8zu\n", i, (double)row->cut / rate,
-                row->zero, row->ours, percent_off(row->ours, row->zero), row->ours_differ, row->old,
-                percent_off(row->old, row->zero), row->old_differ);
-    }
-}
+typedef void put_chart(FILE *out, const void *from);
 
 /* A draft of the drawing or of the table, whole on the disk; written to memory first. */
-static bool write_draft(struct draft *draft, const char *path, const struct chart_call *c, bool svg, struct why *why) {
+static bool write_draft(struct draft *draft, const char *path, put_chart *put, const void *from, struct why *why) {
     char *text = NULL;
     size_t len = 0;
     FILE *out = open_memstream(&text, &len);
     if (!out) return refuse(why, "%s: no memory for the chart", path);
-    if (svg) {
-        svg_draw(out, &c->pad, &c->chart);
-    } else {
-        put_table(out, &c->pad, &c->chart);
-    }
+    put(out, from);
     bool done = fclose(out) == 0 ? true : refuse(why, "%s: no memory for the chart", path);
     done = done && draft_open(draft, path, why) && draft_write(draft, text, len, why) && draft_seal(draft, why);
     free(text);
     return done;
 }
 
-/* Both files are whole on the disk before either takes its name. */
-static bool write_files(const struct chart_call *c, struct why *why) {
-    struct draft svg = NO_DRAFT, table = NO_DRAFT;
-    bool done = write_draft(&svg, c->svg_path, c, true, why);
-    if (c->table_path) done = done && write_draft(&table, c->table_path, c, false, why);
-    done = done && draft_publish(&svg, why) && (!c->table_path || draft_publish(&table, why));
-    draft_drop(&table);
-    draft_drop(&svg);
+/* Both files are whole on the disk before either takes its name. A table that has no file goes to standard output. */
+static bool write_files(const struct chart_call *c, put_chart *draw, put_chart *table, const void *from,
+                        struct why *why) {
+    struct draft drawn = NO_DRAFT, tabled = NO_DRAFT;
+    bool done = write_draft(&drawn, c->svg_path, draw, from, why);
+    if (c->table_path) done = done && write_draft(&tabled, c->table_path, table, from, why);
+    done = done && draft_publish(&drawn, why) && (!c->table_path || draft_publish(&tabled, why));
+    draft_drop(&tabled);
+    draft_drop(&drawn);
+    if (done && !c->table_path) table(stdout, from);
     return done;
 }
 
-static bool read_pad(const struct setting_texts *texts, const char *edits_text, const char *late_text, struct pad *pad,
-                     struct why *why) {
-    struct settings given;
-    uint64_t edits = 5;
-    double late = 20;
-    if (!read_settings(texts, &given, why)) return false;
-    if (edits_text && !read_whole("--edits", "edits", edits_text, PAD_MOST_EDITS, &edits, why)) return false;
-    if (edits == 0) return misuse(why, "--edits: 0 edits are no chart");
-    if (late_text && !read_number("--late", late_text, &late, why)) return false;
-    if (!(late >= 0 && late <= MOST_LATE_MS))
-        return misuse(why, "--late: %s is not 0 to %d ms", late_text, MOST_LATE_MS);
-    pad->settings = falling;
-    pad->settings.rate = given.rate;
-    if (texts->wave) pad->settings.code = given.code;
-    /* A rate that the library will refuse still needs a window of a sample, and no more than it would need at the
-     * highest. */
-    uint32_t rate = given.rate < 8000 ? 8000 : given.rate > 192000 ? 192000 : given.rate;
-    pad->window = rate / WINDOWS_A_SECOND;
-    pad->samples = PAD_WINDOWS * pad->window;
-    pad->late = (size_t)(late * rate / 1000 + 0.5);
-    pad->edits = (unsigned)edits;
+/* What is read is never written over. */
+static bool stay_apart(const struct chart_call *c, struct why *why) {
+    if (!names_file(c->svg_path, why) || (c->table_path && !names_file(c->table_path, why))) return false;
+    const char *const read[] = {c->beside.score_path, c->beside.wav_path, c->beside.shelf_path};
+    for (size_t i = 0; i < COUNT_OF(read); i++) {
+        if (!read[i]) continue;
+        if (same_file(read[i], c->svg_path) || (c->table_path && same_file(read[i], c->table_path))) {
+            return misuse(why, "%s would be written over", read[i]);
+        }
+    }
+    if (c->table_path && same_file(c->table_path, c->svg_path)) {
+        return misuse(why, "the drawing and the table are one file");
+    }
     return true;
 }
 
 static bool read_chart(char **given, struct chart_call *c, struct why *why) {
-    struct setting_texts texts = {NULL, NULL, NULL, NULL, NULL};
-    const char *edits = NULL, *late = NULL;
-    struct option options[] = {
-        {"-o", &c->svg_path, NULL}, {"--table", &c->table_path, NULL}, {"--edits", &edits, NULL},
-        {"--late", &late, NULL},    {"--rate", &texts.rate, NULL},     {"--wave", &texts.wave, NULL},
-        {NULL, NULL, NULL}};
-    struct option operands[] = {{NULL, NULL, NULL}};
-    if (!read_arguments(given, options, operands, why)) return false;
+    const struct option options[] = {
+        {"-o", &c->svg_path},   {"--table", &c->table_path}, {"--shelf", &c->beside.shelf_path},
+        {"--edits", &c->edits}, {"--late", &c->late},        {NULL, NULL},
+    };
+    const struct option operands[] = {{"SCORE", &c->beside.score_path}, {"OUT.wav", &c->beside.wav_path}, {NULL, NULL}};
+    const struct arguments takes = {
+        .options = options, .operands = operands, .or_no_operands = true, .settings = &c->beside.texts};
+    if (!read_arguments(given, &takes, why)) return false;
     if (!c->svg_path) c->svg_path = "chart.svg";
-    if (c->table_path && same_file(c->table_path, c->svg_path))
-        return misuse(why, "the drawing and the table are one file");
-    if (!can_write(c->svg_path, why) || (c->table_path && !can_write(c->table_path, why))) return false;
-    return read_pad(&texts, edits, late, &c->pad, why);
+    if (c->beside.score_path && (c->edits || c->late)) {
+        return misuse(why, "--edits and --late are of the built-in pad, and not of a score");
+    }
+    if (!c->beside.score_path && c->beside.shelf_path) return misuse(why, "--shelf needs SCORE and OUT.wav");
+    return stay_apart(c, why);
+}
+
+static bool chart_pad(struct chart_call *c, struct why *why) {
+    return read_pad(&c->beside.texts, c->edits, c->late, &c->pad, why) && pad_run(&c->pad, &c->pad_chart, why) &&
+           write_files(c, pad_draw, pad_table, &c->pad_chart, why);
+}
+
+static bool chart_wav(struct chart_call *c, struct why *why) {
+    return from_zero_make(&c->beside, why) && wav_chart_make(&c->beside, &c->wav_chart, why) &&
+           write_files(c, wav_chart_draw, wav_chart_table, &c->wav_chart, why);
 }
 
 static bool run_chart(char **given, struct why *why) {
     struct chart_call *c = calloc(1, sizeof *c);
     if (!c) return refuse(why, "no memory for %zu bytes", sizeof *c);
-    bool done = read_chart(given, c, why) && pad_run(&c->pad, &c->chart, why) && write_files(c, why);
-    if (done && !c->table_path) put_table(stdout, &c->pad, &c->chart);
+    bool done = read_chart(given, c, why) && (c->beside.score_path ? chart_wav(c, why) : chart_pad(c, why));
+    from_zero_free(&c->beside);
     free(c);
     return done;
 }
 
 const struct verb chart_verb = {
-    "chart",
-    "draws what edits do to a slowly falling pad, ours and the old way's",
-    "desk chart [-o chart.svg] [--table FILE] [--edits 5] [--late 20] [--rate 48000] [--wave square]\n"
-    "Renders a slowly falling pad and edits it in two ways: by the re-render, and in the old way, each edit from a "
-    "state\n"
-    "some milliseconds past the cut. Draws how far the level of both is from a render of the same score from sample\n"
-    "zero, and prints a table of it.\n"
-    "  -o FILE          the drawing (chart.svg)\n"
-    "  --table FILE     the table, instead of standard output\n"
-    "  --edits K        how many edits, 1 to 15 (5)\n"
-    "  --late MS        how late the old way is, 0 to 1000 ms (20)\n"
-    "  --rate HZ        samples a second, 8000 to 192000 Hz (48000)\n"
-    "  --wave NAME      the pad's waveform (square, whose level does not depend on where in a cycle it is taken)\n",
-    run_chart,
+    .name = "chart",
+    .summary = "draws how far a WAV's level is from a render from sample zero; or what edits do to a pad",
+    .help = "desk chart SCORE OUT.wav [--shelf FILE] [-o chart.svg] [--table FILE] [options]\n"
+            "desk chart [-o chart.svg] [--table FILE] [--edits 5] [--late 20] [--rate 48000] [--wave square]\n"
+            "With SCORE and OUT.wav: renders the score from sample zero, and draws how far the level of the WAV is\n"
+            "from that, each tenth of a second. Settings and length are the shelf's; without --shelf the options',\n"
+            "with the WAV's own rate and length. `desk verify` tells what differs.\n"
+            "Without: renders a slowly falling pad and edits it in two ways, by the re-render, and in the old way,\n"
+            "each edit from a state some milliseconds past the cut, and draws how far the level of both is from a\n"
+            "render of the same score from sample zero. The pad is a square wave, whose level does not depend on\n"
+            "where in a cycle it is taken.\n"
+            "  -o FILE          the drawing (chart.svg)\n"
+            "  --table FILE     the table, instead of standard output\n"
+            "  --shelf FILE     the shelf that OUT.wav was rendered with\n"
+            "  --edits K        of the pad: how many edits, 1 to 15 (5)\n"
+            "  --late MS        of the pad: how late the old way is, 0 to 1000 ms (20)\n",
+    .settings = true,
+    .run = run_chart,
 };

@@ -1,4 +1,4 @@
-/* Reading whole files, and writing under a temporary name, so that a failure leaves the old file whole. */
+/* Reading whole files, writing all of something, and which names are of one file. */
 #include "desk.h"
 
 #include <errno.h>
@@ -8,6 +8,10 @@
 #include <string.h>
 #include <sys/stat.h>
 #include <unistd.h>
+
+/* As many links in a row, and as many bytes in one, as Linux follows. */
+#define MOST_LINKS 40u
+#define MOST_LINK 4096u
 
 static bool is_standard_input(const char *path) { return strcmp(path, "-") == 0; }
 
@@ -65,20 +69,16 @@ static bool read_growing(int fd, size_t most, struct bytes *file) {
 }
 
 bool read_file(const char *path, size_t most, struct bytes *file, struct why *why) {
-    *file = (struct bytes){NULL, 0};
+    *file = (struct bytes){.at = NULL};
     int fd = open_input(path, why);
     if (fd < 0) return false;
     bool fine = read_growing(fd, most, file);
     if (!fine) {
         refuse(why, "%s: cannot be read: %s", shown(path), strerror(errno));
-    } else if (file->len > most) {
-        fine = refuse(why, "%s: it is longer than %zu bytes", shown(path), most);
+        free(file->at);
+        *file = (struct bytes){.at = NULL};
     }
     close_input(path, fd);
-    if (!fine) {
-        free(file->at);
-        *file = (struct bytes){NULL, 0};
-    }
     return fine;
 }
 
@@ -91,7 +91,7 @@ bool write_all(int fd, const void *at, size_t len) {
             from += put;
             len -= (size_t)put;
         } else if (errno == EAGAIN || errno == EWOULDBLOCK) {
-            struct pollfd ready = {fd, POLLOUT, 0};
+            struct pollfd ready = {.fd = fd, .events = POLLOUT};
             poll(&ready, 1, -1);
         } else if (errno != EINTR) {
             return false;
@@ -100,116 +100,69 @@ bool write_all(int fd, const void *at, size_t len) {
     return true;
 }
 
-/* The mode of a file that is made anew. */
-static mode_t new_mode(void) {
-    mode_t mask = umask(0);
-    umask(mask);
-    return 0666 & ~mask;
+size_t folder_of(const char *path) {
+    const char *slash = strrchr(path, '/');
+    return slash ? (size_t)(slash - path) + 1 : 0;
 }
 
-/* The file that a path names, through links; and the mode that the new one gets. */
-static bool find_target(struct draft *draft, mode_t *mode, struct why *why) {
-    struct stat found;
-    *mode = new_mode();
-    if (draft->path[0] == '\0') return refuse(why, "a file without a name cannot be written");
-    if (stat(draft->path, &found) == 0) {
-        if (!S_ISREG(found.st_mode))
-            return refuse(why, "%s: it is no ordinary file, and is left as it is", draft->path);
-        if (access(draft->path, W_OK) != 0)
-            return refuse(why, "%s: cannot be written: %s", draft->path, strerror(errno));
-        *mode = found.st_mode & 0777;
-        draft->target = realpath(draft->path, NULL);
-    } else if (errno == ENOENT) {
-        draft->target = strdup(draft->path);
+/* Where a link leads, to be freed: a name that does not begin at the root is one in the link's own folder. */
+static char *end_of_link(const char *link) {
+    char text[MOST_LINK + 1];
+    ssize_t len = readlink(link, text, MOST_LINK);
+    if (len < 0) return NULL;
+    text[len] = '\0';
+    size_t folder = text[0] == '/' ? 0 : folder_of(link);
+    char *name = malloc(folder + (size_t)len + 1);
+    if (!name) return NULL;
+    memcpy(name, link, folder);
+    memcpy(name + folder, text, (size_t)len + 1);
+    return name;
+}
+
+char *behind_links(const char *path) {
+    char *name = strdup(path);
+    for (unsigned links = 0; name && links <= MOST_LINKS; links++) {
+        struct stat found;
+        /* A name of no file at all is the last one, too. */
+        if (lstat(name, &found) != 0 || !S_ISLNK(found.st_mode)) return name;
+        char *next = end_of_link(name);
+        free(name);
+        name = next;
     }
-    return draft->target ? true : refuse(why, "%s: cannot be written: %s", draft->path, strerror(errno));
+    if (name) errno = ELOOP;
+    free(name);
+    return NULL;
 }
 
-/* A name in the target's own folder, so that the renaming stays in one file system. */
-static char *temporary_name(const char *target) {
-    static const char name[] = ".desk.XXXXXX";
-    const char *slash = strrchr(target, '/');
-    size_t folder = slash ? (size_t)(slash - target) + 1 : 0;
-    char *temporary = malloc(folder + sizeof name);
-    if (!temporary) return NULL;
-    memcpy(temporary, target, folder);
-    memcpy(temporary + folder, name, sizeof name);
-    return temporary;
+static bool same_inode(const struct stat *one, const struct stat *other) {
+    return one->st_dev == other->st_dev && one->st_ino == other->st_ino;
 }
 
-static void let_signals_wait(struct draft *draft) {
-    sigset_t ending;
-    sigemptyset(&ending);
-    sigaddset(&ending, SIGHUP);
-    sigaddset(&ending, SIGINT);
-    sigaddset(&ending, SIGTERM);
-    draft->waits = sigprocmask(SIG_BLOCK, &ending, &draft->waited) == 0;
+/* The folder in which the file would be made that a name ends in. */
+static bool look_at_folder(const char *name, struct stat *folder) {
+    size_t len = folder_of(name);
+    char *path = len ? strndup(name, len) : strdup(".");
+    bool found = path && stat(path, folder) == 0;
+    free(path);
+    return found;
 }
 
-bool draft_open(struct draft *draft, const char *path, struct why *why) {
-    mode_t mode;
-    *draft = (struct draft){.path = path, .fd = -1};
-    if (is_standard_input(path)) return misuse(why, "what is written needs the name of a file, and not -");
-    if (!find_target(draft, &mode, why)) return false;
-    char *temporary = temporary_name(draft->target);
-    let_signals_wait(draft);
-    if (temporary) draft->fd = mkstemp(temporary);
-    if (draft->fd < 0) {
-        refuse(why, "%s: no new file can be made beside it: %s", path, strerror(errno));
-        free(temporary);
-        return false;
-    }
-    draft->temporary = temporary;
-    if (fchmod(draft->fd, mode) == 0) return true;
-    return refuse(why, "%s: cannot be given its mode: %s", path, strerror(errno));
-}
-
-bool can_write(const char *path, struct why *why) {
-    struct draft draft;
-    bool opened = draft_open(&draft, path, why);
-    draft_drop(&draft);
-    return opened;
-}
-
-bool draft_write(struct draft *draft, const void *at, size_t len, struct why *why) {
-    if (write_all(draft->fd, at, len)) return true;
-    return refuse(why, "%s: cannot be written: %s", draft->path, strerror(errno));
-}
-
-/* All of it is on the disk after this, or it is refused. */
-bool draft_seal(struct draft *draft, struct why *why) {
-    bool kept = fsync(draft->fd) == 0 || errno == EINVAL;
-    int error = errno;
-    if (close(draft->fd) != 0 && kept) {
-        kept = false;
-        error = errno;
-    }
-    draft->fd = -1;
-    return kept ? true : refuse(why, "%s: cannot be written: %s", draft->path, strerror(error));
-}
-
-bool draft_publish(struct draft *draft, struct why *why) {
-    if (rename(draft->temporary, draft->target) != 0) {
-        return refuse(why, "%s: the new file cannot take its name: %s", draft->path, strerror(errno));
-    }
-    free(draft->temporary);
-    draft->temporary = NULL;
-    return true;
-}
-
-void draft_drop(struct draft *draft) {
-    if (draft->fd >= 0) close(draft->fd);
-    if (draft->temporary) unlink(draft->temporary);
-    free(draft->temporary);
-    free(draft->target);
-    bool waits = draft->waits;
-    sigset_t waited = draft->waited;
-    *draft = NO_DRAFT;
-    if (waits) sigprocmask(SIG_SETMASK, &waited, NULL);
+/* Whether two names without a file would be of one: in the same folder, and with the same last name. */
+static bool same_new_file(const char *one, const char *other) {
+    struct stat a, b;
+    char *ends[] = {behind_links(one), behind_links(other)};
+    bool same = ends[0] && ends[1] && strcmp(ends[0] + folder_of(ends[0]), ends[1] + folder_of(ends[1])) == 0 &&
+                look_at_folder(ends[0], &a) && look_at_folder(ends[1], &b) && same_inode(&a, &b);
+    free(ends[0]);
+    free(ends[1]);
+    return same;
 }
 
 bool same_file(const char *one, const char *other) {
     struct stat a, b;
+    if (is_standard_input(one) || is_standard_input(other)) return false;
     if (strcmp(one, other) == 0) return true;
-    return stat(one, &a) == 0 && stat(other, &b) == 0 && a.st_dev == b.st_dev && a.st_ino == b.st_ino;
+    bool there = stat(one, &a) == 0, other_there = stat(other, &b) == 0;
+    if (there != other_there) return false;
+    return there ? same_inode(&a, &b) : same_new_file(one, other);
 }

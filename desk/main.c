@@ -1,18 +1,26 @@
-/* The arranger's desk: a program over the proved library. Finds the verb, and says what went wrong. */
+/* desk: the arranger's desk, over the library of gavberin.h. Finds the verb, and says what went wrong. */
 #include "desk.h"
 
 #include <errno.h>
-#include <signal.h>
+#include <fcntl.h>
 #include <string.h>
+#include <unistd.h>
 
 static const struct verb *const verbs[] = {
-    &check_verb, &list_verb, &make_verb, &render_verb, &rerender_verb, &play_verb, &chart_verb,
+    &check_verb, &list_verb,   &make_verb, &render_verb, &rerender_verb,
+    &play_verb,  &verify_verb, &info_verb, &chart_verb,
 };
 
 static void put_usage(FILE *out) {
     fprintf(out, "desk VERB ..., a verb being one of\n");
     for (size_t i = 0; i < COUNT_OF(verbs); i++) fprintf(out, "  %-9s %s\n", verbs[i]->name, verbs[i]->summary);
-    fprintf(out, "`desk VERB --help` tells more. Exit status: 0 done, 1 refused, 2 wrong usage.\n");
+    fprintf(out, "`desk VERB --help` or `desk help VERB` tells more; `desk --version` tells the library's version.\n"
+                 "Exit status: 0 done, 1 refused, 2 wrong usage.\n");
+}
+
+static void put_help(const struct verb *verb) {
+    fputs(verb->help, stdout);
+    if (verb->settings) put_settings_help(stdout);
 }
 
 static const struct verb *find_verb(const char *name) {
@@ -22,9 +30,11 @@ static const struct verb *find_verb(const char *name) {
     return NULL;
 }
 
+static bool is_help(const char *word) { return strcmp(word, "--help") == 0 || strcmp(word, "-h") == 0; }
+
 static bool asks_for_help(char **given) {
     for (; *given && strcmp(*given, "--") != 0; given++) {
-        if (strcmp(*given, "--help") == 0) return true;
+        if (is_help(*given)) return true;
     }
     return false;
 }
@@ -36,35 +46,59 @@ static bool flush_output(struct why *why) {
     return refuse(why, "standard output: cannot be written: %s", errno ? strerror(errno) : "an earlier write failed");
 }
 
-static int tell(const char *verb, const struct why *why) {
-    fprintf(stderr, "desk%s%s: %s\n", *verb ? " " : "", verb, why->text);
-    if (why->status == MISUSED) fprintf(stderr, "try: desk %s --help\n", verb);
+/* The exit status; what went wrong, on standard error. */
+static int end(const char *verb, bool done, struct why *why) {
+    const char *space = *verb ? " " : "";
+    if (done && flush_output(why)) return DONE;
+    fprintf(stderr, "desk%s%s: %s\n", space, verb, why->text);
+    if (why->status == MISUSED) fprintf(stderr, "try: desk%s%s --help\n", space, verb);
     return why->status;
 }
 
-static int run(const struct verb *verb, char **given) {
-    struct why why = {DONE, ""};
-    bool done = true;
-    if (asks_for_help(given)) {
-        fputs(verb->help, stdout);
+/* `desk help`, `desk help VERB`, and the same by --help and -h. */
+static int help(char **given, struct why *why) {
+    const struct verb *verb = given[0] ? find_verb(given[0]) : NULL;
+    bool known = verb || !given[0] || is_help(given[0]);
+    if (verb) {
+        put_help(verb);
+    } else if (known) {
+        put_usage(stdout);
     } else {
-        done = verb->run(given, &why);
+        misuse(why, "unknown verb %s", given[0]);
     }
-    return done && flush_output(&why) ? DONE : tell(verb->name, &why);
+    return end("", known, why);
+}
+
+static int run(const struct verb *verb, char **given, struct why *why) {
+    if (!asks_for_help(given)) return end(verb->name, verb->run(given, why), why);
+    put_help(verb);
+    return end(verb->name, true, why);
+}
+
+/* A stream that was closed gives its number to no file: nothing can be read from it, nor written. */
+static void keep_stream_numbers(void) {
+    for (int fd = STDIN_FILENO; fd <= STDERR_FILENO; fd++) {
+        if (fcntl(fd, F_GETFD) < 0 && open("/dev/null", fd == STDIN_FILENO ? O_WRONLY : O_RDONLY) < 0) return;
+    }
 }
 
 int main(int argc, char **argv) {
-    struct why why = {DONE, ""};
+    static struct why why = {.status = DONE};
     /* A reader that goes away and a file that may not grow are errors of a write, and told as such. */
     signal(SIGPIPE, SIG_IGN);
     signal(SIGXFSZ, SIG_IGN);
-    if (argc >= 2 && strcmp(argv[1], "--help") == 0) {
-        put_usage(stdout);
-        return flush_output(&why) ? DONE : tell("", &why);
+    keep_stream_numbers();
+    if (argc < 2) {
+        put_usage(stderr);
+        return MISUSED;
     }
-    const struct verb *verb = argc >= 2 ? find_verb(argv[1]) : NULL;
-    if (verb) return run(verb, argv + 2);
-    if (argc >= 2) fprintf(stderr, "desk: unknown verb %s\n", argv[1]);
-    put_usage(stderr);
-    return MISUSED;
+    const struct verb *verb = find_verb(argv[1]);
+    if (verb) return run(verb, argv + 2, &why);
+    if (is_help(argv[1]) || strcmp(argv[1], "help") == 0) return help(argv + 2, &why);
+    if (strcmp(argv[1], "--version") == 0) {
+        printf("desk, gavberin %u\n", (unsigned)gav_version());
+        return end("", true, &why);
+    }
+    misuse(&why, "unknown verb %s", argv[1]);
+    return end("", false, &why);
 }

@@ -6,7 +6,6 @@
    same score from sample zero, never to the render before. */
 #include "desk.h"
 
-#include <math.h>
 #include <stdlib.h>
 #include <string.h>
 
@@ -36,30 +35,26 @@ static void make_score(const struct pad *pad, unsigned edits, struct score *scor
     }
 }
 
-static bool accepted(const struct pad_edit *e, uint64_t said, struct why *why) {
-    unsigned number = gav_number(said);
-    if (number == 0) return true;
-    if (number <= 5 || number > 16) return refused_score(said, "the chart's pad", &e->after, why);
-    return refused_sound(said, &e->pad->settings, e->pad->samples, why);
+static bool judged(const struct pad_edit *e, uint64_t said, struct why *why) {
+    struct asked asked = {.old_path = "the chart's pad",
+                          .new_path = "the chart's pad",
+                          .old_score = &e->after,
+                          .new_score = &e->after,
+                          .settings = &e->pad->settings,
+                          .samples = e->pad->samples};
+    return accepted(said, &asked, why);
 }
 
 /* The old way: the state at the cut, and from there on as late as the old way was, over a stretch with no records; that
    state is then lent at the cut's own position. */
 static bool edit_the_old_way(struct pad_edit *e, size_t cut, struct why *why) {
-    const struct settings *s = &e->pad->settings;
+    const struct gav_settings *s = &e->pad->settings;
     double *unheard = e->unheard.at;
-    if (!accepted(e, voice_continue(s, &e->before, &e->state, e->cut, unheard, cut - e->cut), why)) return false;
-    if (!accepted(e, voice_continue(s, &e->before, &e->state, cut, unheard, e->pad->late), why)) return false;
+    if (!judged(e, voice_continue(s, &e->before, &e->state, e->cut, unheard, cut - e->cut), why)) return false;
+    if (!judged(e, voice_continue(s, &e->before, &e->state, cut, unheard, e->pad->late), why)) return false;
     struct state late = e->state;
     e->cut = cut;
-    return accepted(e, voice_continue(s, &e->after, &late, cut, e->old.at + cut, e->pad->samples - cut), why);
-}
-
-/* The root of the mean square. */
-static double level_of(const double *from, size_t samples) {
-    double sum = 0;
-    for (size_t i = 0; i < samples; i++) sum += from[i] * from[i];
-    return sqrt(sum / (double)samples);
+    return judged(e, voice_continue(s, &e->after, &late, cut, e->old.at + cut, e->pad->samples - cut), why);
 }
 
 static size_t count_differing(const struct sound *one, const struct sound *other) {
@@ -71,18 +66,13 @@ static size_t count_differing(const struct sound *one, const struct sound *other
 static struct pad_row measure(const struct pad_edit *e, size_t cut) {
     size_t window = e->pad->window, last = e->pad->samples - window;
     return (struct pad_row){
-        cut,
-        level_of(e->zero.at + last, window),
-        level_of(e->ours.at + last, window),
-        level_of(e->old.at + last, window),
-        count_differing(&e->ours, &e->zero),
-        count_differing(&e->old, &e->zero),
+        .cut = cut,
+        .zero = level_of(e->zero.at + last, window),
+        .ours = level_of(e->ours.at + last, window),
+        .old = level_of(e->old.at + last, window),
+        .ours_differ = count_differing(&e->ours, &e->zero),
+        .old_differ = count_differing(&e->old, &e->zero),
     };
-}
-
-double percent_off(double level, double reference) {
-    if (reference > 0) return 100 * (level - reference) / reference;
-    return level > 0 ? 100 : 0;
 }
 
 static void measure_windows(const struct pad_edit *e, struct pad_chart *chart) {
@@ -96,28 +86,28 @@ static void measure_windows(const struct pad_edit *e, struct pad_chart *chart) {
 }
 
 static bool start(struct pad_edit *e, struct why *why) {
-    const struct settings *s = &e->pad->settings;
+    const struct gav_settings *s = &e->pad->settings;
     size_t samples = e->pad->samples;
     if (!sound_make(&e->zero, samples, why) || !sound_make(&e->ours, samples, why)) return false;
     if (!sound_make(&e->old, samples, why) || !sound_make(&e->unheard, samples + e->pad->late, why)) return false;
     make_score(e->pad, 0, &e->after);
     e->state = voice_fresh();
-    if (!accepted(e, voice_render(s, &e->after, &e->zero), why)) return false;
-    if (!accepted(e, voice_render(s, &e->after, &e->ours), why)) return false;
+    if (!judged(e, voice_render(s, &e->after, &e->zero), why)) return false;
+    if (!judged(e, voice_render(s, &e->after, &e->ours), why)) return false;
     memcpy(e->old.at, e->zero.at, samples * sizeof *e->old.at);
     return true;
 }
 
 static bool make_edits(struct pad_edit *e, struct pad_chart *chart, struct why *why) {
-    const struct settings *s = &e->pad->settings;
+    const struct gav_settings *s = &e->pad->settings;
     chart->rows[0] = measure(e, 0);
     for (unsigned edit = 1; edit <= e->pad->edits; edit++) {
         size_t cut = place_of(e->pad, edit) / GAV_MARK * GAV_MARK;
         e->before = e->after;
         make_score(e->pad, edit, &e->after);
-        if (!accepted(e, voice_rerender(s, &e->before, &e->after, &e->ours), why)) return false;
+        if (!judged(e, voice_rerender(s, &e->before, &e->after, &e->ours), why)) return false;
         if (!edit_the_old_way(e, cut, why)) return false;
-        if (!accepted(e, voice_render(s, &e->after, &e->zero), why)) return false;
+        if (!judged(e, voice_render(s, &e->after, &e->zero), why)) return false;
         chart->rows[edit] = measure(e, cut);
     }
     measure_windows(e, chart);
@@ -127,7 +117,7 @@ static bool make_edits(struct pad_edit *e, struct pad_chart *chart, struct why *
 bool pad_run(const struct pad *pad, struct pad_chart *chart, struct why *why) {
     struct pad_edit *e = calloc(1, sizeof *e);
     if (!e) return refuse(why, "no memory for %zu bytes", sizeof *e);
-    e->pad = pad;
+    e->pad = chart->pad = pad;
     bool done = start(e, why) && make_edits(e, chart, why);
     sound_free(&e->zero);
     sound_free(&e->ours);

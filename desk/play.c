@@ -10,12 +10,17 @@
 
 struct play {
     const char *path;
-    struct settings settings;
+    struct gav_settings settings;
     struct score score;
     size_t samples, buffer;
     double *part;
     uint8_t *bytes;
 };
+
+static bool judged(const struct play *p, uint64_t said, struct why *why) {
+    struct asked asked = {.old_path = p->path, .old_score = &p->score, .settings = &p->settings, .samples = p->samples};
+    return accepted(said, &asked, why);
+}
 
 /* The first call judges everything, also where there is no sample to play. */
 static bool play_all(struct play *p, struct why *why) {
@@ -23,13 +28,11 @@ static bool play_all(struct play *p, struct why *why) {
     size_t at = 0;
     do {
         size_t part = p->samples - at < p->buffer ? p->samples - at : p->buffer;
-        uint64_t said = voice_continue(&p->settings, &p->score, &state, at, p->part, part);
-        unsigned number = gav_number(said);
-        if (number >= 1 && number <= 5) return refused_score(said, p->path, &p->score, why);
-        if (number != 0) return refused_sound(said, &p->settings, p->samples, why);
+        if (!judged(p, voice_continue(&p->settings, &p->score, &state, at, p->part, part), why)) return false;
         wav_samples(32, p->part, part, p->bytes);
         if (!write_all(STDOUT_FILENO, p->bytes, 4 * part)) {
-            return refuse(why, "standard output: cannot be written after %zu samples: %s", at, strerror(errno));
+            return refuse(why, "standard output: cannot be written after %zu %s: %s", at,
+                          counted(at, "sample", "samples"), strerror(errno));
         }
         at += part;
     } while (at < p->samples);
@@ -37,12 +40,13 @@ static bool play_all(struct play *p, struct why *why) {
 }
 
 static bool read_play(char **given, struct play *p, struct why *why) {
-    struct setting_texts texts = {NULL, NULL, NULL, NULL, NULL};
+    struct setting_texts texts = {.of = {NULL}};
     const char *text = NULL;
     uint64_t buffer = 17;
-    struct option options[] = {SETTING_OPTIONS(texts), {"--buffer", &text, NULL}, {NULL, NULL, NULL}};
-    struct option operands[] = {{"SCORE", &p->path, NULL}, {NULL, NULL, NULL}};
-    if (!read_arguments(given, options, operands, why) || !read_settings(&texts, &p->settings, why)) return false;
+    struct option options[] = {{.name = "--buffer", .value = &text}, {.name = NULL}};
+    struct option operands[] = {{.name = "SCORE", .value = &p->path}, {.name = NULL}};
+    struct arguments takes = {.options = options, .operands = operands, .settings = &texts};
+    if (!read_arguments(given, &takes, why) || !read_settings(&texts, &p->settings, why)) return false;
     if (text && !read_whole("--buffer", "samples", text, MOST_BUFFER, &buffer, why)) return false;
     if (buffer == 0) return misuse(why, "--buffer: 0 samples are no buffer");
     if (isatty(STDOUT_FILENO)) {
@@ -53,11 +57,11 @@ static bool read_play(char **given, struct play *p, struct why *why) {
     return read_score(p->path, &p->score, why) && read_length(&texts, &p->settings, &p->score, &p->samples, why);
 }
 
-/* A sound that is too long is refused before a sample of it is heard: the state at its end is asked for no samples. */
+/* A sound that is too long is refused before a sample of it is heard: no samples past the most are asked for. */
 static bool fits(const struct play *p, struct why *why) {
     struct state state = voice_fresh();
-    uint64_t said = voice_continue(&p->settings, &p->score, &state, p->samples, p->part, 0);
-    return gav_number(said) == 7 ? refused_sound(said, &p->settings, p->samples, why) : true;
+    if (p->samples <= GAV_MOST_SAMPLES) return true;
+    return judged(p, voice_continue(&p->settings, &p->score, &state, p->samples, p->part, 0), why);
 }
 
 static bool run_play(char **given, struct why *why) {
@@ -77,12 +81,14 @@ static bool run_play(char **given, struct why *why) {
 }
 
 const struct verb play_verb = {
-    "play",
-    "writes the samples of a score to standard output, for a player",
-    "desk play SCORE [--buffer SAMPLES] [options]\n"
-    "Writes the samples to standard output as 32-bit floats, low byte first, one channel:\n"
-    "  desk play SCORE | aplay -t raw -f FLOAT_LE -c 1 -r 48000\n"
-    "They are made part by part, each from the state that the one before it left. SCORE may be - for standard input.\n"
-    "  --buffer N       samples of a part, 1 to 65536 (17); the sound does not depend on it\n" SETTINGS_HELP,
-    run_play,
+    .name = "play",
+    .summary = "writes the samples of a score to standard output, for a player",
+    .help = "desk play SCORE [--buffer SAMPLES] [options]\n"
+            "Writes the samples to standard output as 32-bit floats, low byte first, one channel:\n"
+            "  desk play SCORE | aplay -t raw -f FLOAT_LE -c 1 -r 48000\n"
+            "They are made part by part, each from the state that the one before it left. SCORE may be - for standard\n"
+            "input.\n"
+            "  --buffer N       samples of a part, 1 to 65536 (17); the sound does not depend on it\n",
+    .settings = true,
+    .run = run_play,
 };

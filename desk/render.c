@@ -1,130 +1,137 @@
 /* The verb render: a score to a WAV, and to a shelf for later edits. */
 #include "desk.h"
 
+#include <errno.h>
 #include <stdlib.h>
 #include <string.h>
 #include <unistd.h>
 
-/* A render of so many samples takes long enough to be told how far it is. */
-#define LONG_RENDER 4194304u
-/* How many samples pass between two lines. */
-#define PROGRESS_STEP 262144u
-
 struct render {
     const char *score_path, *wav_path, *shelf_path;
-    struct settings settings;
-    struct score score;
+    struct export export;
+    struct shelf_file about;
     struct sound sound;
-    unsigned bits;
-    bool progress;
+    struct pair pair;
+    struct bytes wav, shelf;
 };
 
-static void show_progress(size_t done, size_t samples) {
-    fprintf(stderr, "\rrendering: %3zu %% (%zu of %zu samples)%s", samples ? 100 * done / samples : 100, done, samples,
-            done == samples ? "\n" : "");
-    fflush(stderr);
+static bool is_pipe(const struct render *r) { return strcmp(r->wav_path, "-") == 0; }
+
+/* A shelf is compared with a WAV that can be found again, and no terminal wants samples. */
+static bool check_pipe(const struct render *r, struct why *why) {
+    if (r->shelf_path) return misuse(why, "--shelf beside -o -: a shelf needs the name of its WAV");
+    if (!isatty(STDOUT_FILENO)) return true;
+    return misuse(why, "standard output is a terminal: add | aplay, or -o OUT.wav");
 }
 
-/* The same samples and entries by the continuing call, entry by entry: the state before an entry's first sample is the
- * entry. */
-static uint64_t render_in_pieces(struct render *r) {
-    struct state state = voice_fresh();
-    struct sound *sound = &r->sound;
-    for (size_t at = 0; at < sound->samples; at += GAV_MARK) {
-        size_t part = sound->samples - at < GAV_MARK ? sound->samples - at : GAV_MARK;
-        memcpy(sound->shelf + at / GAV_MARK * GAV_STATE_WORDS, state.words, sizeof state.words);
-        uint64_t said = voice_continue(&r->settings, &r->score, &state, at, sound->at + at, part);
-        if (gav_number(said) != 0) return said;
-        if (at % PROGRESS_STEP == 0 || at + part == sound->samples) show_progress(at + part, sound->samples);
-    }
-    return (uint64_t)sound->samples << 32;
-}
-
-/* In pieces the settings and the score are judged first, by a render of no samples. */
-static bool render_sound(struct render *r, struct why *why) {
-    struct sound nothing = {r->sound.at, 0, r->sound.shelf, 0};
-    bool pieces = r->progress && r->sound.samples <= GAV_MOST_SAMPLES;
-    uint64_t said = voice_render(&r->settings, &r->score, pieces ? &nothing : &r->sound);
-    if (pieces && gav_number(said) == 0) said = render_in_pieces(r);
-    unsigned number = gav_number(said);
-    if (number == 0) return true;
-    if (number <= 5) return refused_score(said, r->score_path, &r->score, why);
-    return refused_sound(said, &r->settings, r->sound.samples, why);
-}
-
-/* Both files are whole on the disk before either takes its name. */
-static bool write_files(const struct render *r, struct why *why) {
-    struct draft wav = NO_DRAFT, shelf = NO_DRAFT;
-    struct wav head = {r->bits, r->settings.rate, r->sound.samples, WAV_HEAD};
-    struct shelf_head about = {r->settings, r->sound.samples, sum_of(r->score.at, r->score.len)};
-    bool done = draft_open(&wav, r->wav_path, why) && wav_write(&wav, &head, r->sound.at, why) && draft_seal(&wav, why);
-    if (done && r->shelf_path) {
-        done = draft_open(&shelf, r->shelf_path, why) && shelf_write(&shelf, &about, &r->sound, why) &&
-               draft_seal(&shelf, why);
-    }
-    done = done && draft_publish(&wav, why) && (!r->shelf_path || draft_publish(&shelf, why));
-    draft_drop(&shelf);
-    draft_drop(&wav);
-    return done;
-}
-
-static void tell(const struct render *r) {
-    const struct settings *s = &r->settings;
-    printf("%s: %zu samples, %.3f s at %u Hz, %s, %u-bit floats\n", r->wav_path, r->sound.samples,
-           (double)r->sound.samples / s->rate, s->rate, wave_name(s->code), r->bits);
-    if (!r->shelf_path) return;
-    printf("%s: %zu entries of %d words\n", r->shelf_path, r->sound.words / GAV_STATE_WORDS, GAV_STATE_WORDS);
-}
-
-static bool read_bits(const char *text, unsigned *bits, struct why *why) {
-    *bits = text && strcmp(text, "64") == 0 ? 64 : 32;
-    if (!text || *bits == 64 || strcmp(text, "32") == 0) return true;
-    return misuse(why, "--bits: %s is not 32 or 64 bits", text);
-}
-
-static bool read_render(char **given, struct render *r, struct why *why) {
-    struct setting_texts texts = {NULL, NULL, NULL, NULL, NULL};
-    const char *bits = NULL;
-    size_t samples;
-    struct option options[] = {
-        SETTING_OPTIONS(texts),  {"-o", &r->wav_path, NULL},         {"--shelf", &r->shelf_path, NULL},
-        {"--bits", &bits, NULL}, {"--progress", NULL, &r->progress}, {NULL, NULL, NULL}};
-    struct option operands[] = {{"SCORE", &r->score_path, NULL}, {NULL, NULL, NULL}};
-    if (!read_arguments(given, options, operands, why)) return false;
+static bool check_paths(const struct render *r, struct why *why) {
     if (!r->wav_path) return misuse(why, "-o OUT.wav is missing");
+    if (is_pipe(r)) return check_pipe(r, why);
+    if (r->shelf_path && !names_file(r->shelf_path, why)) return false;
     if (same_file(r->score_path, r->wav_path) || (r->shelf_path && same_file(r->score_path, r->shelf_path))) {
         return misuse(why, "%s would be written over", r->score_path);
     }
     if (r->shelf_path && same_file(r->shelf_path, r->wav_path)) {
         return misuse(why, "the WAV and the shelf are one file");
     }
-    if (!read_settings(&texts, &r->settings, why) || !read_bits(bits, &r->bits, why)) return false;
-    if (!read_score(r->score_path, &r->score, why)) return false;
-    if (!read_length(&texts, &r->settings, &r->score, &samples, why)) return false;
-    if (!can_write(r->wav_path, why) || (r->shelf_path && !can_write(r->shelf_path, why))) return false;
-    r->progress = r->progress || (samples >= LONG_RENDER && isatty(STDERR_FILENO));
-    return sound_make(&r->sound, samples, why);
+    return true;
+}
+
+/* The score is read before the files are locked, since standard input may be slow. */
+static bool read_render(char **given, struct render *r, struct why *why) {
+    struct setting_texts texts = {.of = {NULL}};
+    const char *bits = NULL, *gain = NULL;
+    struct option options[] = {{.name = "-o", .value = &r->wav_path},
+                               {.name = "--shelf", .value = &r->shelf_path},
+                               {.name = "--bits", .value = &bits},
+                               {.name = "--gain", .value = &gain},
+                               {.name = NULL}};
+    struct option operands[] = {{.name = "SCORE", .value = &r->score_path}, {.name = NULL}};
+    struct arguments takes = {.options = options, .operands = operands, .settings = &texts};
+    struct shelf_file *about = &r->about;
+    return read_arguments(given, &takes, why) && check_paths(r, why) &&
+           read_export(bits, gain, r->shelf_path, &r->export, why) && read_settings(&texts, &about->settings, why) &&
+           read_score(r->score_path, &about->score, why) &&
+           read_length(&texts, &about->settings, &about->score, &about->samples, why);
+}
+
+static bool render_sound(struct render *r, struct why *why) {
+    struct shelf_file *about = &r->about;
+    if (!sound_make(&r->sound, about->samples, why)) return false;
+    struct asked asked = {
+        .old_path = r->score_path, .old_score = &about->score, .settings = &about->settings, .samples = about->samples};
+    return accepted(voice_render(&about->settings, &about->score, &r->sound), &asked, why);
+}
+
+/* The bytes of both files; without a shelf none for it. */
+static bool make_files(struct render *r, struct why *why) {
+    struct shelf_file *about = &r->about;
+    about->bits = r->export.bits;
+    export_apply(&r->export, r->sound.at, about->samples);
+    struct wav wav = export_wav(&r->export, about->settings.rate, about->samples);
+    return wav_bytes(&wav, r->sound.at, &r->wav, why) &&
+           (!r->shelf_path || shelf_bytes(about, &r->sound, &wav, r->wav.at, &r->shelf, why));
+}
+
+static bool open_files(struct render *r, struct why *why) {
+    return is_pipe(r) || pair_open(&r->pair, r->wav_path, r->shelf_path, why);
+}
+
+static bool write_files(struct render *r, struct why *why) {
+    if (!is_pipe(r)) return pair_write(&r->pair, &r->wav, &r->shelf, why);
+    if (write_all(STDOUT_FILENO, r->wav.at, r->wav.len)) return true;
+    return refuse(why, "standard output: cannot be written: %s", strerror(errno));
+}
+
+/* The form of the samples, their peak, and what was cut off. */
+static void tell_wav(FILE *out, const char *path, const struct render *r) {
+    const struct gav_settings *s = &r->about.settings;
+    const struct export *export = &r->export;
+    size_t samples = r->about.samples, clips = export_clips(export, r->sound.at, samples);
+    fprintf(out, "%s: %zu %s, %.3f s at %u Hz, %s, %u-bit %s%s%s%s\n", path, samples,
+            counted(samples, "sample", "samples"), (double)samples / s->rate, s->rate, wave_name(s->code), export->bits,
+            export->bits < 32 ? "whole numbers" : "floats", *export->gain ? ", gain " : "", export->gain,
+            *export->gain ? " dB" : "");
+    tell_peak(out, path, peak_of(r->sound.at, samples), s->rate);
+    if (clips > 0) fprintf(out, "%s: %zu of %zu samples are above 1, and clipped\n", path, clips, samples);
+}
+
+/* What goes into a pipe is told beside it. */
+static void tell(const struct render *r) {
+    size_t entries = r->sound.words / GAV_STATE_WORDS;
+    tell_wav(is_pipe(r) ? stderr : stdout, is_pipe(r) ? "standard output" : r->wav_path, r);
+    if (!r->shelf_path) return;
+    printf("%s: %zu %s of %d words\n", r->shelf_path, entries, counted(entries, "entry", "entries"), GAV_STATE_WORDS);
 }
 
 static bool run_render(char **given, struct why *why) {
     struct render *r = calloc(1, sizeof *r);
     if (!r) return refuse(why, "no memory for %zu bytes", sizeof *r);
-    bool done = read_render(given, r, why) && render_sound(r, why) && write_files(r, why);
+    r->pair = NO_PAIR;
+    bool done = read_render(given, r, why) && open_files(r, why) && render_sound(r, why) && make_files(r, why) &&
+                write_files(r, why);
     if (done) tell(r);
+    pair_drop(&r->pair);
     sound_free(&r->sound);
+    free(r->wav.at);
+    free(r->shelf.at);
     free(r);
     return done;
 }
 
 const struct verb render_verb = {
-    "render",
-    "renders a score to a WAV, with a shelf for later edits",
-    "desk render SCORE -o OUT.wav [options]\n"
-    "Renders every sample of the score from sample zero. SCORE may be - for standard input.\n"
-    "  -o OUT.wav       the WAV: one channel of floats\n"
-    "  --bits 32|64     bits of a sample in the WAV (32)\n"
-    "  --shelf FILE     the states that `desk rerender` starts from, with the settings and the length\n" SETTINGS_HELP
-    "  --progress       tells on standard error how far it is, even where that is no terminal\n"
-    "The sound has at most 16777216 samples (349.5 s at 48000 Hz).\n",
-    run_render,
+    .name = "render",
+    .summary = "renders a score to a WAV, with a shelf for later edits",
+    .help = "desk render SCORE -o OUT.wav [options]\n"
+            "Renders every sample of the score from sample zero. SCORE may be - for standard input.\n"
+            "The sound has at most 16777216 samples (349.5 s at 48000 Hz).\n"
+            "An export, by --bits 16 or 24 or by --gain, is for other programs: it has no shelf, since a re-render\n"
+            "would go on without its rounding or its gain.\n"
+            "  -o OUT.wav       the WAV: one channel; - for standard output: desk render SCORE -o - | aplay\n"
+            "  --shelf FILE     what `desk rerender` needs beside the WAV: states, settings, length and score\n"
+            "  --bits 32|64     floats of so many bits (32)\n"
+            "  --bits 16|24     an export: whole numbers, rounded to the nearest; what is above 1 is clipped\n"
+            "  --gain DB        an export: louder, or softer where DB is below 0; -200 to 200 dB\n",
+    .settings = true,
+    .run = run_render,
 };

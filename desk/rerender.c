@@ -2,136 +2,152 @@
 #include "desk.h"
 
 #include <stdlib.h>
-#include <string.h>
 
+/* The files as they were read, and the shelf as it will be. */
 struct rerender {
-    const char *old_path, *new_path, *wav_path, *shelf_path;
-    struct score before, after;
-    struct shelf_head head;
+    const char *new_path, *wav_path, *shelf_path;
+    struct score after;
+    struct shelf_file about;
     struct wav wav;
-    struct bytes file;
+    struct bytes wav_file, shelf_file, new_shelf;
+    struct pair pair;
     struct sound sound;
+    bool equal;
     size_t count;
 };
 
-/* Whether the shelf was rendered from OLD. Where OLD is none, that is what the library will say. */
-static bool is_of_old(const struct rerender *r, struct why *why) {
-    uint64_t sum = sum_of(r->before.at, r->before.len);
-    if (sum == r->head.score || gav_check_score(r->before.at, r->before.len) != 0) return true;
-    return refuse(why, "%s: the shelf is foreign to %s: it was rendered from another score", r->shelf_path,
-                  r->old_path);
+/* Whether the shelf can be this WAV's, by what its head says. */
+static bool is_of_wav(const struct rerender *r, struct why *why) {
+    const struct shelf_file *about = &r->about;
+    const struct wav *wav = &r->wav;
+    if (wav->samples == about->samples && wav->rate == about->settings.rate && wav->bits == about->bits) return true;
+    return refuse(why,
+                  "%s: the shelf is foreign to %s: it is of %zu %s of %u bits at %u Hz, and the WAV has %zu of %u bits "
+                  "at %u Hz",
+                  r->shelf_path, r->wav_path, about->samples, counted(about->samples, "sample", "samples"), about->bits,
+                  about->settings.rate, wav->samples, wav->bits, wav->rate);
 }
 
-/* The shelf, and the memory of the sound that it is of. */
-static bool load_shelf(struct rerender *r, struct why *why) {
-    struct bytes file;
-    if (!read_file(r->shelf_path, SHELF_MOST, &file, why)) return false;
-    bool fine = shelf_look(file.at, file.len, &r->head, why);
-    if (!fine) preface(why, "%s: ", r->shelf_path);
-    fine = fine && is_of_old(r, why) && sound_make(&r->sound, r->head.samples, why);
-    if (fine) shelf_words(file.at, &r->sound);
-    free(file.at);
-    return fine;
-}
-
-static bool load_wav(struct rerender *r, struct why *why) {
-    if (!read_file(r->wav_path, WAV_MOST, &r->file, why)) return false;
-    if (!wav_look(r->file.at, r->file.len, &r->wav, why)) return preface(why, "%s: ", r->wav_path);
-    if (r->wav.samples != r->head.samples || r->wav.rate != r->head.settings.rate) {
-        return refuse(why,
-                      "%s: the shelf is foreign to %s: it is of %zu samples at %u Hz, and the WAV has %zu at %u Hz",
-                      r->shelf_path, r->wav_path, r->head.samples, r->head.settings.rate, r->wav.samples, r->wav.rate);
-    }
+/* Both files, and the memory of their sound. */
+static bool load(struct rerender *r, struct why *why) {
+    if (!read_file(r->shelf_path, SHELF_MOST, &r->shelf_file, why)) return false;
+    if (!shelf_look(r->shelf_file.at, r->shelf_file.len, &r->about, why)) return preface(why, "%s: ", r->shelf_path);
+    if (!read_file(r->wav_path, WAV_MOST, &r->wav_file, why)) return false;
+    if (!wav_look(r->wav_file.at, r->wav_file.len, &r->wav, why)) return preface(why, "%s: ", r->wav_path);
+    if (!is_of_wav(r, why) || !sound_make(&r->sound, r->about.samples, why)) return false;
+    shelf_words(r->shelf_file.at, &r->sound);
     return true;
 }
 
 static bool rerender_sound(struct rerender *r, struct why *why) {
-    uint64_t said = voice_rerender(&r->head.settings, &r->before, &r->after, &r->sound);
-    unsigned number = gav_number(said);
+    struct asked asked = {.old_path = r->shelf_path,
+                          .old_score = &r->about.score,
+                          .new_path = r->new_path,
+                          .new_score = &r->after,
+                          .shelf_path = r->shelf_path,
+                          .settings = &r->about.settings,
+                          .samples = r->about.samples};
+    uint64_t said = voice_rerender(&r->about.settings, &r->about.score, &r->after, &r->sound);
     r->count = gav_count(said);
-    if (number == 0) return true;
-    if (number <= 5) return refused_score(said, r->old_path, &r->before, why);
-    if (number > 16) return refused_score(said, r->new_path, &r->after, why);
-    refused_sound(said, &r->head.settings, r->head.samples, why);
-    return preface(why, "%s: ", r->shelf_path);
+    r->equal = same_score(&r->about.score, &r->after);
+    return accepted(said, &asked, why);
+}
+
+/* Whether the WAV's bytes in these sections, up to but not with the last, are those that the shelf was made with. */
+static bool sections_are_kept(const struct rerender *r, size_t first, size_t last, struct why *why) {
+    for (size_t i = first; i < last; i++) {
+        if (section_sum(&r->wav, r->wav_file.at, i) == shelf_sum(r->shelf_file.at, i)) continue;
+        size_t from = i * GAV_MARK, to = from + GAV_MARK < r->wav.samples ? from + GAV_MARK : r->wav.samples;
+        return refuse(why,
+                      "from sample %zu on %s is not what %s was made with (a sample of %zu to %zu differs), and a "
+                      "re-render would leave it so; nothing is written: render again with `desk render`",
+                      from, r->wav_path, r->shelf_path, from, to - 1);
+    }
+    return true;
+}
+
+/* What is not made anew has to be as the shelf says: all that stands before the mark, and all where nothing is made. */
+static bool rest_is_kept(const struct rerender *r, struct why *why) {
+    size_t mark = r->about.samples - r->count;
+    return sections_are_kept(r, 0, (mark + GAV_MARK - 1) / GAV_MARK, why);
 }
 
 /* What stands before the mark keeps its bytes; from there on the new samples stand. */
-static void put_samples(struct rerender *r) {
-    size_t mark = r->head.samples - r->count, frame = r->wav.bits / 8;
-    wav_samples(r->wav.bits, r->sound.at + mark, r->count, r->file.at + r->wav.data + frame * mark);
+static bool make_wav(struct rerender *r, struct why *why) {
+    size_t mark = r->about.samples - r->count, frame = r->wav.bits / 8;
+    r->wav_file.len = wav_without_peak(r->wav_file.at, r->wav_file.len);
+    if (!wav_look(r->wav_file.at, r->wav_file.len, &r->wav, why)) return preface(why, "%s: ", r->wav_path);
+    wav_samples(r->wav.bits, r->sound.at + mark, r->count, r->wav_file.at + r->wav.data + frame * mark);
+    return true;
 }
 
-/* The WAV takes its name first. Where the shelf then cannot, it is still the old score's, and the same edit can be made
-   again. An edit past the end changes no sample and no entry, but the score that the shelf is of. */
+/* An edit past the end changes no sample and no entry, but the score that the shelf is of. */
 static bool write_files(struct rerender *r, struct why *why) {
-    struct draft wav = NO_DRAFT, shelf = NO_DRAFT;
-    bool done = true;
-    uint64_t before = r->head.score;
-    r->head.score = sum_of(r->after.at, r->after.len);
-    if (r->count == 0 && r->head.score == before) return true;
-    if (r->count > 0) {
-        put_samples(r);
-        done = draft_open(&wav, r->wav_path, why) && draft_write(&wav, r->file.at, r->file.len, why) &&
-               draft_seal(&wav, why);
-    }
-    done = done && draft_open(&shelf, r->shelf_path, why) && shelf_write(&shelf, &r->head, &r->sound, why) &&
-           draft_seal(&shelf, why);
-    done = done && (r->count == 0 || draft_publish(&wav, why)) && draft_publish(&shelf, why);
-    draft_drop(&shelf);
-    draft_drop(&wav);
-    return done;
+    struct bytes nothing = {.at = NULL};
+    if (r->equal) return true;
+    if (r->count > 0 && !make_wav(r, why)) return false;
+    r->about.score = r->after;
+    return shelf_bytes(&r->about, &r->sound, &r->wav, r->wav_file.at, &r->new_shelf, why) &&
+           pair_write(&r->pair, r->count > 0 ? &r->wav_file : &nothing, &r->new_shelf, why);
 }
 
-static void tell(const struct rerender *r) {
-    size_t mark = r->head.samples - r->count;
-    double rate = r->head.settings.rate;
-    if (r->count == 0) {
-        printf("%s: 0 of %zu samples change; left as it is\n", r->wav_path, r->head.samples);
+/* The peak of the whole sound, of which the voice made only the end. */
+static void tell(struct rerender *r) {
+    size_t samples = r->about.samples, mark = samples - r->count;
+    const char *of = counted(samples, "sample", "samples");
+    if (r->equal) {
+        printf("%s: 0 of %zu %s change: %s is of this score already\n", r->wav_path, samples, of, r->shelf_path);
+    } else if (r->count == 0) {
+        printf("%s: 0 of %zu %s change; left as it is\n", r->wav_path, samples, of);
     } else {
-        printf("%s: %zu of %zu samples rendered again, from sample %zu (%.3f s) on\n", r->wav_path, r->count,
-               r->head.samples, mark, (double)mark / rate);
+        printf("%s: %zu of %zu %s rendered again, from sample %zu (%.3f s) on\n", r->wav_path, r->count, samples, of,
+               mark, (double)mark / r->about.settings.rate);
     }
+    wav_values(&r->wav, r->wav_file.at, 0, samples, r->sound.at);
+    tell_peak(stdout, r->wav_path, peak_of(r->sound.at, samples), r->wav.rate);
 }
 
 static bool read_rerender(char **given, struct rerender *r, struct why *why) {
-    struct option options[] = {{"--shelf", &r->shelf_path, NULL}, {NULL, NULL, NULL}};
+    struct option options[] = {{.name = "--shelf", .value = &r->shelf_path}, {.name = NULL}};
     struct option operands[] = {
-        {"OLD", &r->old_path, NULL}, {"NEW", &r->new_path, NULL}, {"OUT.wav", &r->wav_path, NULL}, {NULL, NULL, NULL}};
-    if (!read_arguments(given, options, operands, why)) return false;
+        {.name = "NEW", .value = &r->new_path}, {.name = "OUT.wav", .value = &r->wav_path}, {.name = NULL}};
+    if (!read_arguments(given, &(struct arguments){.options = options, .operands = operands}, why)) return false;
     if (!r->shelf_path) return misuse(why, "--shelf FILE is missing");
+    if (!names_file(r->wav_path, why) || !names_file(r->shelf_path, why)) return false;
     if (same_file(r->shelf_path, r->wav_path)) return misuse(why, "the WAV and the shelf are one file");
-    if (strcmp(r->old_path, "-") == 0 && strcmp(r->new_path, "-") == 0) {
-        return misuse(why, "standard input cannot be both scores");
+    if (same_file(r->new_path, r->wav_path) || same_file(r->new_path, r->shelf_path)) {
+        return misuse(why, "%s would be written over", r->new_path);
     }
-    const char *const inputs[] = {r->old_path, r->new_path};
-    for (size_t i = 0; i < COUNT_OF(inputs); i++) {
-        if (same_file(inputs[i], r->wav_path) || same_file(inputs[i], r->shelf_path)) {
-            return misuse(why, "%s would be written over", inputs[i]);
-        }
-    }
-    return read_score(r->old_path, &r->before, why) && read_score(r->new_path, &r->after, why);
+    return read_score(r->new_path, &r->after, why);
 }
 
 static bool run_rerender(char **given, struct why *why) {
     struct rerender *r = calloc(1, sizeof *r);
     if (!r) return refuse(why, "no memory for %zu bytes", sizeof *r);
-    bool done = read_rerender(given, r, why) && load_shelf(r, why) && load_wav(r, why) && can_write(r->wav_path, why) &&
-                can_write(r->shelf_path, why) && rerender_sound(r, why) && write_files(r, why);
+    r->pair = NO_PAIR;
+    bool done = read_rerender(given, r, why) && pair_open(&r->pair, r->wav_path, r->shelf_path, why) && load(r, why) &&
+                rerender_sound(r, why) && rest_is_kept(r, why) && write_files(r, why);
     if (done) tell(r);
+    pair_drop(&r->pair);
     sound_free(&r->sound);
-    free(r->file.at);
+    free(r->wav_file.at);
+    free(r->shelf_file.at);
+    free(r->new_shelf.at);
     free(r);
     return done;
 }
 
 const struct verb rerender_verb = {
-    "rerender",
-    "renders an edited score into the WAV and the shelf of the old one",
-    "desk rerender OLD NEW OUT.wav --shelf FILE\n"
-    "Brings OUT.wav and the shelf from the score OLD to the score NEW. Only samples from the last mark (every 4096\n"
-    "samples) at or before the first changed record are rendered; from there on both files are what a render of NEW\n"
-    "from sample zero gives, and the bytes before stay as they came. The settings and the length are the shelf's.\n"
-    "A shelf that is damaged, or of another score or WAV, is named and nothing is written.\n",
-    run_rerender,
+    .name = "rerender",
+    .summary = "renders an edited score into the WAV and the shelf of the old one",
+    .help =
+        "desk rerender NEW OUT.wav --shelf FILE\n"
+        "Brings OUT.wav and the shelf from the score that the shelf is of to the score NEW. Only samples from the "
+        "last\n"
+        "mark (every 4096 samples) at or before the first changed record on are rendered; the bytes before stay as\n"
+        "they came, and are compared with the shelf's sums of them. So both files are then what a render of NEW from\n"
+        "sample zero gives. The settings and the length are the shelf's. NEW may be - for standard input.\n"
+        "A shelf that is damaged, or of another WAV, is named, and so is a WAV that was changed since: nothing is\n"
+        "written then.\n",
+    .run = run_rerender,
 };

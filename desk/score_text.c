@@ -32,7 +32,7 @@ static size_t next_line(struct reading *reading, struct word words[MOST_WORDS]) 
         if (at == line_end || *at == '#') break;
         const uint8_t *start = at;
         while (at < line_end && !is_blank(*at) && *at != '#') at++;
-        words[count++] = (struct word){start, (size_t)(at - start)};
+        words[count++] = (struct word){.at = start, .len = (size_t)(at - start)};
     }
     reading->at = line_end < reading->end ? line_end + 1 : line_end;
     reading->line++;
@@ -79,15 +79,15 @@ static bool kind_of(struct word word, unsigned *kind, struct why *why) {
     return refuse(why, "\"%s\" is not on, off or reset", shown(word, room));
 }
 
-/* A record of four words; that its fields are in range is left to the library, which has a byte for each. */
+/* A record of four words. */
 static bool take_record(struct reading *reading, const struct word *words, struct score *score, struct why *why) {
     uint64_t position, note, velocity;
     unsigned kind = 0;
     size_t record = score->len / RECORD_BYTES;
     if (!whole_number(words[0], "the position", " (samples)", UINT32_MAX, &position, why)) return false;
     if (!kind_of(words[1], &kind, why)) return false;
-    if (!whole_number(words[2], "the note", "; a note is 0 to 127", 255, &note, why)) return false;
-    if (!whole_number(words[3], "the velocity", "; a velocity is 0 to 127", 255, &velocity, why)) return false;
+    if (!whole_number(words[2], "the note", "; a note is 0 to 127", 127, &note, why)) return false;
+    if (!whole_number(words[3], "the velocity", "; a velocity is 0 to 127", 127, &velocity, why)) return false;
     if (record == MOST_RECORDS) return refuse(why, "a score has at most %u records", MOST_RECORDS);
     reading->line_of[record] = reading->line;
     add_record(score, (uint32_t)position, kind, (unsigned)note, (unsigned)velocity);
@@ -114,17 +114,18 @@ static bool take_line(struct reading *reading, struct score *score, struct why *
 static bool judge(const struct reading *reading, const struct score *score, struct why *why) {
     size_t records = score->len / RECORD_BYTES;
     if (reading->head_line && reading->head_count != records) {
-        refuse(why, "it says %llu records, and there are %zu", (unsigned long long)reading->head_count, records);
+        size_t said = (size_t)reading->head_count;
+        refuse(why, "it says %zu %s, and there %s %zu", said, counted(said, "record", "records"),
+               counted(records, "is", "are"), records);
         return preface(why, "line %zu: ", reading->head_line);
     }
-    uint64_t said = gav_check_score(score->at, score->len);
-    if (said == 0) return true;
-    size_t place = gav_place(said);
-    refused_score(said, NULL, score, why);
+    if (check_score(NULL, score, why)) return true;
+    size_t place = gav_place(gav_check_score(score->at, score->len));
     return place < records ? preface(why, "line %zu: ", reading->line_of[place]) : false;
 }
 
 bool score_of_text(const uint8_t *text, size_t len, struct score *score, struct why *why) {
+    if (len > MOST_TEXT) return refuse(why, "it is longer than %u bytes", MOST_TEXT);
     struct reading reading = {.at = text, .end = text + len};
     score->len = 0;
     while (reading.at < reading.end) {

@@ -1,56 +1,262 @@
-/* The voice's settings as options: their texts, what stands for one that is not given, and the length of a sound. */
+/* The voice's settings: one table says which option reads each, where it stands in the struct and in a shelf's head,
+   and what is told of it. Then the length of a sound. */
 #include "desk.h"
 
 #include <math.h>
+#include <stdlib.h>
 #include <string.h>
 
-static const char *const wave_names[] = {"sine", "square", "saw", "triangle", "pulse"};
+enum kind { WHOLE, WAVE, NUMBER, LENGTH };
 
-const char *wave_name(uint32_t code) { return code < COUNT_OF(wave_names) ? wave_names[code] : "no waveform"; }
+/* An option with several fields has a row for each, one after the other, and its text has commas between them. The
+   length of a sound is an option beside the settings: it stands in neither the struct nor the head. */
+struct setting {
+    const char *option;
+    enum kind kind;
+    size_t field;
+    unsigned word;
+    const char *name, *unit, *form, *help;
+};
+
+#define FIELD(of) .field = offsetof(struct gav_settings, of)
+
+static const struct setting rows[] = {
+    {.option = "--rate",
+     .kind = WHOLE,
+     FIELD(rate),
+     .word = 8,
+     .name = "rate",
+     .unit = " Hz",
+     .form = "--rate HZ",
+     .help = "samples a second, 8000 to 192000 Hz (48000)"},
+    {.option = "--wave",
+     .kind = WAVE,
+     FIELD(code),
+     .word = 9,
+     .name = "wave",
+     .unit = "",
+     .form = "--wave NAME",
+     .help = "the name or the code (saw)"},
+    {.option = "--duty",
+     .kind = NUMBER,
+     FIELD(duty),
+     .word = 10,
+     .name = "duty",
+     .unit = "",
+     .form = "--duty D",
+     .help = "of a pulse: the part of a cycle that is high, 0 to 1 (0.5)"},
+    {.option = "--adsr",
+     .kind = NUMBER,
+     FIELD(attack),
+     .word = 11,
+     .name = "attack",
+     .unit = " s",
+     .form = "--adsr A,D,S,R",
+     .help = "attack s, decay s, sustain level, release s (0.01,0.1,0.7,0.3);\n"
+             "                   times clamp to 0.001 to 10 s, the level to 0 to 1"},
+    {.option = "--adsr", .kind = NUMBER, FIELD(decay), .word = 12, .name = "decay", .unit = " s"},
+    {.option = "--adsr", .kind = NUMBER, FIELD(sustain), .word = 13, .name = "sustain", .unit = ""},
+    {.option = "--adsr", .kind = NUMBER, FIELD(release), .word = 14, .name = "release", .unit = " s"},
+    {.option = "--seconds",
+     .kind = LENGTH,
+     .form = "--seconds S",
+     .help = "length of the sound in s (without: a release after the last record)"},
+};
+
+#define ROWS COUNT_OF(rows)
+
+_Static_assert(ROWS <= MOST_SETTING_OPTIONS, "a text for each row");
+
+/* Names by code; a code that is not here is of no waveform. */
+static const struct wave {
+    uint32_t code;
+    const char *name;
+} waves[] = {
+    {.code = GAV_SINE, .name = "sine"},    {.code = GAV_SQUARE, .name = "square"},
+    {.code = GAV_SAWTOOTH, .name = "saw"}, {.code = GAV_TRIANGLE, .name = "triangle"},
+    {.code = GAV_PULSE, .name = "pulse"},
+};
+
+#define WAVE_LIST_ROOM 256u
+
+const char *wave_name(uint32_t code) {
+    for (size_t i = 0; i < COUNT_OF(waves); i++) {
+        if (waves[i].code == code) return waves[i].name;
+    }
+    return NULL;
+}
+
+/* Every name with its code. */
+static const char *wave_list(char room[WAVE_LIST_ROOM]) {
+    size_t used = 0;
+    for (size_t i = 0; i < COUNT_OF(waves) && used < WAVE_LIST_ROOM; i++) {
+        const char *between = i == 0 ? "" : ", ";
+        int put = snprintf(room + used, WAVE_LIST_ROOM - used, "%s%s %u", between, waves[i].name, waves[i].code);
+        used += (size_t)put;
+    }
+    return room;
+}
+
+/* The first row of an option, at whose place its text is kept; ROWS where there is none. */
+static size_t row_of(const char *option) {
+    size_t row = 0;
+    while (row < ROWS && strcmp(rows[row].option, option) != 0) row++;
+    return row;
+}
+
+/* A field as a word of the shelf has it: a whole number, or the bits of a float. */
+static uint64_t get_field(const struct setting *row, const struct gav_settings *settings) {
+    const uint8_t *at = (const uint8_t *)settings + row->field;
+    uint32_t whole;
+    double number;
+    if (row->kind == NUMBER) {
+        memcpy(&number, at, sizeof number);
+        return bits_of(number);
+    }
+    memcpy(&whole, at, sizeof whole);
+    return whole;
+}
+
+static void set_field(const struct setting *row, struct gav_settings *settings, uint64_t word) {
+    uint8_t *at = (uint8_t *)settings + row->field;
+    uint32_t whole = (uint32_t)word;
+    double number = from_bits(word);
+    if (row->kind == NUMBER) {
+        memcpy(at, &number, sizeof number);
+    } else {
+        memcpy(at, &whole, sizeof whole);
+    }
+}
 
 /* A name, or a code, which may be one that the library refuses. */
-static bool read_wave(const char *text, uint32_t *code, struct why *why) {
-    uint64_t value;
-    for (uint32_t i = 0; i < COUNT_OF(wave_names); i++) {
-        if (strcmp(text, wave_names[i]) == 0) {
-            *code = i;
+static bool read_wave(const char *option, const char *text, uint64_t *code, struct why *why) {
+    char room[WAVE_LIST_ROOM];
+    for (size_t i = 0; i < COUNT_OF(waves); i++) {
+        if (strcmp(text, waves[i].name) == 0) {
+            *code = waves[i].code;
             return true;
         }
     }
-    if (!read_whole("--wave", "codes", text, UINT32_MAX, &value, why)) {
-        return misuse(why, "--wave: \"%s\" is not sine, square, saw, triangle, pulse or a code", text);
-    }
-    *code = (uint32_t)value;
-    return true;
+    if (read_whole(option, "codes", text, UINT32_MAX, code, why)) return true;
+    return misuse(why, "%s: \"%s\" is no name and no code of a waveform (%s)", option, text, wave_list(room));
 }
 
-/* Four numbers with commas between them. */
-static bool read_adsr(const char *text, struct settings *settings, struct why *why) {
-    double *const fields[] = {&settings->attack, &settings->decay, &settings->sustain, &settings->release};
-    char copy[256];
-    if (strlen(text) >= sizeof copy) return misuse(why, "--adsr: it is longer than %zu bytes", sizeof copy - 1);
+static bool read_field(const struct setting *row, const char *text, struct gav_settings *settings, struct why *why) {
+    uint64_t word = 0;
+    double number;
+    bool read;
+    if (row->kind == NUMBER) {
+        read = read_number(row->option, text, &number, why);
+        if (read) word = bits_of(number);
+    } else if (row->kind == WAVE) {
+        read = read_wave(row->option, text, &word, why);
+    } else {
+        read = read_whole(row->option, row->unit, text, UINT32_MAX, &word, why);
+    }
+    if (read) set_field(row, settings, word);
+    return read;
+}
+
+/* Whether the next row is of the same option. */
+static bool goes_on(const struct setting *row) {
+    return row + 1 < rows + ROWS && strcmp(row[0].option, row[1].option) == 0;
+}
+
+/* The fields of an option, from its first row on. */
+static bool read_fields(const struct setting *row, const char *text, struct gav_settings *settings, struct why *why) {
+    char copy[256], *at = copy;
+    if (strlen(text) >= sizeof copy) {
+        return misuse(why, "%s: it is longer than %zu bytes", row->option, sizeof copy - 1);
+    }
     memcpy(copy, text, strlen(text) + 1);
-    char *at = copy;
-    for (size_t i = 0; i < COUNT_OF(fields); i++) {
+    for (; goes_on(row); row++) {
         char *comma = strchr(at, ',');
-        if ((comma == NULL) != (i + 1 == COUNT_OF(fields))) {
-            return misuse(why, "--adsr: \"%s\" is not attack,decay,sustain,release (s, s, a level of 0 to 1, s)", text);
-        }
-        if (comma) *comma = '\0';
-        if (!read_number("--adsr", at, fields[i], why)) return false;
-        if (comma) at = comma + 1;
+        if (!comma)
+            return misuse(why, "%s: \"%s\" is not of the form %s", row->option, text, rows[row_of(row->option)].form);
+        *comma = '\0';
+        if (!read_field(row, at, settings, why)) return false;
+        at = comma + 1;
+    }
+    return read_field(row, at, settings, why);
+}
+
+const char **setting_text(struct setting_texts *texts, const char *option) {
+    size_t row = row_of(option);
+    return row < ROWS ? &texts->of[row] : NULL;
+}
+
+bool read_settings(const struct setting_texts *texts, struct gav_settings *settings, struct why *why) {
+    struct gav_settings defaults = GAV_SETTINGS_DEFAULT;
+    *settings = defaults;
+    for (size_t i = 0; i < ROWS; i++) {
+        if (!texts->of[i] || rows[i].kind == LENGTH) continue;
+        if (!read_fields(&rows[i], texts->of[i], settings, why)) return false;
     }
     return true;
 }
 
-bool read_settings(const struct setting_texts *texts, struct settings *settings, struct why *why) {
-    uint64_t rate = 48000;
-    *settings = (struct settings){48000, 2, 0.5, 0.01, 0.1, 0.7, 0.3};
-    if (texts->rate && !read_whole("--rate", "Hz", texts->rate, UINT32_MAX, &rate, why)) return false;
-    settings->rate = (uint32_t)rate;
-    if (texts->wave && !read_wave(texts->wave, &settings->code, why)) return false;
-    if (texts->duty && !read_number("--duty", texts->duty, &settings->duty, why)) return false;
-    return texts->adsr ? read_adsr(texts->adsr, settings, why) : true;
+/* As few digits as give the number again. */
+static void put_number(FILE *out, double value) {
+    char text[32];
+    int digits = 1;
+    do {
+        snprintf(text, sizeof text, "%.*g", digits, value);
+    } while (++digits <= 17 && strtod(text, NULL) != value);
+    fputs(text, out);
+}
+
+void put_settings(FILE *out, const struct gav_settings *settings) {
+    for (const struct setting *row = rows; row < rows + ROWS && row->kind != LENGTH; row++) {
+        uint64_t word = get_field(row, settings);
+        const char *wave = row->kind == WAVE ? wave_name((uint32_t)word) : NULL;
+        fprintf(out, "%s%s ", row == rows ? "" : ", ", row->name);
+        if (row->kind == NUMBER) {
+            put_number(out, from_bits(word));
+        } else if (wave) {
+            fputs(wave, out);
+        } else {
+            fprintf(out, "%llu", (unsigned long long)word);
+        }
+        fputs(row->unit, out);
+    }
+}
+
+void put_settings_help(FILE *out) {
+    char room[WAVE_LIST_ROOM];
+    for (size_t i = 0; i < ROWS; i++) {
+        bool wave = rows[i].kind == WAVE;
+        if (!rows[i].help) continue;
+        fprintf(out, "  %-16s %s%s%s\n", rows[i].form, wave ? wave_list(room) : "", wave ? ": " : "", rows[i].help);
+    }
+}
+
+void put_setting_words(uint8_t *head, const struct gav_settings *settings) {
+    memset(head + 8 * FIRST_SETTING_WORD, 0, 8 * SETTING_WORDS);
+    for (size_t i = 0; i < ROWS; i++) {
+        if (rows[i].word) put_u64(head + 8 * rows[i].word, get_field(&rows[i], settings));
+    }
+}
+
+/* The row whose word this is; NULL where the word is free. */
+static const struct setting *row_of_word(size_t word) {
+    for (size_t i = 0; i < ROWS; i++) {
+        if (rows[i].word == word) return &rows[i];
+    }
+    return NULL;
+}
+
+bool get_setting_words(const uint8_t *head, struct gav_settings *settings, struct why *why) {
+    for (size_t i = FIRST_SETTING_WORD; i < FIRST_SETTING_WORD + SETTING_WORDS; i++) {
+        const struct setting *row = row_of_word(i);
+        uint64_t word = get_u64(head + 8 * i);
+        if (!row && word) return refuse(why, "it has a setting that this desk does not know, in word %zu", i);
+        if (!row) continue;
+        if (row->kind != NUMBER && word > UINT32_MAX) {
+            return refuse(why, "it is damaged: its %s, %llu, cannot be", row->name, (unsigned long long)word);
+        }
+        set_field(row, settings, word);
+    }
+    return true;
 }
 
 /* A number of samples, rounded up; one too many where it is beyond counting. */
@@ -60,7 +266,7 @@ static size_t whole_samples(double samples) {
 
 /* A release after the last record, its time as the voice clamps it. None of a score without records, or of one that is
    refused: that is what is to be told of it, and not its length. */
-static size_t natural_length(const struct settings *settings, const struct score *score) {
+static size_t natural_length(const struct gav_settings *settings, const struct score *score) {
     size_t records = score->len / RECORD_BYTES;
     if (records == 0 || gav_check_score(score->at, score->len) != 0) return 0;
     double release = settings->release > 0.001 ? settings->release : 0.001;
@@ -68,15 +274,16 @@ static size_t natural_length(const struct settings *settings, const struct score
     return whole_samples(position_of(score, records - 1) + ceil(release * settings->rate));
 }
 
-bool read_length(const struct setting_texts *texts, const struct settings *settings, const struct score *score,
+bool read_length(const struct setting_texts *texts, const struct gav_settings *settings, const struct score *score,
                  size_t *samples, struct why *why) {
+    const char *text = texts->of[row_of("--seconds")];
     double seconds;
-    if (!texts->seconds) {
+    if (!text) {
         *samples = natural_length(settings, score);
         return true;
     }
-    if (!read_number("--seconds", texts->seconds, &seconds, why)) return false;
-    if (!(seconds >= 0)) return misuse(why, "--seconds: %s is not 0 s or more", texts->seconds);
+    if (!read_number("--seconds", text, &seconds, why)) return false;
+    if (!(seconds >= 0)) return misuse(why, "--seconds: %s is not 0 s or more", text);
     /* The nearest sample, so that a tenth of a second has as many as it should. */
     *samples = whole_samples(floor(seconds * settings->rate + 0.5));
     return true;

@@ -1,91 +1,135 @@
-/* A shelf in a file, with all that a re-render needs beside the two scores. Everything is in words of 8 bytes, low byte
-   first: the magic word, the version, the settings, N, the sum of the score that it was rendered from, then 12 words
-   for each entry, and the sum of all the bytes before it, by which damage is seen. */
+/* A shelf in a file, with all that a re-render needs beside the new score and the WAV. Everything is in words of 8
+   bytes, low byte first:
+
+       0        "GAVSHELF"
+       1        the version of this layout, 2
+       2        the version of the voice
+       3        N, the samples of the sound
+       4        bits of a sample in the WAV, 32 or 64
+       5        bytes of the score
+       6        words of an entry
+       7        words beside an entry, 1
+       8 to 31  the settings, each at the word that settings.c gives it; the others are 0
+       32 ..    for each section of 4,096 samples begun: the entry, then the sum of the section's bytes in the WAV
+       then     the score, and zeros to a whole word
+       last     the sum of all the bytes before it, by which damage is seen */
 #include "desk.h"
 
 #include <stdlib.h>
 #include <string.h>
 
-#define HEAD_WORDS 11u
-#define HEAD (8u * HEAD_WORDS)
-#define VERSION 1u
+enum word { MAGIC, LAYOUT, VOICE, SAMPLES, BITS, SCORE_LEN, ENTRY_WORDS, BESIDE_WORDS };
+
+#define HEAD (8u * SHELF_HEAD_WORDS)
+#define SECTION_WORDS (GAV_STATE_WORDS + SHELF_BESIDE_WORDS)
 
 static const char magic[] = "GAVSHELF";
 
-static void put_head(uint8_t *at, const struct shelf_head *head) {
-    const struct settings *s = &head->settings;
-    const uint64_t words[HEAD_WORDS - 1] = {
-        VERSION,
-        s->rate,
-        s->code,
-        bits_of(s->duty),
-        bits_of(s->attack),
-        bits_of(s->decay),
-        bits_of(s->sustain),
-        bits_of(s->release),
-        head->samples,
-        head->score,
-    };
-    memcpy(at, magic, 8);
-    for (size_t i = 0; i < COUNT_OF(words); i++) put_u64(at + 8 + 8 * i, words[i]);
+static size_t sections_of(size_t samples) { return gav_shelf_words(samples) / GAV_STATE_WORDS; }
+
+/* Where the words of a section stand, and where the score does. */
+static size_t section_at(size_t section) { return HEAD + 8 * SECTION_WORDS * section; }
+
+static size_t score_at(size_t samples) { return section_at(sections_of(samples)); }
+
+/* The bytes of the whole file. */
+static size_t file_len(size_t samples, size_t score_len) { return score_at(samples) + (score_len + 7) / 8 * 8 + 8; }
+
+uint64_t section_sum(const struct wav *wav, const uint8_t *file, size_t section) {
+    size_t frame = wav->bits / 8, first = section * GAV_MARK, left = wav->samples - first;
+    return sum_of(file + wav->data + frame * first, frame * (left < GAV_MARK ? left : GAV_MARK));
 }
 
-bool shelf_bytes(const struct shelf_head *head, const struct sound *sound, struct bytes *file, struct why *why) {
-    size_t len = HEAD + 8 * sound->words;
-    *file = (struct bytes){malloc(len + 8), len + 8};
-    if (!file->at) return refuse(why, "no memory for %zu bytes", len + 8);
-    put_head(file->at, head);
-    for (size_t i = 0; i < sound->words; i++) put_u64(file->at + HEAD + 8 * i, sound->shelf[i]);
-    put_u64(file->at + len, sum_of(file->at, len));
+uint64_t shelf_sum(const uint8_t *file, size_t section) {
+    return get_u64(file + section_at(section) + 8 * GAV_STATE_WORDS);
+}
+
+static void put_head(uint8_t *head, const struct shelf_file *about) {
+    memcpy(head, magic, 8);
+    put_u64(head + 8 * LAYOUT, SHELF_LAYOUT);
+    put_u64(head + 8 * VOICE, gav_version());
+    put_u64(head + 8 * SAMPLES, about->samples);
+    put_u64(head + 8 * BITS, about->bits);
+    put_u64(head + 8 * SCORE_LEN, about->score.len);
+    put_u64(head + 8 * ENTRY_WORDS, GAV_STATE_WORDS);
+    put_u64(head + 8 * BESIDE_WORDS, SHELF_BESIDE_WORDS);
+    put_setting_words(head, &about->settings);
+}
+
+static void put_section(uint8_t *at, const uint64_t *entry, uint64_t sum) {
+    for (size_t i = 0; i < GAV_STATE_WORDS; i++) put_u64(at + 8 * i, entry[i]);
+    put_u64(at + 8 * GAV_STATE_WORDS, sum);
+}
+
+bool shelf_bytes(const struct shelf_file *about, const struct sound *sound, const struct wav *wav,
+                 const uint8_t *wav_file, struct bytes *file, struct why *why) {
+    size_t len = file_len(about->samples, about->score.len);
+    *file = (struct bytes){.at = calloc(len, 1), .len = len};
+    if (!file->at) return refuse(why, "no memory for %zu bytes", len);
+    put_head(file->at, about);
+    for (size_t i = 0; i < sections_of(about->samples); i++) {
+        put_section(file->at + section_at(i), sound->shelf + GAV_STATE_WORDS * i, section_sum(wav, wav_file, i));
+    }
+    memcpy(file->at + score_at(about->samples), about->score.at, about->score.len);
+    put_u64(file->at + len - 8, sum_of(file->at, len - 8));
     return true;
 }
 
-bool shelf_write(struct draft *draft, const struct shelf_head *head, const struct sound *sound, struct why *why) {
-    struct bytes file;
-    bool written = shelf_bytes(head, sound, &file, why) && draft_write(draft, file.at, file.len, why);
-    free(file.at);
-    return written;
-}
+bool shelf_begins(const uint8_t *file, size_t len) { return len >= 8 && memcmp(file, magic, 8) == 0; }
 
-/* Its own marks: the magic word and the version, and then the sum. */
+/* Its own marks: the magic word, the length, the sum, and then the versions. A shelf of version 1 has another sum. */
 static bool look_at_marks(const uint8_t *file, size_t len, struct why *why) {
-    size_t seen = len < 8 ? len : 8;
-    if (seen == 0 || memcmp(file, magic, seen) != 0) {
+    if (!shelf_begins(file, len)) {
         return refuse(why, "it is no shelf of the desk: it does not begin with %s", magic);
+    }
+    if (len > SHELF_MOST) return refuse(why, "it is damaged: it is longer than %zu bytes", (size_t)SHELF_MOST);
+    if (len >= 16 && get_u64(file + 8 * LAYOUT) == 1) {
+        return refuse(why,
+                      "it is a shelf of version 1, which says nothing of its WAV: render again with `desk render`");
     }
     if (len < HEAD + 8) return refuse(why, "it is damaged: it is cut short after %zu bytes", len);
     if (sum_of(file, len - 8) != get_u64(file + len - 8)) {
         return refuse(why, "it is damaged or cut short: the sum of its %zu bytes is not the one that stands at its end",
                       len);
     }
-    if (get_u64(file + 8) != VERSION) {
-        return refuse(why, "it is a shelf of version %llu, and this desk reads version %u",
-                      (unsigned long long)get_u64(file + 8), VERSION);
+    uint64_t layout = get_u64(file + 8 * LAYOUT), voice = get_u64(file + 8 * VOICE);
+    if (layout == SHELF_LAYOUT && voice == gav_version()) return true;
+    return refuse(why,
+                  "it is a shelf of version %llu, voice %llu, and this desk has version %u, voice %u: render again "
+                  "with `desk render`",
+                  (unsigned long long)layout, (unsigned long long)voice, SHELF_LAYOUT, (unsigned)gav_version());
+}
+
+/* The words of the head that say how long the file is. */
+static bool look_at_sizes(const uint8_t *file, size_t len, struct shelf_file *about, struct why *why) {
+    uint64_t samples = get_u64(file + 8 * SAMPLES), bits = get_u64(file + 8 * BITS);
+    uint64_t score = get_u64(file + 8 * SCORE_LEN), entry = get_u64(file + 8 * ENTRY_WORDS);
+    if (samples > GAV_MOST_SAMPLES || (bits != 32 && bits != 64) || score > MOST_SCORE || entry != GAV_STATE_WORDS ||
+        get_u64(file + 8 * BESIDE_WORDS) != SHELF_BESIDE_WORDS) {
+        return refuse(why,
+                      "it is damaged: %llu samples of %llu bits, a score of %llu bytes or entries of %llu words "
+                      "cannot be",
+                      (unsigned long long)samples, (unsigned long long)bits, (unsigned long long)score,
+                      (unsigned long long)entry);
     }
+    size_t wanted = file_len((size_t)samples, (size_t)score);
+    if (len != wanted) return refuse(why, "it is damaged: %zu bytes, where its head asks for %zu", len, wanted);
+    about->samples = (size_t)samples;
+    about->bits = (unsigned)bits;
+    about->score.len = (size_t)score;
     return true;
 }
 
-bool shelf_look(const uint8_t *file, size_t len, struct shelf_head *head, struct why *why) {
-    if (!look_at_marks(file, len, why)) return false;
-    uint64_t rate = get_u64(file + 16), code = get_u64(file + 24), samples = get_u64(file + 72);
-    if (rate > UINT32_MAX || code > UINT32_MAX || samples > GAV_MOST_SAMPLES) {
-        return refuse(why, "it is damaged: %llu Hz, waveform %llu or %llu samples cannot be", (unsigned long long)rate,
-                      (unsigned long long)code, (unsigned long long)samples);
-    }
-    size_t wanted = HEAD + 8 * gav_shelf_words((size_t)samples) + 8;
-    if (len != wanted) {
-        return refuse(why, "it is damaged: %zu bytes, where %llu samples need %zu", len, (unsigned long long)samples,
-                      wanted);
-    }
-    double floats[5];
-    for (size_t i = 0; i < COUNT_OF(floats); i++) floats[i] = from_bits(get_u64(file + 32 + 8 * i));
-    head->settings =
-        (struct settings){(uint32_t)rate, (uint32_t)code, floats[0], floats[1], floats[2], floats[3], floats[4]};
-    head->samples = (size_t)samples;
-    head->score = get_u64(file + 80);
-    return true;
+bool shelf_look(const uint8_t *file, size_t len, struct shelf_file *about, struct why *why) {
+    if (!look_at_marks(file, len, why) || !look_at_sizes(file, len, about, why)) return false;
+    if (!get_setting_words(file, &about->settings, why)) return false;
+    memcpy(about->score.at, file + score_at(about->samples), about->score.len);
+    return check_score(NULL, &about->score, why) ? true : preface(why, "it is damaged: its score is ");
 }
 
 void shelf_words(const uint8_t *file, struct sound *sound) {
-    for (size_t i = 0; i < sound->words; i++) sound->shelf[i] = get_u64(file + HEAD + 8 * i);
+    for (size_t i = 0; i < sound->words; i++) {
+        size_t section = i / GAV_STATE_WORDS, word = i % GAV_STATE_WORDS;
+        sound->shelf[i] = get_u64(file + section_at(section) + 8 * word);
+    }
 }

@@ -1,136 +1,128 @@
-/* The chart's drawing: how far the level is from that of a render from sample zero, after each edit and over time. */
+/* A drawing of levels: how many percent they are off, in panels side by side that share one range of percents. */
 #include "desk.h"
 
 #include <math.h>
 
-#define OURS "#1f5fa8"
-#define OLD "#c0392b"
+#define TOP 56.0
+#define HEIGHT 200.0
+/* A little room at a panel's top. */
+#define HEADROOM 12.0
+/* A level cannot be less than nothing. */
+#define LOWEST_PERCENT (-100.0)
 
 /* The percents that a drawing shows, in whole steps; nought is one of them. */
 struct range {
     double highest, lowest, step;
 };
 
-/* A rectangle of the drawing, with a little room at its top, and how far it goes to the right. */
-struct panel {
-    double left, top, width, height, across;
-    struct range range;
-};
-
-#define HEADROOM 12.0
-
 static double x_at(const struct panel *p, double value) { return p->left + p->width * value / p->across; }
 
-static double y_at(const struct panel *p, double percent) {
-    double part = (p->range.highest - percent) / (p->range.highest - p->range.lowest);
-    return p->top + HEADROOM + (p->height - HEADROOM) * part;
+static double y_at(const struct range *range, double percent) {
+    double part = (range->highest - percent) / (range->highest - range->lowest);
+    return TOP + HEADROOM + (HEIGHT - HEADROOM) * part;
 }
 
 /* A step between lines that leaves about four of them. */
 static double step_for(double height) {
-    static const double steps[] = {0.5, 1, 2, 5, 10};
-    for (size_t i = 0; i < COUNT_OF(steps); i++) {
-        if (height <= 4 * steps[i]) return steps[i];
-    }
-    return 25;
+    static const double steps[] = {0.5, 1, 2, 5, 10, 25};
+    double step = 0;
+    for (size_t i = 0; step == 0 || height > 4 * step; i++) step = i < COUNT_OF(steps) ? steps[i] : 2 * step;
+    return step;
 }
 
-static void take_in(struct range *range, double percent) {
-    range->highest = fmax(range->highest, percent);
-    range->lowest = fmin(range->lowest, percent);
+static void take_in(struct range *range, const struct curve *curve) {
+    for (size_t i = 0; i < curve->points; i++) {
+        range->highest = fmax(range->highest, curve->percent[i]);
+        range->lowest = fmin(range->lowest, curve->percent[i]);
+    }
 }
 
-static struct range range_of(const struct pad *pad, const struct pad_chart *chart) {
-    struct range range = {0, -1, 0};
-    for (unsigned i = 0; i <= pad->edits; i++) {
-        take_in(&range, percent_off(chart->rows[i].ours, chart->rows[i].zero));
-        take_in(&range, percent_off(chart->rows[i].old, chart->rows[i].zero));
-    }
-    for (size_t i = 0; i < chart->points; i++) {
-        take_in(&range, chart->ours[i]);
-        take_in(&range, chart->old[i]);
-    }
+static void take_in_panel(struct range *range, const struct panel *p) {
+    for (size_t i = 0; i < p->curves; i++) take_in(range, &p->curve[i]);
+}
+
+static struct range range_of(const struct drawing *drawing) {
+    struct range range = {.highest = 0, .lowest = -1};
+    for (size_t i = 0; i < drawing->panels; i++) take_in_panel(&range, &drawing->panel[i]);
     range.step = step_for(range.highest - range.lowest);
     range.highest = range.step * ceil(range.highest / range.step);
-    range.lowest = range.step * floor(range.lowest / range.step);
+    range.lowest = fmax(LOWEST_PERCENT, range.step * floor(range.lowest / range.step));
     return range;
 }
 
-static void draw_frame(FILE *out, const struct panel *p, const char *title, const char *below) {
-    const struct range *range = &p->range;
-    fprintf(out, "<text x=\"%.1f\" y=\"%.1f\" font-size=\"13\">%s</text>\n", p->left, p->top - 8, title);
+/* A text that may hold a path, whose bytes may be anything: what is not plain there is drawn as '?'. */
+static void put_text(FILE *out, const char *text) {
+    for (; *text; text++) {
+        if (*text == '&' || *text == '<' || *text == '>') {
+            fprintf(out, "&#%d;", *text);
+        } else {
+            fputc(*text >= ' ' && *text <= '~' ? *text : '?', out);
+        }
+    }
+}
+
+static void draw_frame(FILE *out, const struct panel *p, const struct range *range) {
+    fprintf(out, "<text x=\"%.1f\" y=\"%.1f\" font-size=\"13\">%s</text>\n", p->left, TOP - 8, p->title);
     fprintf(out, "<rect x=\"%.1f\" y=\"%.1f\" width=\"%.1f\" height=\"%.1f\" fill=\"none\" stroke=\"#999\"/>\n",
-            p->left, p->top, p->width, p->height);
+            p->left, TOP, p->width, HEIGHT);
     for (double percent = range->highest; percent >= range->lowest; percent -= range->step) {
-        double y = y_at(p, percent);
+        double y = y_at(range, percent);
         fprintf(out, "<path d=\"M%.1f %.1fh%.1f\" stroke=\"#ddd\"/>\n", p->left, y, p->width);
         fprintf(out, "<text x=\"%.1f\" y=\"%.1f\" text-anchor=\"end\">%g %%</text>\n", p->left - 6, y + 4,
                 percent == 0 ? 0.0 : percent);
     }
     fprintf(out, "<text x=\"%.1f\" y=\"%.1f\" text-anchor=\"middle\">%s</text>\n", p->left + p->width / 2,
-            p->top + p->height + 34, below);
+            TOP + HEIGHT + 34, p->below);
 }
 
-static void draw_tick(FILE *out, const struct panel *p, double value) {
-    fprintf(out, "<text x=\"%.1f\" y=\"%.1f\" text-anchor=\"middle\">%g</text>\n", x_at(p, value),
-            p->top + p->height + 16, value);
+static void draw_ticks(FILE *out, const struct panel *p) {
+    for (unsigned i = 0; i * p->tick <= p->across; i++) {
+        fprintf(out, "<text x=\"%.1f\" y=\"%.1f\" text-anchor=\"middle\">%g</text>\n", x_at(p, i * p->tick),
+                TOP + HEIGHT + 16, i * p->tick);
+    }
 }
 
-static void begin_line(FILE *out, const char *color) {
-    fprintf(out, "<polyline fill=\"none\" stroke=\"%s\" stroke-width=\"2\" points=\"", color);
-}
-
-static void draw_edits(FILE *out, const struct panel *p, const struct pad *pad, const struct pad_chart *chart,
-                       bool ours) {
-    begin_line(out, ours ? OURS : OLD);
-    for (unsigned i = 0; i <= pad->edits; i++) {
-        const struct pad_row *row = &chart->rows[i];
-        fprintf(out, "%.1f,%.1f ", x_at(p, i), y_at(p, percent_off(ours ? row->ours : row->old, row->zero)));
+static void draw_curve(FILE *out, const struct panel *p, const struct range *range, const struct curve *curve) {
+    fprintf(out, "<polyline fill=\"none\" stroke=\"%s\" stroke-width=\"2\" points=\"", curve->color);
+    for (size_t i = 0; i < curve->points; i++) {
+        fprintf(out, "%.1f,%.1f ", x_at(p, curve->across[i]), y_at(range, curve->percent[i]));
     }
     fprintf(out, "\"/>\n");
 }
 
-static void draw_windows(FILE *out, const struct panel *p, const struct pad *pad, const double *percents, size_t points,
-                         const char *color) {
-    begin_line(out, color);
-    for (size_t i = 0; i < points; i++) {
-        double seconds = ((double)i + 0.5) * (double)pad->window / pad->settings.rate;
-        fprintf(out, "%.1f,%.1f ", x_at(p, seconds), y_at(p, percents[i]));
-    }
-    fprintf(out, "\"/>\n");
+static void draw_panel(FILE *out, const struct panel *p, const struct range *range) {
+    draw_frame(out, p, range);
+    draw_ticks(out, p);
+    for (size_t i = 0; i < p->curves; i++) draw_curve(out, p, range, &p->curve[i]);
 }
 
-static void draw_legend(FILE *out, const struct pad *pad) {
-    fprintf(out, "<path d=\"M60 314h24\" stroke=\"" OURS
-                 "\" stroke-width=\"2\"/>\n<text x=\"90\" y=\"318\">re-render</text>\n");
-    fprintf(out,
-            "<path d=\"M180 314h24\" stroke=\"" OLD "\" stroke-width=\"2\"/>\n"
-            "<text x=\"210\" y=\"318\">the old way: each edit from a state %g ms past the cut</text>\n",
-            1000.0 * (double)pad->late / pad->settings.rate);
+static void draw_legend(FILE *out, const struct legend *legend) {
+    fprintf(out, "<path d=\"M%d 314h24\" stroke=\"%s\" stroke-width=\"2\"/>\n<text x=\"%d\" y=\"318\">", legend->left,
+            legend->color, legend->left + 30);
+    put_text(out, legend->words);
+    fprintf(out, "</text>\n");
 }
 
-void svg_draw(FILE *out, const struct pad *pad, const struct pad_chart *chart) {
-    struct range range = range_of(pad, chart);
-    double seconds = (double)pad->samples / pad->settings.rate;
-    struct panel left = {60, 56, 280, 200, pad->edits, range};
-    struct panel right = {420, 56, 280, 200, seconds, range};
-    char title[64];
+void svg_draw(FILE *out, const struct drawing *drawing) {
+    struct range range = range_of(drawing);
     fprintf(out, "<svg xmlns=\"http://www.w3.org/2000/svg\" width=\"720\" height=\"332\" viewBox=\"0 0 720 332\" "
                  "font-family=\"sans-serif\" font-size=\"11\" fill=\"#222\">\n"
-                 "<title>The level of a slowly falling pad, against a render from sample zero</title>\n"
+                 "<title>The level of ");
+    put_text(out, drawing->name);
+    fprintf(out, ", against a render from sample zero</title>\n"
                  "<rect width=\"720\" height=\"332\" fill=\"#fff\"/>\n"
-                 "<text x=\"60\" y=\"22\" font-size=\"15\">How far the level of a slowly falling pad is from a render "
-                 "from sample zero</text>\n");
-    snprintf(title, sizeof title, "the last %g s, after each edit", (double)pad->window / pad->settings.rate);
-    draw_frame(out, &left, title, "edits");
-    for (unsigned i = 0; i <= pad->edits; i++) draw_tick(out, &left, i);
-    draw_edits(out, &left, pad, chart, false);
-    draw_edits(out, &left, pad, chart, true);
-    snprintf(title, sizeof title, "the whole sound, after %u edits", pad->edits);
-    draw_frame(out, &right, title, "seconds");
-    for (unsigned i = 0; i <= seconds; i++) draw_tick(out, &right, i);
-    draw_windows(out, &right, pad, chart->old, chart->points, OLD);
-    draw_windows(out, &right, pad, chart->ours, chart->points, OURS);
-    draw_legend(out, pad);
+                 "<text x=\"60\" y=\"22\" font-size=\"15\">How far the level of ");
+    put_text(out, drawing->name);
+    fprintf(out, " is from a render from sample zero</text>\n");
+    for (size_t i = 0; i < drawing->panels; i++) draw_panel(out, &drawing->panel[i], &range);
+    for (size_t i = 0; i < drawing->legends; i++) draw_legend(out, &drawing->legend[i]);
     fprintf(out, "</svg>\n");
+}
+
+double svg_tick(double across) {
+    static const double ticks[] = {0.001, 0.002, 0.005, 0.01, 0.02, 0.05, 0.1, 0.2, 0.5,
+                                   1,     2,     5,     10,   20,   50,   100, 200, 500};
+    size_t i = 0;
+    while (i + 1 < COUNT_OF(ticks) && across > 10 * ticks[i]) i++;
+    return ticks[i];
 }

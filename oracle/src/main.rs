@@ -20,6 +20,7 @@ mod phase_rows;
 mod pitch_rows;
 mod polyblep_rows;
 mod render;
+mod render_asked;
 mod render_edges;
 mod render_random;
 mod render_rows;
@@ -44,8 +45,8 @@ const PARTS: [rows::Part; 9] = [
 ];
 
 const USAGE: &str = "\
-oracle rows PART SEED COUNT   the edges, then COUNT seeded rows, to standard output
-oracle tally PART             rows from standard input: how many done and refused, a line an op
+oracle rows PART SEED COUNT   a head, the edges, then COUNT seeded rows, to standard output
+oracle tally                  parts from standard input: the rows of each, how many done and refused, a line an op
 oracle check                  the compiled files are the original's, and the opened copies answer as the untouched";
 
 fn main() {
@@ -53,7 +54,7 @@ fn main() {
     let words: Vec<&str> = given.iter().map(String::as_str).collect();
     match words[..] {
         ["rows", name, seed, count] => rows::write(part(name), number(seed), number(count)),
-        ["tally", name] => rows::tally(part(name)),
+        ["tally"] => rows::tally(part),
         ["check"] => check::all(),
         _ => give_up(USAGE),
     }

@@ -3,7 +3,7 @@
 use crate::envelope_rows::RATES;
 use crate::patterns::near;
 use crate::render::{off, on, reset, Record, Settings, Wave};
-use crate::render_rows::{Asked, CONTINUE, LAST, MOST_SAMPLES};
+use crate::render_asked::{packed_words, Asked, CONTINUE, LAST, MOST_SAMPLES};
 use crate::waveform_rows::{duties, not_a_unit, TINY};
 use crate::waveform_rows::{PULSE, SAWTOOTH, SINE, SQUARE, TRIANGLE};
 
@@ -273,18 +273,6 @@ fn edges_of_states() -> Vec<Asked> {
         }
     }
     [list.clone(), empty(&list, 7)].concat()
-}
-
-/// The word of note, gate, count and records acted with one of them changed.
-pub fn packed_words(word: u64) -> Vec<u64> {
-    let active = |note: u64| word & !255 | note;
-    let held = |count: u64| word & !(127 << 9) | count << 9;
-    let acted = |number: u64| word & 65535 | number << 16;
-    let now = word >> 16;
-    let mut list = vec![active(0), active(127), active(128), active(254), active(255), active(255) ^ 256, word ^ 256];
-    list.extend([0, 1, 2, 3, 15, 16, 17, 127].map(held));
-    list.extend([0, now.saturating_sub(1), now + 1, now + 65536, (1 << 48) - 1].map(acted));
-    list
 }
 
 /// Positions up to the last, past it and far past it, where a sum would be too large; records there.

@@ -4,8 +4,7 @@ use crate::chance::Chance;
 use crate::envelope_rows::{random_rate, random_settings};
 use crate::patterns::near;
 use crate::render::{off, on, reset, Record, Settings, Wave, Words};
-use crate::render_edges::packed_words;
-use crate::render_rows::{is_state, Asked, CONTINUE, LAST, MOST_SAMPLES, RENDER};
+use crate::render_asked::{is_state, packed_words, Asked, CONTINUE, LAST, MOST_SAMPLES, RENDER};
 use crate::waveform_rows::{duties, not_a_unit, TINY};
 use crate::waveform_rows::{PULSE, SAWTOOTH, SINE, SQUARE, TRIANGLE};
 

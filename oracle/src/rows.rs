@@ -1,4 +1,5 @@
-//! Rows of words, little-endian: what every part's rows share.
+//! Rows of words, little-endian: what every part's rows share. Before a part's rows stands a head: the part's name, with zeros
+//! up to eight bytes, and how many rows there are.
 
 use std::collections::HashSet;
 use std::io::{self, Read, Write};
@@ -32,14 +33,18 @@ pub fn each(mut chance: Chance, row: fn(&mut Chance) -> Vec<u64>) -> Rows {
     Box::new(std::iter::repeat_with(move || row(&mut chance)))
 }
 
-/// The edges, each once, then `count` random rows.
+/// Bytes in a name, and in a head.
+const NAME: usize = 8;
+const HEAD: usize = 16;
+
+/// A head, the edges, each once, then `count` random rows.
 pub fn write(part: &Part, seed: u64, count: u64) {
     let mut out = io::BufWriter::new(io::stdout().lock());
-    let mut seen = HashSet::new();
-    for given in (part.edges)() {
-        if seen.insert(given.clone()) {
-            put(part, &given, &mut out);
-        }
+    let (mut seen, mut edges) = (HashSet::new(), (part.edges)());
+    edges.retain(|given| seen.insert(given.clone()));
+    out.write_all(&head(part, edges.len() as u64 + count)).expect("standard output took not all");
+    for given in edges {
+        put(part, &given, &mut out);
     }
     for given in (part.random)(Chance::new(seed)).take(count as usize) {
         put(part, &given, &mut out);
@@ -59,23 +64,41 @@ fn put(part: &Part, given: &[u64], out: &mut impl Write) {
     }
 }
 
-/// How many rows standard input has, and how many of each op are done and refused, a line an op.
-pub fn tally(part: &Part) {
+fn head(part: &Part, rows: u64) -> [u8; HEAD] {
+    let mut head = [0; HEAD];
+    head[..part.name.len()].copy_from_slice(part.name.as_bytes());
+    head[NAME..].copy_from_slice(&rows.to_le_bytes());
+    head
+}
+
+/// A line for each part of standard input with its rows, and one for each op: how many are done and refused.
+pub fn tally(part_of: fn(&str) -> &'static Part) {
     let mut bytes = Vec::new();
     io::stdin().read_to_end(&mut bytes).expect("standard input gave not all");
-    let mut counts = vec![[0u64; 2]; part.ops.len()];
-    let (mut rows, mut rest) = (0, &bytes[..]);
+    let mut rest = &bytes[..];
     while !rest.is_empty() {
+        let (head, rows) = rest.split_at(HEAD);
+        let name = String::from_utf8_lossy(&head[..NAME]);
+        let count = u64::from_le_bytes(head[NAME..].try_into().unwrap());
+        rest = tally_part(part_of(name.trim_end_matches('\0')), count, rows);
+    }
+}
+
+/// What comes after the part's rows.
+fn tally_part<'a>(part: &Part, count: u64, rows: &'a [u8]) -> &'a [u8] {
+    let (mut counts, mut rest) = (vec![[0u64; 2]; part.ops.len()], rows);
+    for _ in 0..count {
         let (row, after) = rest.split_at(size(part, rest));
         let refused = part.number_at.is_some_and(|at| word(part, row, at) != 0);
         let op = if part.ops.len() == 1 { 0 } else { word(part, row, 0) };
         counts[op as usize][refused as usize] += 1;
-        (rows, rest) = (rows + 1, after);
+        rest = after;
     }
-    println!("{rows} rows, {} bytes", bytes.len());
+    println!("{}: {count} rows, {} bytes", part.name, rows.len() - rest.len());
     for (op, [done, refused]) in part.ops.iter().zip(counts) {
-        println!("{op}: {done} done, {refused} refused");
+        println!("  {op}: {done} done, {refused} refused");
     }
+    rest
 }
 
 /// Bytes in the first row of some.

@@ -17,7 +17,10 @@ os.chdir(ROOT)
 WORDS = {1: "on", 2: "off", 3: "reset"}
 LAST = 2**32 - 1
 SOUNDS = {"sine": 0, "square": 1, "saw": 2, "triangle": 3, "pulse": 4}
-SHELF_HEAD = struct.Struct("<8sQQQdddddQQ")
+SHELF_HEAD = struct.Struct("<8s9Q5d17Q")
+SHELF_NAMES = "magic layout voice samples bits score_len entry beside rate code duty attack decay sustain release".split()
+STATE_WORDS = 12
+ENTRY = 8 * STATE_WORDS
 
 faults = []
 runs = 0
@@ -93,7 +96,7 @@ def desk(*given, **streams):
     hold(name, "Sanitizer" not in said.err and "runtime error" not in said.err, said.err[-2000:])
     if said.status in (1, 2) and ran.stderr is not None:
         verb = re.escape(str(given[0])) if given else ""
-        told = re.match(rf"(?:\rrendering[^\n]*\n?)*desk(?: {verb})?: \S|desk VERB", said.err)
+        told = re.match(rf"desk(?: {verb})?: \S|desk VERB", said.err)
         hold(name, told is not None, f"status {said.status} and {said.err!r:.300}")
         hold(name, ("try: desk" in said.err or "desk VERB" in said.err) == (said.status == 2), f"{said.err!r:.300}")
     return said
@@ -167,24 +170,52 @@ def wav_parts(path):
     return rate, bits, data[58:]
 
 
-def shelf_parts(path):
-    """The settings, the length and the words of a shelf."""
-    data = Path(path).read_bytes()
-    magic, version, *settings, samples, _ = SHELF_HEAD.unpack_from(data)
-    hold(f"{path}: its head", (magic, version) == (b"GAVSHELF", 1), f"{magic} {version}")
-    return tuple(settings), samples, data[SHELF_HEAD.size : -8]
+def voice_version():
+    return int(subprocess.run([DESK, "--version"], capture_output=True, check=True).stdout.split()[-1])
+
+
+class Shelf:
+    """What stands in a shelf's file, each field as it must be."""
+
+    def __init__(self, path):
+        data = Path(path).read_bytes()
+        head = dict(zip(SHELF_NAMES, SHELF_HEAD.unpack_from(data)))
+        self.samples, self.bits = head["samples"], head["bits"]
+        self.settings = tuple(head[name] for name in SHELF_NAMES[8:])
+        sections = -(-self.samples // 4096)
+        end = SHELF_HEAD.size + (ENTRY + 8) * sections
+        parts = [data[at : at + ENTRY + 8] for at in range(SHELF_HEAD.size, end, ENTRY + 8)]
+        self.entries = b"".join(part[:ENTRY] for part in parts)
+        self.sums = [int.from_bytes(part[ENTRY:], "little") for part in parts]
+        self.score = data[end : end + head["score_len"]]
+        filled = self.score + b"\0" * (-len(self.score) % 8)
+        fixed = tuple(head[name] for name in ("magic", "layout", "voice", "entry", "beside"))
+        hold(f"{path}: its head", fixed == (b"GAVSHELF", 2, voice_version(), STATE_WORDS, 1), f"{fixed}")
+        hold(f"{path}: free words", not any(SHELF_HEAD.unpack_from(data)[len(SHELF_NAMES) :]))
+        hold(f"{path}: its end", data[end:] == filled + struct.pack("<Q", sum_of(data[:-8])), f"{len(data)} bytes")
 
 
 def sum_of(data):
-    """The sum at a shelf's end: FNV-1a in 64 bits."""
-    total = 0xCBF29CE484222325
-    for byte in data:
-        total = (total ^ byte) * 0x100000001B3 & (2**64 - 1)
+    """The sum that stands in shelves: 8 bytes a step, from a start that holds the length."""
+    total = 0xCBF29CE484222325 ^ len(data)
+    for (word,) in struct.iter_unpack("<Q", data + b"\0" * (-len(data) % 8)):
+        total = (total ^ word) * 0x9E3779B97F4A7C15 & (2**64 - 1)
+        total ^= total >> 29
     return total
+
+
+def section_sums(samples, frame):
+    """Of the bytes of a WAV's samples, section by section."""
+    return [sum_of(samples[at : at + 4096 * frame]) for at in range(0, len(samples), 4096 * frame)]
 
 
 def with_sum(data):
     return data[:-8] + struct.pack("<Q", sum_of(data[:-8]))
+
+
+def temporary_name(name):
+    """The one name beside a file under which it is written, and which is locked meanwhile."""
+    return f".desk-{sum_of(name.encode()):016x}"
 
 
 def library(score, samples, rate=48000, wave="saw", duty=0.5, adsr=(0.01, 0.1, 0.7, 0.3)):

@@ -1,30 +1,34 @@
-/* A call that fails, for LD_PRELOAD: FAIL_CALL names it (write, fsync, close, rename), FAIL_AT which one of them in the
-   program's run, counted from 1, and FAIL_ERRNO the error. Standard streams are let alone. A write that is to fail with
-   FAIL_SHORT set first writes half of what it is given, as a disk does that fills up. Where FAIL_CALL is "signal", the
-   write is made, and the program is told to end in the middle of it. */
+/* A call that fails, or in which a signal comes, for LD_PRELOAD. FAIL_CALL names the call (write, fsync, close, rename,
+   or lock, the fcntl that locks a file), FAIL_AT which one of them in the program's run, counted from 1. FAIL_ERRNO is
+   the error. A write that is to fail with FAIL_SHORT set first writes half of what it is given, as a disk does that
+   fills up. Where FAIL_SIGNAL is set, the call does not fail: the program is sent that signal just before it. Standard
+   streams are let alone. */
 #define _GNU_SOURCE
 #include <dlfcn.h>
 #include <errno.h>
+#include <fcntl.h>
 #include <signal.h>
+#include <stdarg.h>
 #include <stdlib.h>
 #include <string.h>
 #include <unistd.h>
 
 static int calls;
 
-/* Whether this call is the one that fails; errno is set then. */
+/* Whether this call fails; errno is set then. */
 static int fails(const char *name) {
     const char *call = getenv("FAIL_CALL"), *at = getenv("FAIL_AT"), *error = getenv("FAIL_ERRNO");
+    const char *sign = getenv("FAIL_SIGNAL");
     if (!call || !at || strcmp(call, name) != 0 || ++calls < atoi(at)) return 0;
+    if (sign && calls == atoi(at)) raise(atoi(sign));
     /* A full disk stays full; the other calls fail once. */
-    if (calls > atoi(at) && strcmp(name, "write") != 0) return 0;
+    if (sign || (calls > atoi(at) && strcmp(name, "write") != 0)) return 0;
     errno = error ? atoi(error) : EIO;
     return 1;
 }
 
 ssize_t write(int fd, const void *from, size_t len) {
     ssize_t (*real)(int, const void *, size_t) = (ssize_t(*)(int, const void *, size_t))dlsym(RTLD_NEXT, "write");
-    if (fd > 2 && fails("signal")) raise(SIGTERM);
     if (fd <= 2 || !fails("write")) return real(fd, from, len);
     int first = calls == atoi(getenv("FAIL_AT"));
     return getenv("FAIL_SHORT") && first && len > 1 ? real(fd, from, len / 2) : -1;
@@ -47,4 +51,13 @@ int close(int fd) {
 int rename(const char *from, const char *to) {
     int (*real)(const char *, const char *) = (int (*)(const char *, const char *))dlsym(RTLD_NEXT, "rename");
     return fails("rename") ? -1 : real(from, to);
+}
+
+int fcntl(int fd, int command, ...) {
+    int (*real)(int, int, ...) = (int (*)(int, int, ...))dlsym(RTLD_NEXT, "fcntl");
+    va_list list;
+    va_start(list, command);
+    void *argument = va_arg(list, void *);
+    va_end(list);
+    return command == F_SETLK && fails("lock") ? -1 : real(fd, command, argument);
 }

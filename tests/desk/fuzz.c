@@ -1,22 +1,16 @@
 /* Feeds the readers of the desk with damaged input: fuzz ROUNDS [SEED]. It is built with the address and undefined
-   sanitizers; a fault that they see, or a promise below that does not hold, ends it with a message and the round.
-
-   Every input is good at first and then damaged, or not; it lies in memory of just its size. Promised is: an accepted
-   score is listed, and the list makes that score; an accepted text makes a score whose list makes it again; an accepted
-   shelf has as many words as its length asks for, and the library answers to them; the samples of an accepted WAV lie
-   in it; what is refused is refused in words. */
-#include "desk.h"
+   sanitizers; a fault that they see, or a promise that does not hold (tests/desk/fuzz_readers.c says which), ends it
+   with a message and the number of the input. Every input is good at first and then damaged, or not. */
+#include "fuzz_readers.h"
 
 #include <stdlib.h>
 #include <string.h>
 
 #define ROOM 65536u
-#define READERS 4u
 
-/* The chances of a run, and how often each reader accepted and refused. */
+/* The chances of a run. */
 struct dice {
-    uint64_t state, round;
-    uint64_t accepted[READERS], refused[READERS];
+    uint64_t state;
 };
 
 static uint64_t roll(struct dice *dice, uint64_t sides) {
@@ -24,20 +18,6 @@ static uint64_t roll(struct dice *dice, uint64_t sides) {
     dice->state ^= dice->state >> 7;
     dice->state ^= dice->state << 17;
     return (dice->state * UINT64_C(0x2545F4914F6CDD1D) >> 11) % sides;
-}
-
-static void hold(const struct dice *dice, bool holds, const char *promise) {
-    if (holds) return;
-    fprintf(stderr, "fuzz: round %llu: %s\n", (unsigned long long)dice->round, promise);
-    exit(1);
-}
-
-/* Keeps count of what a reader said, and answers it. */
-static bool said(struct dice *dice, bool accepted) {
-    uint64_t reader = dice->round % READERS;
-    dice->accepted[reader] += accepted;
-    dice->refused[reader] += !accepted;
-    return accepted;
 }
 
 static void random_score(struct dice *dice, struct score *score) {
@@ -86,129 +66,101 @@ static size_t damage(struct dice *dice, uint8_t *at, size_t len, size_t room) {
     return len;
 }
 
-/* A copy in memory of just its size. */
-static uint8_t *exact(const uint8_t *from, size_t len) {
-    uint8_t *copy = malloc(len ? len : 1);
-    if (!copy) exit(1);
-    memcpy(copy, from, len);
-    return copy;
-}
+/* Makes an input in a room, and answers its length. */
+typedef size_t make_input(struct dice *dice, uint8_t *room);
 
-static size_t list(const struct dice *dice, const struct score *score, uint8_t *text) {
-    uint64_t answer = gav_list(score->at, score->len, text, GAV_LIST_ROOM);
-    hold(dice, gav_number(answer) == 0 && gav_count(answer) <= GAV_LIST_ROOM, "an accepted score is not listed");
-    return gav_count(answer);
-}
-
-/* An accepted score, by way of its list. */
-static void hold_inverse(const struct dice *dice, const struct score *score) {
-    static uint8_t text[GAV_LIST_ROOM];
-    static struct score again;
-    struct why why;
-    size_t len = list(dice, score, text);
-    uint8_t *copy = exact(text, len);
-    hold(dice, score_of_text(copy, len, &again, &why), "a list makes no score");
-    hold(dice, again.len == score->len && memcmp(again.at, score->at, score->len) == 0, "a list makes another score");
-    free(copy);
-}
-
-static void try_score(struct dice *dice) {
+static size_t make_score(struct dice *dice, uint8_t *room) {
     static struct score score;
-    struct why why = {DONE, ""};
     random_score(dice, &score);
-    score.len = damage(dice, score.at, score.len, sizeof score.at);
-    if (said(dice, check_score("score", &score, &why))) {
-        hold_inverse(dice, &score);
-    } else {
-        hold(dice, why.status == REFUSED && strstr(why.text, "refused ") != NULL,
-             "a score is refused without a number");
-    }
+    memcpy(room, score.at, score.len);
+    return damage(dice, room, score.len, sizeof score.at);
 }
 
-static void try_text(struct dice *dice) {
-    static uint8_t text[GAV_LIST_ROOM + 4096];
+static size_t make_text(struct dice *dice, uint8_t *room) {
     static struct score score;
-    struct why why = {DONE, ""};
     random_score(dice, &score);
-    size_t len = damage(dice, text, list(dice, &score, text), sizeof text);
-    uint8_t *copy = exact(text, len);
-    if (said(dice, score_of_text(copy, len, &score, &why))) {
-        hold_inverse(dice, &score);
-    } else {
-        hold(dice, why.status == REFUSED && strstr(why.text, "line ") == why.text, "a text is refused without a line");
-    }
-    free(copy);
+    uint64_t answer = gav_list(score.at, score.len, room, GAV_LIST_ROOM);
+    hold(gav_number(answer) == 0, "a score is not listed");
+    return damage(dice, room, gav_count(answer), GAV_LIST_ROOM + ROOM);
 }
 
-/* The library answers to whatever words an accepted shelf has. */
-static void use_shelf(struct dice *dice, const uint8_t *file, const struct shelf_head *head) {
-    static struct score before, after;
+/* The bytes of a good shelf, in a file of its own. */
+static void good_shelf(struct dice *dice, struct bytes *file) {
+    static struct shelf_file about;
+    static struct why why;
+    static uint8_t samples[8 * 13000];
+    struct gav_settings settings = GAV_SETTINGS_DEFAULT;
     struct sound sound;
-    struct why why;
-    random_score(dice, &before);
-    random_score(dice, &after);
-    if (head->samples > 20000 || !sound_make(&sound, head->samples, &why)) return;
-    shelf_words(file, &sound);
-    unsigned number = gav_number(voice_rerender(&head->settings, &before, &after, &sound));
-    hold(dice, number <= 8 || (number >= 17 && number <= 21), "a re-render gives a number that is not its own");
+    settings.rate = 8000 + (uint32_t)roll(dice, 184001);
+    settings.code = (uint32_t)roll(dice, 6);
+    about.settings = settings;
+    about.samples = roll(dice, 4) ? roll(dice, 300) : roll(dice, 13000);
+    about.bits = roll(dice, 2) ? 32 : 64;
+    random_score(dice, &about.score);
+    if (!sound_make(&sound, about.samples, &why)) exit(1);
+    voice_render(&settings, &about.score, &sound);
+    wav_samples(about.bits, sound.at, sound.samples, samples);
+    struct wav wav = {.bits = about.bits, .rate = settings.rate, .samples = about.samples};
+    if (!shelf_bytes(&about, &sound, &wav, samples, file, &why)) exit(1);
     sound_free(&sound);
 }
 
-static void try_shelf(struct dice *dice) {
-    static struct score score;
-    struct settings settings = {8000 + (uint32_t)roll(dice, 184001), (uint32_t)roll(dice, 6), 0.5, 0.01, 0.1, 0.7, 0.3};
-    struct sound sound;
+/* Half of the sums are made right again, so that what lies behind them is read. */
+static size_t make_shelf(struct dice *dice, uint8_t *room) {
     struct bytes file;
-    struct why why = {DONE, ""};
-    random_score(dice, &score);
-    if (!sound_make(&sound, roll(dice, 4) ? roll(dice, 300) : roll(dice, 13000), &why)) exit(1);
-    voice_render(&settings, &score, &sound);
-    struct shelf_head head = {settings, sound.samples, 0};
-    if (!shelf_bytes(&head, &sound, &file, &why)) exit(1);
-    sound_free(&sound);
-    size_t len = damage(dice, file.at, file.len, file.len);
-    /* A sum that was made right again, so that what lies behind it is read. */
-    if (len >= 8 && roll(dice, 2)) put_u64(file.at + len - 8, sum_of(file.at, len - 8));
-    uint8_t *copy = exact(file.at, len);
-    if (said(dice, shelf_look(copy, len, &head, &why))) {
-        use_shelf(dice, copy, &head);
-    } else {
-        hold(dice, why.status == REFUSED && why.text[0], "a shelf is refused without words");
-    }
-    free(copy);
+    good_shelf(dice, &file);
+    memcpy(room, file.at, file.len);
+    size_t len = damage(dice, room, file.len, file.len);
+    if (len >= 8 && roll(dice, 2)) put_u64(room + len - 8, sum_of(room, len - 8));
     free(file.at);
+    return len;
 }
 
-static void try_wav(struct dice *dice) {
-    static uint8_t file[ROOM];
-    struct wav wav = {roll(dice, 2) ? 32 : 64, 48000, roll(dice, 50), WAV_HEAD};
-    struct why why = {DONE, ""};
-    double samples[50] = {0};
-    wav_head(&wav, file);
-    wav_samples(wav.bits, samples, wav.samples, file + WAV_HEAD);
-    size_t len = damage(dice, file, WAV_HEAD + wav.bits / 8 * wav.samples, ROOM);
-    if (len >= 8 && roll(dice, 2)) put_u32(file + 4, (uint32_t)len - 8);
-    uint8_t *copy = exact(file, len);
-    if (said(dice, wav_look(copy, len, &wav, &why))) {
-        hold(dice, wav.data <= len && wav.samples * (wav.bits / 8) <= len - wav.data, "samples lie outside a WAV");
-    } else {
-        hold(dice, why.status == REFUSED && why.text[0], "a WAV is refused without words");
-    }
-    free(copy);
+/* A chunk of another program's, at the end. */
+static size_t add_chunk(struct dice *dice, uint8_t *room, size_t len) {
+    static const char *const names[] = {"PEAK", "LIST", "fact", "fmt ", "data", "cue "};
+    size_t size = roll(dice, 30);
+    memcpy(room + len, names[roll(dice, COUNT_OF(names))], 4);
+    put_u32(room + len + 4, (uint32_t)size);
+    for (size_t i = 0; i <= size; i++) room[len + 8 + i] = odd_byte(dice);
+    return len + 8 + size + size % 2;
+}
+
+static size_t make_wav(struct dice *dice, uint8_t *room) {
+    static const unsigned widths[] = {32, 64, 32, 64, 16, 24};
+    static const double samples[50];
+    struct wav wav = {.bits = widths[roll(dice, COUNT_OF(widths))], .rate = 48000, .samples = roll(dice, 50)};
+    static struct why why;
+    struct bytes file;
+    if (roll(dice, 8) == 0) memcpy(wav.gain, "-6", 3);
+    if (!wav_bytes(&wav, samples, &file, &why)) exit(1);
+    memcpy(room, file.at, file.len);
+    size_t len = roll(dice, 2) ? file.len : add_chunk(dice, room, file.len);
+    free(file.at);
+    len = damage(dice, room, len, ROOM);
+    if (len >= 8 && roll(dice, 4)) put_u32(room + 4, (uint32_t)len - 8);
+    return len;
 }
 
 int main(int argc, char **argv) {
-    static void (*const tries[READERS])(struct dice *) = {try_score, try_text, try_shelf, try_wav};
-    static const char *const names[READERS] = {"scores", "texts", "shelves", "WAVs"};
+    static make_input *const makes[READERS] = {
+        [SCORES] = make_score, [TEXTS] = make_text, [SHELVES] = make_shelf, [WAVS] = make_wav};
+    static uint8_t room[GAV_LIST_ROOM + ROOM];
     if (argc < 2 || argc > 3) return 2;
     uint64_t rounds = strtoull(argv[1], NULL, 10), seed = argc == 3 ? strtoull(argv[2], NULL, 10) : 1;
-    struct dice dice = {seed * UINT64_C(0x9E3779B97F4A7C15) | 1, 0, {0}, {0}};
-    for (; dice.round < rounds; dice.round++) tries[dice.round % READERS](&dice);
+    uint64_t taken[READERS] = {0}, tried[READERS] = {0};
+    struct dice dice = {.state = seed * UINT64_C(0x9E3779B97F4A7C15) | 1};
+    for (uint64_t round = 0; round < rounds; round++) {
+        unsigned reader = (unsigned)(round % READERS);
+        taken[reader] += reader_takes(reader, room, makes[reader](&dice, room));
+        tried[reader]++;
+        tell_now_and_then(rounds);
+    }
     printf("fuzz: %llu rounds from seed %llu", (unsigned long long)rounds, (unsigned long long)seed);
     for (unsigned i = 0; i < READERS; i++) {
-        printf(", %llu %s accepted and %llu refused", (unsigned long long)dice.accepted[i], names[i],
-               (unsigned long long)dice.refused[i]);
-        hold(&dice, dice.accepted[i] && dice.refused[i], "a reader was not tried both ways");
+        printf(", %llu %s accepted and %llu refused", (unsigned long long)taken[i], reader_names[i],
+               (unsigned long long)(tried[i] - taken[i]));
+        hold(taken[i] && taken[i] < tried[i], "a reader was not tried both ways");
     }
     printf("\n");
     return 0;

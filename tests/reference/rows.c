@@ -1,7 +1,7 @@
-/* Holds the reference voice to the rows that the original wrote: rows PART, one of pitch, blocks and render, whose
- * layout oracle/README.md tells. Every word is compared; the samples of a sine, which is ours, lie within a millionth
- * of their scale, and the row's own are the sines of another library. Says how many rows are equal; exit status 1 where
- * one is not, or where an op lacks one of its numbers. */
+/* Holds the reference voice to the rows that the original wrote: rows PART FILE, one of pitch, blocks and render, whose
+ * layout oracle/README.md tells; the file has no head (oracle/parts.py). Every word is compared; the samples of a sine,
+ * which is ours, lie within a millionth of their scale, and the row's own are the sines of another library. Says how
+ * many rows are equal; exit status 1 where one is not, or where an op lacks one of its numbers. */
 #include "voice.h"
 
 #include <math.h>
@@ -41,10 +41,7 @@ static uint64_t read_word(FILE *file) {
     return word;
 }
 
-/* The rows of a part, where they are committed. */
-static struct rows rows_of(const char *part) {
-    char name[64];
-    snprintf(name, sizeof name, "crates/replay_%.20s/stdin", part);
+static struct rows read_rows(const char *name) {
     FILE *file = fopen(name, "rb");
     if (!file || fseek(file, 0, SEEK_END)) give_up(name);
     size_t count = (size_t)ftell(file) / sizeof(uint64_t);
@@ -196,8 +193,7 @@ static const struct part {
     {"render", true, render_row, {0xFF, 0xFF | 1 << 10}},
 };
 
-static bool hold(const struct part *part) {
-    struct rows rows = rows_of(part->name);
+static bool hold(const struct part *part, struct rows rows) {
     struct tally tally = {0};
     for (; rows.next < rows.end; tally.total++) part->row(&rows, &tally);
     printf("%s: %zu rows, %zu equal", part->name, tally.total, tally.equal);
@@ -208,7 +204,7 @@ static bool hold(const struct part *part) {
 
 int main(int argc, char **argv) {
     for (size_t i = 0; i < sizeof PARTS / sizeof *PARTS; i++) {
-        if (argc == 2 && strcmp(argv[1], PARTS[i].name) == 0) return hold(&PARTS[i]) ? 0 : 1;
+        if (argc == 3 && strcmp(argv[1], PARTS[i].name) == 0) return hold(&PARTS[i], read_rows(argv[2])) ? 0 : 1;
     }
-    give_up("wrong usage: rows PART, one of pitch, blocks and render");
+    give_up("wrong usage: rows PART FILE, of pitch, blocks or render");
 }

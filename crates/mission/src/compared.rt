@@ -56,7 +56,7 @@ pub fn rendered(report: Report, got: Played, wanted: Played) -> Report {
 
 pub fn answered(report: Report, got: Numbers, wanted: Numbers) -> Report {
     let mut next = report;
-    next.calls = tally::one_more(report.calls);
+    next.calls = sum(report.calls, 1);
     let equal = (got.number == wanted.number)
         & (got.place == wanted.place)
         & (got.count == wanted.count);
@@ -77,7 +77,7 @@ pub fn samples(before: Report, got: Lent, wanted: Lent) -> Report {
     let mut report = before;
     let mut i = 0;
     while i < end {
-        report.samples = tally::one_more(report.samples);
+        report.samples = sum(report.samples, 1);
         report = judged(
             report,
             words::f64_bits(these[i]) == words::f64_bits(those[i]),
@@ -92,7 +92,7 @@ pub fn words(before: Report, got: &[u64], wanted: &[u64]) -> Report {
     let mut report = judged(before, got.len() == wanted.len());
     let mut i = 0;
     while i < got.len() {
-        report.words = tally::one_more(report.words);
+        report.words = sum(report.words, 1);
         report = judged(report, is_at(wanted, i, got[i]));
         i += 1;
     }
@@ -153,7 +153,7 @@ fn is_at(words: &[u64], i: usize, word: u64) -> bool {
 fn judged(report: Report, equal: bool) -> Report {
     let mut next = report;
     if !equal {
-        next.differ = tally::one_more(report.differ);
+        next.differ = sum(report.differ, 1);
     }
     next
 }

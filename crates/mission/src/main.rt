@@ -1,6 +1,6 @@
 // Plays what the voice exists for and compares, always with a render from sample zero and never with the last render: a
 // pad that is edited five times, chains of edits, edits that write nothing, refused calls, parts, and given states and
-// positions. Each line tells what was compared, and how much of it differs. The original is left to `replay_render`.
+// positions. Each line tells what was compared, and how much of it differs. The original is left to `replay`.
 use compared::Report;
 use libc::STDOUT_FILENO;
 

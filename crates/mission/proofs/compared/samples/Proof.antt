@@ -16,8 +16,8 @@ at-most-requires c κs = search needs
 loop-holds : tie.Need-loop-holds Inv-loop μ-loop
 loop-holds c = search needs
 
-one-more-requires : tie.Need-one-more-requires Inv-loop μ-loop
-one-more-requires c κs = search needs
+sum-requires : tie.Need-sum-requires Inv-loop μ-loop
+sum-requires c κs = search needs
 
 mul-f64-bits : tie.Need-mul-f64-bits Inv-loop μ-loop
 mul-f64-bits c = search needs
@@ -60,7 +60,7 @@ samples-spec =
     μ-loop
     at-most-requires
     loop-holds
-    one-more-requires
+    sum-requires
     mul-f64-bits
     array-read-f64-bits
     f64-bits-requires

@@ -17,8 +17,8 @@ judged-requires c κs = search needs
 loop-holds : tie.Need-loop-holds Inv-loop μ-loop
 loop-holds c = search needs
 
-one-more-requires : tie.Need-one-more-requires Inv-loop μ-loop
-one-more-requires c κs = search needs
+sum-requires : tie.Need-sum-requires Inv-loop μ-loop
+sum-requires c κs = search needs
 
 mul-is-at : tie.Need-mul-is-at Inv-loop μ-loop
 mul-is-at c = search needs
@@ -52,7 +52,7 @@ words-spec =
     μ-loop
     judged-requires
     loop-holds
-    one-more-requires
+    sum-requires
     mul-is-at
     shared-slice-read-is-at
     is-at-requires

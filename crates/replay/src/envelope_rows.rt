@@ -1,0 +1,119 @@
+// The original's answers to the calls of envelope.rs: a row is 25 u64, compared bit for bit: the answer, the block after the
+// call, and eight numbers of which the first are lent to `process`.
+use crate::fields;
+use answers::Answer;
+use envelope::Adsr;
+use envelope::Envelope;
+use envelope::EnvelopeBlock;
+use envelope::EnvelopeStage;
+use envelope::Processed;
+
+pub const ROW: usize = 200;
+
+pub fn is_equal(row: &[u8]) -> bool {
+    let length = words::u64_at(row, 48);
+    if length > 8 {
+        return false;
+    }
+    let lent = length as usize;
+    let mut slots = [fields::UNWRITTEN; 8];
+    let told = is_called(row, &mut slots[0..lent]);
+    told & names_a_call(row) & fields::are_slots(row, 136, &slots)
+}
+
+fn names_a_call(row: &[u8]) -> bool {
+    (words::u64_at(row, 0) < 5) & (words::u32_at(row, 44) == 0) & (words::u64_at(row, 56) < 5)
+}
+
+// Whether the call answers and leaves what it must.
+fn is_called(row: &[u8], out: &mut [f64]) -> bool {
+    let got = called(row, given(row), out);
+    let answer = got.answer;
+    let block = got.block;
+    fields::is_counted(row, 88, answer) & is_block(row, block)
+}
+
+fn given(row: &[u8]) -> EnvelopeBlock {
+    EnvelopeBlock {
+        adsr: settings(row),
+        envelope: state(row),
+    }
+}
+
+fn called(row: &[u8], block: EnvelopeBlock, out: &mut [f64]) -> Processed {
+    match words::u64_at(row, 0) {
+        0 => block.note_on(),
+        1 => block.note_off(),
+        2 => block.reset(),
+        3 => block.process(words::u32_at(row, 40), out),
+        _ => made(block),
+    }
+}
+
+fn made(given: EnvelopeBlock) -> Processed {
+    let adsr = given.adsr;
+    Processed {
+        answer: Answer::Done(0),
+        block: EnvelopeBlock::new(adsr.attack, adsr.decay, adsr.sustain, adsr.release),
+    }
+}
+
+fn settings(row: &[u8]) -> Adsr {
+    Adsr {
+        attack: fields::float_at(row, 8),
+        decay: fields::float_at(row, 16),
+        sustain: fields::float_at(row, 24),
+        release: fields::float_at(row, 32),
+    }
+}
+
+fn state(row: &[u8]) -> Envelope {
+    Envelope {
+        stage: stage_of(words::u64_at(row, 56)),
+        level: fields::float_at(row, 64),
+        stage_time: fields::float_at(row, 72),
+        release_level: fields::float_at(row, 80),
+    }
+}
+
+// The settings are those that were given, in every case.
+fn is_block(row: &[u8], block: EnvelopeBlock) -> bool {
+    let adsr = block.adsr;
+    let after = block.envelope;
+    fields::is_given(row, 8, adsr.attack)
+        & fields::is_given(row, 16, adsr.decay)
+        & fields::is_given(row, 24, adsr.sustain)
+        & fields::is_given(row, 32, adsr.release)
+        & is_state(row, after)
+}
+
+fn is_state(row: &[u8], after: Envelope) -> bool {
+    let stage = after.stage;
+    let told = [
+        number_of(stage),
+        words::f64_bits(after.level),
+        words::f64_bits(after.stage_time),
+        words::f64_bits(after.release_level),
+    ];
+    fields::are_words(row, 104, &told)
+}
+
+fn stage_of(number: u64) -> EnvelopeStage {
+    match number {
+        0 => EnvelopeStage::Idle,
+        1 => EnvelopeStage::Attack,
+        2 => EnvelopeStage::Decay,
+        3 => EnvelopeStage::Sustain,
+        _ => EnvelopeStage::Release,
+    }
+}
+
+fn number_of(stage: EnvelopeStage) -> u64 {
+    match stage {
+        EnvelopeStage::Idle => 0,
+        EnvelopeStage::Attack => 1,
+        EnvelopeStage::Decay => 2,
+        EnvelopeStage::Sustain => 3,
+        EnvelopeStage::Release => 4,
+    }
+}

@@ -1,0 +1,101 @@
+// The fields of a row, where each part has its own: floats by their bits, answers by their numbers, waveforms by their codes; and
+// the samples and words that a call has written, beside those of a row.
+use crate::nearness;
+use crate::tally::Finding;
+use answers::Answer;
+use waveform::Waveform;
+
+// What each number holds before a call: no sample is that high.
+pub const UNWRITTEN: f64 = 42.0;
+
+// The byte so many words after another.
+pub fn after(at: usize, words: usize) -> usize {
+    std::num::wrapping_add_usize(at, words << 3)
+}
+
+pub fn float_at(row: &[u8], at: usize) -> f64 {
+    words::f64_of(words::u64_at(row, at))
+}
+
+pub fn is_word(row: &[u8], at: usize, x: f64) -> bool {
+    words::f64_bits(x) == words::u64_at(row, at)
+}
+
+// A setting as it was given; whichever NaN it is.
+pub fn is_given(row: &[u8], at: usize, x: f64) -> bool {
+    words::f64_bits(x) == words::f64_bits(float_at(row, at))
+}
+
+// The number of an answer that has neither place nor count; of another one a number that no row has.
+pub fn number_of(answer: Answer) -> u64 {
+    let numbers = answers::in_numbers(answer);
+    if (numbers.place == 0) & (numbers.count == 0) {
+        return numbers.number as u64;
+    }
+    256
+}
+
+// An answer with a count and no place: the number, and the count after it.
+pub fn is_counted(row: &[u8], at: usize, answer: Answer) -> bool {
+    let numbers = answers::in_numbers(answer);
+    let told = [numbers.number as u64, numbers.count as u64];
+    (numbers.place == 0) & are_words(row, at, &told)
+}
+
+pub fn waveform_of(code: u64, duty: f64) -> Waveform {
+    match code {
+        0 => Waveform::Sine,
+        1 => Waveform::Square,
+        2 => Waveform::Sawtooth,
+        3 => Waveform::Triangle,
+        _ => Waveform::Pulse(duty),
+    }
+}
+
+// Whether the words from a byte of the row on are these.
+pub fn are_words(row: &[u8], first: usize, kept: &[u64]) -> bool {
+    let mut i = 0;
+    while i < kept.len() {
+        if kept[i] != words::u64_at(row, after(first, i)) {
+            return false;
+        }
+        i += 1;
+    }
+    true
+}
+
+// Whether the words from a byte of the row on are the bits of these.
+pub fn are_floats(row: &[u8], first: usize, samples: &[f64]) -> bool {
+    let mut i = 0;
+    while i < samples.len() {
+        if !is_word(row, after(first, i), samples[i]) {
+            return false;
+        }
+        i += 1;
+    }
+    true
+}
+
+// The same of the eight numbers of which the first are lent.
+pub fn are_slots(row: &[u8], first: usize, slots: &[f64; 8]) -> bool {
+    are_floats(row, first, slots)
+}
+
+// How far a sine's samples are off those from a byte of the row on. Each has a scale, which says how far it may be off: the
+// first one's stands at `scales`, the next one's so many bytes on.
+pub fn measured(row: &[u8], first: usize, scales: usize, step: usize, samples: &[f64]) -> Finding {
+    let mut found = Finding {
+        equal: true,
+        farthest: 0.0,
+    };
+    let mut scale = scales;
+    let mut i = 0;
+    while i < samples.len() {
+        let off = nearness::apart(samples[i], float_at(row, after(first, i)));
+        found.equal = found.equal & (off <= nearness::NEAR * float_at(row, scale));
+        found.farthest = nearness::larger(off, found.farthest);
+        scale = std::num::wrapping_add_usize(scale, step);
+        i += 1;
+    }
+    found
+}

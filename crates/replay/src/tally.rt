@@ -1,0 +1,41 @@
+// The count of a part: how many rows its head names, how many of them were equal, and how far a sine was off. A row that is
+// not there is not equal.
+use crate::nearness;
+
+pub struct Tally {
+    pub rows: u64,
+    pub equal: u64,
+    pub farthest: f64,
+}
+
+// Whether a row, or its samples, are what they must be; and how far a sine is off.
+pub struct Finding {
+    pub equal: bool,
+    pub farthest: f64,
+}
+
+pub fn none_of(rows: u64) -> Tally {
+    Tally {
+        rows,
+        equal: 0,
+        farthest: 0.0,
+    }
+}
+
+// A row more, of at most as many as there are: the sum does not wrap.
+pub fn counted(tally: Tally, row: Finding) -> Tally {
+    let mut next = tally;
+    next.farthest = nearness::larger(row.farthest, tally.farthest);
+    if row.equal {
+        next.equal = std::num::wrapping_add_u64(tally.equal, 1);
+    }
+    next
+}
+
+// Of a row that has no sine.
+pub fn exactly(equal: bool) -> Finding {
+    Finding {
+        equal,
+        farthest: 0.0,
+    }
+}

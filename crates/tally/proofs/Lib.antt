@@ -1,2 +1,0 @@
--- Laws on what this crate defines.
-pub mod Unique

@@ -1,0 +1,233 @@
+/* Writing under a temporary name, so that a failure leaves the old file whole. The temporary file has one name for a
+   target and is locked while a desk is at work on the target. */
+#include "desk.h"
+
+#include <errno.h>
+#include <fcntl.h>
+#include <stdlib.h>
+#include <string.h>
+#include <sys/stat.h>
+#include <unistd.h>
+
+/* A temporary name is this and 16 hex digits. */
+#define OWN_NAME ".desk-"
+/* A lock is tried again where the file behind it was just renamed or removed by another desk. */
+#define MOST_TRIES 100u
+
+enum lock { LOCKED, GONE, TAKEN };
+
+static const int ending_signals[] = {SIGHUP, SIGINT, SIGTERM};
+
+/* The mode of a file that is made anew. */
+static mode_t new_mode(void) {
+    mode_t mask = umask(0);
+    umask(mask);
+    return 0666 & ~mask;
+}
+
+/* The file that a path names, through links, there or not; and the mode that the new one gets. */
+static bool find_target(struct draft *draft, struct why *why) {
+    struct stat found;
+    const char *path = draft->path;
+    if (path[0] == '\0') return refuse(why, "a file without a name cannot be written");
+    draft->mode = new_mode();
+    if (stat(path, &found) == 0) {
+        if (!S_ISREG(found.st_mode)) return refuse(why, "%s: it is no ordinary file, and is left as it is", path);
+        if (access(path, W_OK) != 0) return refuse(why, "%s: cannot be written: %s", path, strerror(errno));
+        draft->mode = found.st_mode & 0777;
+    } else if (errno != ENOENT) {
+        return refuse(why, "%s: cannot be written: %s", path, strerror(errno));
+    }
+    draft->target = behind_links(path);
+    if (!draft->target) return refuse(why, "%s: cannot be written: %s", path, strerror(errno));
+    const char *name = draft->target + folder_of(draft->target);
+    if (name[0] == '\0') return refuse(why, "%s: cannot be written: it is the name of a folder", path);
+    if (strncmp(name, OWN_NAME, strlen(OWN_NAME)) == 0) {
+        return refuse(why, "%s: names that begin with %s are the desk's own", path, OWN_NAME);
+    }
+    return true;
+}
+
+/* A name in the target's own folder, so that the renaming stays in one file system; as long for every target. */
+static char *temporary_name(const char *target) {
+    size_t folder = folder_of(target), room = folder + strlen(OWN_NAME) + 17;
+    const char *name = target + folder;
+    char *temporary = malloc(room);
+    if (!temporary) return NULL;
+    unsigned long long sum = sum_of((const uint8_t *)name, strlen(name));
+    snprintf(temporary, room, "%.*s" OWN_NAME "%016llx", (int)folder, target, sum);
+    return temporary;
+}
+
+/* Blocks the signals that end a program, but for those that it was started to ignore. */
+static void let_signals_wait(struct draft *draft) {
+    sigset_t ending;
+    struct sigaction now;
+    sigemptyset(&ending);
+    for (size_t i = 0; i < COUNT_OF(ending_signals); i++) {
+        if (sigaction(ending_signals[i], NULL, &now) == 0 && now.sa_handler != SIG_IGN) {
+            sigaddset(&ending, ending_signals[i]);
+        }
+    }
+    draft->waits = sigprocmask(SIG_BLOCK, &ending, &draft->waited) == 0;
+}
+
+static bool told_to_end(void) {
+    sigset_t waiting;
+    bool told = false;
+    if (sigpending(&waiting) != 0) return false;
+    for (size_t i = 0; i < COUNT_OF(ending_signals); i++) told |= sigismember(&waiting, ending_signals[i]) == 1;
+    return told;
+}
+
+/* Opens the temporary file, there or not; nothing but an ordinary file of the caller's with one name is taken. */
+static enum lock open_temporary(const struct draft *draft, int *fd, struct why *why) {
+    struct stat found;
+    *fd = open(draft->temporary, O_RDWR | O_CREAT | O_NOFOLLOW | O_NONBLOCK | O_CLOEXEC, 0600);
+    bool opened = *fd >= 0 && fstat(*fd, &found) == 0;
+    if (!opened && errno != ELOOP && errno != EISDIR && errno != ENXIO) {
+        refuse(why, "%s: %s, where it would be written first, cannot be opened: %s", draft->path, draft->temporary,
+               strerror(errno));
+        return TAKEN;
+    }
+    if (opened && S_ISREG(found.st_mode) && found.st_uid == geteuid() && found.st_nlink <= 1) {
+        return found.st_nlink == 1 ? LOCKED : GONE;
+    }
+    refuse(why, "%s: %s, where it would be written first, is no ordinary file of yours alone", draft->path,
+           draft->temporary);
+    return TAKEN;
+}
+
+/* Locks the whole file. It is a lock by fcntl, since such a lock names the process that holds it. */
+static enum lock lock_file(const struct draft *draft, int fd, struct why *why) {
+    struct flock lock = {.l_type = F_WRLCK, .l_whence = SEEK_SET};
+    struct stat mine, named;
+    if (fcntl(fd, F_SETLK, &lock) == 0) {
+        /* A lock on a file that has another name by now, or none, is none. */
+        bool still = fstat(fd, &mine) == 0 && lstat(draft->temporary, &named) == 0 && mine.st_dev == named.st_dev &&
+                     mine.st_ino == named.st_ino;
+        return still ? LOCKED : GONE;
+    }
+    if (errno != EACCES && errno != EAGAIN) {
+        refuse(why, "%s: %s, where it would be written first, cannot be locked: %s", draft->path, draft->temporary,
+               strerror(errno));
+        return TAKEN;
+    }
+    if (fcntl(fd, F_GETLK, &lock) == 0 && lock.l_type == F_UNLCK) return GONE;
+    if (lock.l_pid > 0) {
+        refuse(why, "another desk (process %ld) is at work on %s", (long)lock.l_pid, draft->path);
+    } else {
+        /* A process elsewhere, as behind a network, has no number here. */
+        refuse(why, "another desk is at work on %s", draft->path);
+    }
+    return TAKEN;
+}
+
+/* The temporary file, locked. A lock by fcntl goes with the first closing of any descriptor of its file, so that the
+   file is opened here alone, and the descriptor stays open to the end. */
+static bool take_temporary(struct draft *draft, struct why *why) {
+    for (unsigned tries = 0; tries < MOST_TRIES; tries++) {
+        int fd;
+        enum lock got = open_temporary(draft, &fd, why);
+        if (got == LOCKED) got = lock_file(draft, fd, why);
+        if (got == LOCKED) {
+            draft->fd = fd;
+            return true;
+        }
+        if (fd >= 0) close(fd);
+        if (got == TAKEN) return false;
+    }
+    return refuse(why, "other desks are at work on %s, one after the other", draft->path);
+}
+
+bool names_file(const char *path, struct why *why) {
+    return strcmp(path, "-") != 0 || misuse(why, "what is written needs the name of a file, and not -");
+}
+
+bool draft_open(struct draft *draft, const char *path, struct why *why) {
+    *draft = (struct draft){.path = path, .fd = -1};
+    if (!names_file(path, why) || !find_target(draft, why)) return false;
+    draft->temporary = temporary_name(draft->target);
+    if (!draft->temporary) return refuse(why, "%s: no memory for a name beside it", path);
+    let_signals_wait(draft);
+    if (!take_temporary(draft, why)) return false;
+    /* What a killed desk left goes. */
+    if (ftruncate(draft->fd, 0) == 0) return true;
+    return refuse(why, "%s: cannot be written: %s", path, strerror(errno));
+}
+
+bool draft_write(struct draft *draft, const void *at, size_t len, struct why *why) {
+    if (write_all(draft->fd, at, len)) return true;
+    return refuse(why, "%s: cannot be written: %s", draft->path, strerror(errno));
+}
+
+bool draft_seal(struct draft *draft, struct why *why) {
+    bool kept = fchmod(draft->fd, draft->mode) == 0 && (fsync(draft->fd) == 0 || errno == EINVAL);
+    return kept ? true : refuse(why, "%s: cannot be written: %s", draft->path, strerror(errno));
+}
+
+/* Opens the folder of a file. */
+static int open_folder(const char *target) {
+    size_t len = folder_of(target);
+    char *path = len ? strndup(target, len) : strdup(".");
+    int fd = path ? open(path, O_RDONLY | O_DIRECTORY | O_CLOEXEC) : -1;
+    free(path);
+    return fd;
+}
+
+/* Brings a folder's names to the disk. A folder that may not be read cannot be asked to do so. */
+static bool sync_folder(const char *target) {
+    int fd = open_folder(target);
+    if (fd < 0) return errno == EACCES;
+    bool synced = fsync(fd) == 0 || errno == EINVAL;
+    int error = errno;
+    close(fd);
+    errno = error;
+    return synced;
+}
+
+bool draft_publish(struct draft *draft, struct why *why) {
+    if (rename(draft->temporary, draft->target) != 0) {
+        return refuse(why, "%s: the new file cannot take its name: %s", draft->path, strerror(errno));
+    }
+    free(draft->temporary);
+    draft->temporary = NULL;
+    if (sync_folder(draft->target)) return true;
+    return refuse(why, "%s: it has its name, but its folder cannot be written: %s", draft->path, strerror(errno));
+}
+
+void draft_drop(struct draft *draft) {
+    /* Only the holder of the lock may remove the file; the lock goes last. */
+    if (draft->fd >= 0 && draft->temporary) unlink(draft->temporary);
+    if (draft->fd >= 0) close(draft->fd);
+    free(draft->temporary);
+    free(draft->target);
+    bool waits = draft->waits;
+    sigset_t waited = draft->waited;
+    *draft = NO_DRAFT;
+    if (waits) sigprocmask(SIG_SETMASK, &waited, NULL);
+}
+
+bool pair_open(struct pair *pair, const char *wav_path, const char *shelf_path, struct why *why) {
+    *pair = NO_PAIR;
+    /* Every desk takes the WAV first, so that of two at one pair one gets both. */
+    return draft_open(&pair->wav, wav_path, why) && (!shelf_path || draft_open(&pair->shelf, shelf_path, why));
+}
+
+static bool write_one(struct draft *draft, const struct bytes *bytes, struct why *why) {
+    return !bytes->at || (draft_write(draft, bytes->at, bytes->len, why) && draft_seal(draft, why));
+}
+
+/* Where the shelf cannot take its name after the WAV has, it is still the old score's, and says so of the WAV by its
+   sums; the same edit can be made again. */
+bool pair_write(struct pair *pair, const struct bytes *wav, const struct bytes *shelf, struct why *why) {
+    /* A signal that came while the sound was made ends the program after the drop. */
+    if (told_to_end()) return refuse(why, "told to end; nothing is written");
+    return write_one(&pair->wav, wav, why) && write_one(&pair->shelf, shelf, why) &&
+           (!wav->at || draft_publish(&pair->wav, why)) && (!shelf->at || draft_publish(&pair->shelf, why));
+}
+
+void pair_drop(struct pair *pair) {
+    draft_drop(&pair->shelf);
+    draft_drop(&pair->wav);
+}

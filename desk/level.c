@@ -1,0 +1,45 @@
+/* How loud samples are: the peak, the level of a stretch, and how far a level is from another. */
+#include "desk.h"
+
+#include <math.h>
+
+struct peak peak_of(const double *from, size_t samples) {
+    struct peak peak = {.level = samples > 0 ? 0 : -1, .at = 0};
+    for (size_t i = 0; i < samples; i++) {
+        if (fabs(from[i]) > peak.level) peak = (struct peak){.level = fabs(from[i]), .at = i};
+    }
+    return peak;
+}
+
+/* The root of the mean square. */
+double level_of(const double *from, size_t samples) {
+    double sum = 0;
+    for (size_t i = 0; i < samples; i++) sum += from[i] * from[i];
+    return samples > 0 ? sqrt(sum / (double)samples) : 0;
+}
+
+/* The quotient is rounded, and would be a little below -100 of some references; no level is less than nothing. */
+double percent_off(double level, double reference) {
+    if (!(reference > 0)) return level > 0 ? 100 : 0;
+    double percent = 100 * (level - reference) / reference;
+    return percent < -100 ? -100 : percent;
+}
+
+void put_peak(FILE *out, struct peak peak, uint32_t rate) {
+    if (peak.level < 0) {
+        fprintf(out, "none: there are no samples\n");
+        return;
+    }
+    fprintf(out, "%.6g at sample %zu", peak.level, peak.at);
+    if (rate > 0) fprintf(out, " (%.3f s)", (double)peak.at / rate);
+    /* Rounded up, so that a gain of so much less is enough. */
+    if (peak.level > 1) {
+        fprintf(out, "; a player clips above 1, and this is %.2f dB above", ceil(2000 * log10(peak.level)) / 100);
+    }
+    fprintf(out, "\n");
+}
+
+void tell_peak(FILE *out, const char *path, struct peak peak, uint32_t rate) {
+    fprintf(out, "%s: peak ", path);
+    put_peak(out, peak, rate);
+}

@@ -1,0 +1,202 @@
+/* The verb verify: whether a WAV, and its shelf, are what a render of the score from sample zero gives. */
+#include "desk.h"
+
+#include <math.h>
+#include <stdlib.h>
+#include <string.h>
+
+/* What was found. The summary is the words of the first thing that is wrong; its status is DONE where nothing is. */
+struct found {
+    struct from_zero beside;
+    struct why summary;
+    size_t common, differ, first, largest_at;
+    double largest;
+};
+
+/* Tells what is wrong, and keeps the first such words as the summary. */
+#define TELL_WRONG(found, ...)                                                                                         \
+    do {                                                                                                               \
+        printf(__VA_ARGS__);                                                                                           \
+        printf("\n");                                                                                                  \
+        if ((found)->summary.status == DONE) refuse(&(found)->summary, __VA_ARGS__);                                   \
+    } while (0)
+
+static double seconds_at(const struct found *f, size_t sample) { return (double)sample / f->beside.settings.rate; }
+
+/* A difference that is no number is larger than all. */
+static bool is_larger(double difference, double than) {
+    return !isnan(than) && (isnan(difference) || difference > than);
+}
+
+static void compare(struct found *f) {
+    const double *held = f->beside.held, *zero = f->beside.zero.at;
+    f->common = from_zero_common(&f->beside);
+    f->largest = -1;
+    for (size_t i = 0; i < f->common; i++) {
+        if (bits_of(held[i]) == bits_of(zero[i])) continue;
+        if (f->differ++ == 0) f->first = i;
+        if (!is_larger(fabs(held[i] - zero[i]), f->largest)) continue;
+        f->largest = fabs(held[i] - zero[i]);
+        f->largest_at = i;
+    }
+}
+
+/* The level of so many samples from one on, in percent off that of the render. */
+static double level_off(const struct found *f, size_t first, size_t samples) {
+    return percent_off(level_of(f->beside.held + first, samples), level_of(f->beside.zero.at + first, samples));
+}
+
+/* A percent for the eye; one that is no number has no sign. */
+static const char *shown(double percent, char room[32]) {
+    snprintf(room, 32, "%+.6g", percent);
+    return isnan(percent) ? "nan" : room;
+}
+
+static void tell_level(const struct found *f, size_t first, size_t samples) {
+    char room[32];
+    printf("%s: level off by %s %% from sample %zu to %zu: %.6g, and the render's is %.6g\n", f->beside.wav_path,
+           shown(level_off(f, first, samples), room), first, first + samples - 1,
+           level_of(f->beside.held + first, samples), level_of(f->beside.zero.at + first, samples));
+}
+
+/* The samples, and the level over the whole and over the section of the first that differs. */
+static void tell_samples(struct found *f) {
+    const struct from_zero *z = &f->beside;
+    size_t section = f->first / GAV_MARK * GAV_MARK;
+    char room[32];
+    if (f->differ == 0) return;
+    TELL_WRONG(
+        f, "%s is not the score's: %zu of %zu samples differ, the first at sample %zu (%.3f s), level off by %s %%",
+        z->wav_path, f->differ, f->common, f->first, seconds_at(f, f->first), shown(level_off(f, 0, f->common), room));
+    printf("%s: sample %zu is %.17g, and the render's is %.17g\n", z->wav_path, f->first, z->held[f->first],
+           z->zero.at[f->first]);
+    printf("%s: largest difference %.6g at sample %zu (%.3f s)\n", z->wav_path, f->largest, f->largest_at,
+           seconds_at(f, f->largest_at));
+    tell_level(f, 0, f->common);
+    tell_level(f, section, f->common - section < GAV_MARK ? f->common - section : GAV_MARK);
+}
+
+/* What the WAV's head says, and the shelf or the options say otherwise. */
+static void tell_head(struct found *f) {
+    const struct from_zero *z = &f->beside;
+    const char *by = z->shelf_path ? z->shelf_path : "an option";
+    if (z->wav.rate != z->settings.rate) {
+        TELL_WRONG(f, "%s has %u Hz, and %s says %u Hz", z->wav_path, z->wav.rate, by, z->settings.rate);
+    }
+    if (z->wav.samples != z->zero.samples) {
+        TELL_WRONG(f, "%s has %zu samples, and %s says %zu", z->wav_path, z->wav.samples, by, z->zero.samples);
+    }
+    if (z->shelf_path && z->wav.bits != z->about.bits) {
+        TELL_WRONG(f, "%s has %u bits a sample, and %s says %u", z->wav_path, z->wav.bits, by, z->about.bits);
+    }
+}
+
+/* The first record in which two scores part. */
+static size_t part_at(const struct score *one, const struct score *other) {
+    size_t at = 0;
+    while (at < one->len && at < other->len && one->at[at] == other->at[at]) at++;
+    return at / RECORD_BYTES;
+}
+
+/* Tells of the first entry that is not the render's, and how many are not. */
+static void tell_entries(struct found *f, const uint64_t *kept) {
+    const struct from_zero *z = &f->beside;
+    size_t differ = 0, first = 0, entries = z->zero.words / GAV_STATE_WORDS;
+    for (size_t i = entries; i-- > 0;) {
+        size_t at = i * GAV_STATE_WORDS;
+        if (memcmp(kept + at, z->zero.shelf + at, 8 * GAV_STATE_WORDS) == 0) continue;
+        differ++;
+        first = i;
+    }
+    if (differ == 0) return;
+    TELL_WRONG(f, "%s is not the score's shelf: %zu of %zu entries differ, the first is entry %zu, before sample %zu",
+               z->shelf_path, differ, entries, first, first * GAV_MARK);
+}
+
+/* Tells of the first section whose bytes in the WAV are not those of the shelf's sum. */
+static void tell_sums(struct found *f) {
+    const struct from_zero *z = &f->beside;
+    size_t differ = 0, first = 0, sections = z->zero.words / GAV_STATE_WORDS;
+    if (z->wav.samples != z->about.samples || z->wav.bits != z->about.bits) return;
+    for (size_t i = sections; i-- > 0;) {
+        if (shelf_sum(z->shelf.at, i) == section_sum(&z->wav, z->file.at, i)) continue;
+        differ++;
+        first = i;
+    }
+    if (differ == 0) return;
+    TELL_WRONG(f, "%s is of another WAV than %s: %zu of %zu sums differ, the first is that of samples %zu to %zu",
+               z->shelf_path, z->wav_path, differ, sections, first * GAV_MARK, first * GAV_MARK + GAV_MARK - 1);
+}
+
+static bool tell_shelf(struct found *f, struct why *why) {
+    const struct from_zero *z = &f->beside;
+    if (!z->shelf_path) return true;
+    struct sound kept = {.samples = z->zero.samples, .words = z->zero.words};
+    kept.shelf = malloc(8 * kept.words + 8);
+    if (!kept.shelf) return refuse(why, "no memory for %zu words", kept.words);
+    if (!same_score(&z->about.score, &z->score)) {
+        TELL_WRONG(f, "%s is of another score than %s: they part at record %zu", z->shelf_path, z->score_path,
+                   part_at(&z->about.score, &z->score));
+    }
+    shelf_words(z->shelf.at, &kept);
+    tell_entries(f, kept.shelf);
+    tell_sums(f);
+    free(kept.shelf);
+    return true;
+}
+
+/* The last line, by which a script knows what was found. */
+static bool tell_summary(const struct found *f, struct why *why) {
+    const struct from_zero *z = &f->beside;
+    if (f->summary.status != DONE) {
+        printf("differs: %s\n", f->summary.text);
+        *why = f->summary;
+        return false;
+    }
+    size_t entries = z->zero.words / GAV_STATE_WORDS;
+    printf("same: %s is the score's: %zu %s", z->wav_path, f->common, counted(f->common, "sample", "samples"));
+    if (z->shelf_path)
+        printf(", and %s its shelf: %zu %s", z->shelf_path, entries, counted(entries, "entry", "entries"));
+    printf("\n");
+    return true;
+}
+
+static bool read_verify(char **given, struct from_zero *z, struct why *why) {
+    const struct option options[] = {{"--shelf", &z->shelf_path}, {NULL, NULL}};
+    const struct option operands[] = {{"SCORE", &z->score_path}, {"OUT.wav", &z->wav_path}, {NULL, NULL}};
+    const struct arguments takes = {.options = options, .operands = operands, .settings = &z->texts};
+    return read_arguments(given, &takes, why) && from_zero_make(z, why);
+}
+
+static bool run_verify(char **given, struct why *why) {
+    struct found *f = calloc(1, sizeof *f);
+    if (!f) return refuse(why, "no memory for %zu bytes", sizeof *f);
+    bool done = read_verify(given, &f->beside, why);
+    if (done) {
+        compare(f);
+        tell_head(f);
+        tell_samples(f);
+        done = tell_shelf(f, why) && tell_summary(f, why);
+    }
+    from_zero_free(&f->beside);
+    free(f);
+    return done;
+}
+
+const struct verb verify_verb = {
+    .name = "verify",
+    .summary = "says whether a WAV is its score's, rendered from sample zero, and what differs",
+    .help = "desk verify SCORE OUT.wav [--shelf FILE] [options]\n"
+            "Renders the score from sample zero, beside the files, and compares every sample as the WAV holds it,\n"
+            "bit for bit; with --shelf also every entry, the shelf's score, and its sums of the WAV. Nothing is\n"
+            "written. Settings and length are the shelf's; without --shelf the options', with the WAV's own rate\n"
+            "and length. An export (--bits 16 or 24, --gain) is not compared. The last line that is printed is, for\n"
+            "scripts, one of\n"
+            "  same: OUT.wav is the score's: N samples\n"
+            "  differs: WHAT DIFFERS FIRST\n"
+            "with exit status 0 and 1. Status 1 without such a line: it could not be compared, and why.\n"
+            "One of the files may be - for standard input.\n"
+            "  --shelf FILE     the shelf that OUT.wav was rendered with\n",
+    .settings = true,
+    .run = run_verify,
+};

@@ -1,0 +1,226 @@
+//! What a row of the render asks for, by the names of its words, and what the original or 01 answers.
+
+use crate::render::{untouched, Player, Record, Settings, Wave, Words, KIND_RESET, MARK};
+use crate::waveform_rows::{PULSE, SINE, UNWRITTEN};
+
+pub const RENDER: u64 = 0;
+pub const CONTINUE: u64 = 1;
+
+/// The given words before the score.
+pub const GIVEN: usize = 25;
+
+const RECORD: usize = 10;
+pub const MOST_RECORDS: usize = 4096;
+pub const MOST_SAMPLES: u64 = 16_777_216;
+/// The last position that a record can have.
+pub const LAST: u64 = u32::MAX as u64;
+const UNWRITTEN_WORD: u64 = 0x2A2A_2A2A_2A2A_2A2A;
+
+/// A row's given words, by their names.
+#[derive(Clone)]
+pub struct Asked {
+    pub op: u64,
+    pub settings: Settings,
+    pub samples: u64,
+    pub score: Vec<u8>,
+    pub shelf: u64,
+    pub position: u64,
+    pub state: Words,
+}
+
+/// A number, and the place of the record that it is of.
+type Refusal = (u64, usize);
+
+/// Attack, decay, sustain and release within some hundred samples.
+const QUICK: [f64; 4] = [0.001, 0.002, 0.5, 0.003];
+
+impl Asked {
+    /// A whole render, with the shelf that it takes.
+    pub fn whole(rate: u64, wave: Wave, samples: u64, score: &[Record]) -> Self {
+        let settings = Settings { rate, wave, adsr: QUICK };
+        let (score, shelf) = (score.iter().flat_map(bytes_of).collect(), shelf_words(samples));
+        Self { op: RENDER, settings, samples, score, shelf, position: 0, state: [0; 12] }
+    }
+
+    /// A part of a render, from the original's own state at its position. The original that goes on from there plays what
+    /// the one that began at sample 0 plays.
+    pub fn part(&self, position: u64, samples: u64) -> Self {
+        let score = records(&self.score);
+        let mut player = Player::fresh(self.settings);
+        player.play(&score, 0, position);
+        let state = player.words();
+        let mut again = Player::at(self.settings, &state);
+        let (on, anew) = (player.play(&score, position, samples), again.play(&score, position, samples));
+        assert!(on.samples == anew.samples && player.words() == again.words(), "a part parts ways");
+        Self { op: CONTINUE, samples, shelf: 0, position, state, ..self.clone() }
+    }
+
+    pub fn words(&self) -> Vec<u64> {
+        let Settings { rate, wave: (shape, duty), adsr } = self.settings;
+        let duty = if shape == PULSE { duty } else { 0.0 };
+        let score = self.score.chunks(8).map(word_of);
+        let more = score.len() as u64 + self.samples + self.scales() + self.shelf;
+        let mut row = vec![self.op, more, rate, shape, duty.to_bits()];
+        row.extend(adsr.map(f64::to_bits));
+        row.extend([self.samples, self.score.len() as u64, self.shelf, self.position]);
+        row.extend(self.state);
+        row.extend(score);
+        row
+    }
+
+    pub fn of(row: &[u64]) -> Self {
+        let adsr = [5, 6, 7, 8].map(|at| f64::from_bits(row[at]));
+        let settings = Settings { rate: row[2], wave: (row[3], f64::from_bits(row[4])), adsr };
+        let mut score: Vec<u8> = row[GIVEN..].iter().flat_map(|word| word.to_le_bytes()).collect();
+        score.truncate(row[10] as usize);
+        let [op, samples, shelf, position] = [0, 9, 11, 12].map(|at| row[at]);
+        Self { op, settings, samples, score, shelf, position, state: row[13..GIVEN].try_into().unwrap() }
+    }
+
+    /// How many numbers say how far a sine may be off.
+    fn scales(&self) -> u64 {
+        match self.refusal() {
+            None if self.settings.wave.0 == SINE => self.samples,
+            _ => 0,
+        }
+    }
+
+    /// 01's refusals, in its order.
+    pub fn refusal(&self) -> Option<Refusal> {
+        let large = match self.op {
+            RENDER => self.samples > MOST_SAMPLES || self.shelf != shelf_words(self.samples),
+            _ => self.position.checked_add(self.samples).is_none_or(|end| end > MOST_SAMPLES),
+        };
+        if !is_settings(self.settings) {
+            Some((6, 0))
+        } else if large {
+            Some((7, 0))
+        } else {
+            score_fault(&self.score).or_else(|| self.is_astray().then_some((10, 0)))
+        }
+    }
+
+    /// Whether a given state is outside the limits, or not the one at its position.
+    fn is_astray(&self) -> bool {
+        let below = records(&self.score).iter().filter(|record| record.position < self.position).count();
+        self.op == CONTINUE && !(is_state(&self.state) && self.state[5] >> 16 == below as u64)
+    }
+
+    /// Number, place, count, state after; samples, of a sine their scales, shelf.
+    pub fn answer(&self) -> Vec<u64> {
+        match self.refusal() {
+            Some(refusal) => self.refused(refusal),
+            None => self.played(),
+        }
+    }
+
+    fn refused(&self, (number, place): Refusal) -> Vec<u64> {
+        let state = if self.op == RENDER { Player::fresh(self.settings).words() } else { self.state };
+        let mut words = vec![number, place as u64, 0];
+        words.extend(state);
+        words.extend(vec![UNWRITTEN.to_bits(); self.samples as usize]);
+        words.extend(vec![UNWRITTEN_WORD; self.shelf as usize]);
+        words
+    }
+
+    fn played(&self) -> Vec<u64> {
+        let (settings, score) = (self.settings, records(&self.score));
+        let mut player = match self.op {
+            RENDER => Player::fresh(settings),
+            _ => Player::at(settings, &self.state),
+        };
+        let played = player.play(&score, self.position, self.samples);
+        assert!(played.samples.iter().all(|&sample| f64::from_bits(sample).is_finite()));
+        if self.op == RENDER {
+            let same = untouched(settings, &score, self.samples);
+            assert!(same.is_none_or(|samples| samples == played.samples), "the untouched copies part ways");
+        }
+        let mut words = vec![0, 0, self.samples];
+        words.extend(player.words());
+        words.extend(played.samples);
+        words.extend(played.scales.into_iter().take(self.scales() as usize));
+        words.extend(played.shelf.into_iter().take(self.shelf as usize));
+        words
+    }
+}
+
+/// The words of the shelf that 01 asks for.
+pub fn shelf_words(samples: u64) -> u64 {
+    12 * samples.div_ceil(MARK)
+}
+
+fn word_of(bytes: &[u8]) -> u64 {
+    bytes.iter().rev().fold(0, |word, &byte| word << 8 | byte as u64)
+}
+
+fn is_settings(Settings { rate, wave: (shape, duty), adsr }: Settings) -> bool {
+    let has_duty = shape != PULSE || (0.0..=1.0).contains(&duty);
+    (8000..=192000).contains(&rate) && has_duty && adsr.iter().all(|x| !x.is_nan())
+}
+
+/// The records of a score, read as they stand.
+fn records(score: &[u8]) -> Vec<Record> {
+    let record =
+        |bytes: &[u8]| Record { position: word_of(&bytes[2..6]), kind: bytes[6], note: bytes[7], velocity: bytes[8] };
+    score.chunks_exact(RECORD).map(record).collect()
+}
+
+pub fn bytes_of(record: &Record) -> [u8; RECORD] {
+    let [a, b, c, d] = (record.position as u32).to_le_bytes();
+    [0x56, 0x4E, a, b, c, d, record.kind, record.note, record.velocity, 0]
+}
+
+pub fn score_fault(score: &[u8]) -> Option<Refusal> {
+    if score.len() % RECORD != 0 || score.len() > RECORD * MOST_RECORDS {
+        return Some((1, 0));
+    }
+    let mut before = 0;
+    for (place, (record, bytes)) in records(score).into_iter().zip(score.chunks_exact(RECORD)).enumerate() {
+        let most = if record.kind == KIND_RESET { 0 } else { 127 };
+        let number = match record {
+            _ if bytes[..2] != [0x56, 0x4E] => 2,
+            Record { kind: 0 | 4.., .. } => 3,
+            Record { note, velocity, .. } if note > most || velocity > most || bytes[9] != 0 => 4,
+            Record { position, .. } if position < before => 5,
+            _ => 0,
+        };
+        if number > 0 {
+            return Some((number, place));
+        }
+        before = record.position;
+    }
+    None
+}
+
+/// The shelf's limits.
+pub fn is_state(words: &Words) -> bool {
+    let [phase, level, stage_time, release_level] = [0, 2, 3, 4].map(|at| f64::from_bits(words[at]));
+    let [frequency, velocity] = [6, 7].map(|at| f64::from_bits(words[at]));
+    let unit = 0.0..=1.0;
+    let [active, gate, count] = [words[5] & 255, words[5] >> 8 & 1, words[5] >> 9 & 127];
+    let pairs: Vec<u8> = words[8..].iter().flat_map(|word| word.to_le_bytes()).collect();
+    let (held, unused) = pairs.split_at((2 * count as usize).min(pairs.len()));
+    (0.0..1000.0).contains(&phase)
+        && words[1] <= 4
+        && [level, release_level, velocity].iter().all(|x| unit.contains(x))
+        && (0.0..=11.0).contains(&stage_time)
+        && 0.0 < frequency
+        && frequency <= 12544.0
+        && (active <= 127 || active == 255)
+        && (gate == 1) == (active != 255)
+        && count <= 16
+        && held.iter().all(|&byte| byte <= 127)
+        && unused.iter().all(|&byte| byte == 0)
+}
+
+/// The word of note, gate, count and records acted with one of them changed.
+pub fn packed_words(word: u64) -> Vec<u64> {
+    let active = |note: u64| word & !255 | note;
+    let held = |count: u64| word & !(127 << 9) | count << 9;
+    let acted = |number: u64| word & 65535 | number << 16;
+    let now = word >> 16;
+    let mut list = vec![active(0), active(127), active(128), active(254), active(255), active(255) ^ 256, word ^ 256];
+    list.extend([0, 1, 2, 3, 15, 16, 17, 127].map(held));
+    list.extend([0, now.saturating_sub(1), now + 1, now + 65536, (1 << 48) - 1].map(acted));
+    list
+}

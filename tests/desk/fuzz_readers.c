@@ -1,0 +1,196 @@
+/* The readers of the desk, each on an input of any bytes, with what is promised of them; a promise that does not hold
+   ends the program with a message. tests/desk/fuzz.c feeds them with inputs of its own, libFuzzer with those that it
+   finds.
+
+   Promised is: an accepted score is listed, and the list makes that score; an accepted text makes a score whose list
+   makes it again; an accepted shelf has as many words as its length asks for, the library answers to them, and the desk
+   has words for the answer; the samples of a WAV lie in it, and are the same after its PEAK chunks are taken out; what
+   is refused is refused in words. */
+#include "fuzz_readers.h"
+
+#include <stdlib.h>
+#include <string.h>
+#include <time.h>
+
+/* The sound of a shelf that is longer than this is not made. */
+#define MOST_MADE 20000u
+/* Seconds between two lines. */
+#define BETWEEN_LINES 5
+
+const char *const reader_names[READERS] = {
+    [SCORES] = "scores", [TEXTS] = "texts", [SHELVES] = "shelves", [WAVS] = "WAVs"};
+
+static uint64_t inputs;
+
+void hold(bool holds, const char *promise) {
+    if (holds) return;
+    fprintf(stderr, "fuzz: input %llu: %s\n", (unsigned long long)inputs, promise);
+    abort();
+}
+
+void tell_now_and_then(uint64_t of) {
+    static time_t begun, told;
+    time_t now = time(NULL);
+    if (!begun) begun = told = now;
+    if (now - told < BETWEEN_LINES) return;
+    told = now;
+    printf("fuzz: %llu inputs", (unsigned long long)inputs);
+    if (of) printf(" of %llu, %llu %%", (unsigned long long)of, (unsigned long long)(100 * inputs / of));
+    printf(", %lld s\n", (long long)(now - begun));
+    fflush(stdout);
+}
+
+/* A copy in memory of just its size, so that a sanitizer sees a byte read past its end. */
+static uint8_t *exact(const uint8_t *from, size_t len) {
+    uint8_t *copy = malloc(len ? len : 1);
+    if (!copy) exit(1);
+    if (len) memcpy(copy, from, len);
+    return copy;
+}
+
+/* Room for words, and none in it. */
+static struct why *no_words(void) {
+    static struct why why;
+    why.status = DONE;
+    why.text[0] = '\0';
+    return &why;
+}
+
+static bool is_told(const struct why *why) { return why->status == REFUSED && why->text[0]; }
+
+/* An accepted score, by way of its list. */
+static void hold_inverse(const struct score *score) {
+    static uint8_t text[GAV_LIST_ROOM];
+    static struct score again;
+    struct why *why = no_words();
+    uint64_t answer = gav_list(score->at, score->len, text, GAV_LIST_ROOM);
+    hold(gav_number(answer) == 0 && gav_count(answer) <= GAV_LIST_ROOM, "an accepted score is not listed");
+    uint8_t *copy = exact(text, gav_count(answer));
+    hold(score_of_text(copy, gav_count(answer), &again, why), "a list makes no score");
+    hold(same_score(&again, score), "a list makes another score");
+    free(copy);
+}
+
+/* A longer input is a file that fills the room of a score. */
+static bool take_score(const uint8_t *at, size_t len) {
+    static struct score score;
+    struct why *why = no_words();
+    score.len = len < sizeof score.at ? len : sizeof score.at;
+    memcpy(score.at, at, score.len);
+    if (check_score("score", &score, why)) {
+        hold_inverse(&score);
+        return true;
+    }
+    hold(is_told(why) && strstr(why->text, "refused ") != NULL, "a score is refused without a number");
+    return false;
+}
+
+static bool take_text(const uint8_t *at, size_t len) {
+    static struct score score;
+    struct why *why = no_words();
+    if (score_of_text(at, len, &score, why)) {
+        hold_inverse(&score);
+        return true;
+    }
+    hold(is_told(why) && strncmp(why->text, "line ", 5) == 0, "a text is refused without a line");
+    return false;
+}
+
+/* The library answers to whatever words an accepted shelf has: the first half of its score is made of it. */
+static void use_shelf(const uint8_t *file, const struct shelf_file *about) {
+    static struct score after;
+    struct why *why = no_words();
+    struct sound sound;
+    after = about->score;
+    after.len -= after.len / RECORD_BYTES / 2 * RECORD_BYTES;
+    if (about->samples > MOST_MADE || !sound_make(&sound, about->samples, why)) return;
+    shelf_words(file, &sound);
+    for (size_t i = 0; i < sound.words / GAV_STATE_WORDS; i++) shelf_sum(file, i);
+    uint64_t answer = voice_rerender(&about->settings, &about->score, &after, &sound);
+    unsigned number = gav_number(answer);
+    struct asked asked = {.old_path = "shelf",
+                          .old_score = &about->score,
+                          .new_path = "new",
+                          .new_score = &after,
+                          .settings = &about->settings,
+                          .samples = about->samples};
+    hold(number == 0 || (number >= 6 && number <= 8), "a re-render gives a number that is not its own");
+    hold(accepted(answer, &asked, why) == (number == 0), "an answer is told as another");
+    sound_free(&sound);
+}
+
+static bool take_shelf(const uint8_t *at, size_t len) {
+    static struct shelf_file about;
+    struct why *why = no_words();
+    if (shelf_look(at, len, &about, why)) {
+        use_shelf(at, &about);
+        return true;
+    }
+    hold(is_told(why), "a shelf is refused without words");
+    return false;
+}
+
+/* The values of every WAV whose samples can be read, taken or not, as info reads them. */
+static void read_values(const uint8_t *at, size_t len) {
+    struct why *why = no_words();
+    struct wav wav;
+    if (!wav_read(at, len, &wav, why) || !wav_is_readable(&wav)) return;
+    hold(wav.data <= len && wav.samples * (wav.bits / 8) <= len - wav.data, "samples lie outside a WAV");
+    double *values = malloc((wav.samples + 1) * sizeof *values);
+    if (!values) exit(1);
+    wav_values(&wav, at, 0, wav.samples, values);
+    peak_of(values, wav.samples);
+    free(values);
+}
+
+static void take_peak_out(const uint8_t *at, size_t len, const struct wav *wav) {
+    struct why *why = no_words();
+    struct wav after;
+    struct chunk chunk;
+    uint8_t *copy = exact(at, len);
+    size_t left = wav_without_peak(copy, len);
+    hold(left <= len && wav_look(copy, left, &after, why), "a WAV is none without its PEAK");
+    hold(after.samples == wav->samples && after.bits == wav->bits && after.rate == wav->rate &&
+             memcmp(copy + after.data, at + wav->data, wav->bits / 8 * wav->samples) == 0,
+         "a WAV has other samples without its PEAK");
+    for (size_t i = WAV_CHUNKS; i < left && wav_chunk(copy, left, i, &chunk); i = chunk.next) {
+        hold(!wav_is_chunk(&chunk, "PEAK"), "a PEAK is left");
+    }
+    free(copy);
+}
+
+static bool take_wav(const uint8_t *at, size_t len) {
+    struct wav wav;
+    read_values(at, len);
+    struct why *why = no_words();
+    if (wav_look(at, len, &wav, why)) {
+        take_peak_out(at, len, &wav);
+        return true;
+    }
+    hold(is_told(why), "a WAV is refused without words");
+    return false;
+}
+
+bool reader_takes(unsigned reader, const uint8_t *at, size_t len) {
+    static bool (*const takes[READERS])(const uint8_t *, size_t) = {
+        [SCORES] = take_score, [TEXTS] = take_text, [SHELVES] = take_shelf, [WAVS] = take_wav};
+    uint8_t *copy = exact(at, len);
+    inputs++;
+    bool taken = takes[reader](copy, len);
+    free(copy);
+    return taken;
+}
+
+/* For libFuzzer: the first byte chooses the reader. A shelf comes in two ways: as it is, and with its sum made right,
+   so that what lies behind the sum is read. */
+int LLVMFuzzerTestOneInput(const uint8_t *data, size_t size);
+int LLVMFuzzerTestOneInput(const uint8_t *data, size_t size) {
+    if (size == 0) return 0;
+    unsigned way = data[0] % (READERS + 1u), reader = way < READERS ? way : SHELVES;
+    uint8_t *input = exact(data + 1, size - 1);
+    if (way == READERS && size >= 9) put_u64(input + size - 9, sum_of(input, size - 9));
+    tell_now_and_then(0);
+    reader_takes(reader, input, size - 1);
+    free(input);
+    return 0;
+}

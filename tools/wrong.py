@@ -1,0 +1,213 @@
+"""Wrong programs: each a crate with a small edit, which the check must refuse, because a fact fails.
+
+A file crates/NAME/must-fail/LABEL.edit (rt tries it) or crates/NAME/wrong/LABEL.edit has these lines, in this order:
+
+    says: what is wrong, in one line
+    gate: yes                                    (in wrong/ alone; `listed`: only `tools/mutants --listed` tries it)
+    file: src/lib.rt                             (of src/ or of specs/)
+    old: a text of one line, which stands in the file once
+    new: what stands there instead
+
+More pairs of `old:` and `new:` may follow, and more files; each edit is made on what those before it left.
+"""
+import os
+import re
+import shutil
+import subprocess
+import tempfile
+import threading
+import time
+from concurrent.futures import ThreadPoolExecutor
+from pathlib import Path
+from typing import NamedTuple
+
+from complaints import said
+
+ROOT = Path(__file__).resolve().parent.parent
+AT_A_TIME = 2  # a check takes up to 2 GB
+SECONDS = 900  # and none takes so long
+FORM = re.compile(r"says: (?P<says>\S.*)\n(?:gate: (?P<gate>yes|listed)\n)?(?:file: \S+\n(?:old: .+\nnew:(?: .*)?\n)+)+")
+EDIT = re.compile(r"^(file|old|new):(?: (.*))?$", re.M)
+
+
+class Program(NamedTuple):
+    file: Path
+    crate: str
+    says: str
+    gate: str
+    edits: list
+
+
+class Tried(NamedTuple):
+    program: Program
+    fault: str  # empty where a fact refused it
+    complaint: str  # the first
+    seeded: bool
+    seconds: float
+
+
+def files(folder):
+    return sorted(ROOT.glob(f"crates/*/{folder}/*.edit"))
+
+
+def misfit(file, why):
+    return ValueError(f"{file.relative_to(ROOT)}: {why}")
+
+
+def read(file):
+    """The program of a file. ValueError where the file is not of the form."""
+    text = file.read_bytes().decode("utf-8", "replace")
+    form = FORM.fullmatch(text)
+    if not form:
+        raise misfit(file, "its lines are not those that the head of tools/wrong.py names, in that order")
+    if (form["gate"] is not None) != (file.parent.name == "wrong"):
+        raise misfit(file, "a line `gate:` stands in every file of wrong/, and in no other")
+    name, old, edits = "", "", []
+    for key, value in EDIT.findall(text):
+        if key == "file":
+            name = value
+        elif key == "old":
+            old = value
+        else:
+            edits.append((name, old, value))
+    return Program(file, file.parent.parent.name, form["says"], form["gate"] or "", edits)
+
+
+def texts_of(folder):
+    """The files of a crate: name and text."""
+    found = [f for part in ("src", "specs", "proofs") for f in (folder / part).rglob("*") if f.is_file()]
+    return {f.relative_to(folder).as_posix(): f.read_bytes().decode("utf-8") for f in found}
+
+
+def made(program):
+    """The files of the program's crate with its edits made. ValueError where one does not fit."""
+    texts = texts_of(ROOT / "crates" / program.crate)
+    for name, old, new in program.edits:
+        if not re.match("(?:src|specs)/", name) or name not in texts:
+            raise misfit(program.file, f"{name} is no file of src/ or specs/")
+        times = texts[name].count(old)
+        if times != 1:
+            raise misfit(program.file, f"its `old:` stands in {name} {times} times and not once: {old}")
+        if old == new:
+            raise misfit(program.file, f"it changes nothing: {old}")
+        texts[name] = texts[name].replace(old, new)
+    return texts
+
+
+class Checker:
+    """Checks copies of crates in a folder outside the repository, over what target/ has of the crates below them.
+
+    A check of one function's edit need not prove the others again: it may start from the modules of the crate that were
+    checked when target/rlib/CRATE.rlib was made, its seed, which rattle takes from a folder of its own in the one that
+    --incremental names. What a program is refused for is judged by the complaint; whatever a fact does not refuse over the
+    seed is checked again from nothing, and that counts.
+    """
+
+    def __init__(self, room):
+        self.room, self.lock, self.made, self.env = Path(room), threading.Lock(), 0, os.environ | {"TMPDIR": str(room)}
+        guide = subprocess.run(["rt", "doc"], capture_output=True, text=True, check=True).stdout.strip()
+        self.kit = Path(guide).parent.parent
+        self.own = self.kit / "on" / os.uname().machine
+        lines = [line.split("#")[0] for line in (ROOT / "crates.txt").read_text("utf-8").splitlines()]
+        self.needs = {line.split(":")[0].strip(): line.split(":")[1].split() for line in lines if ":" in line}
+        self.seeds = ""
+
+    def words(self, crate, home):
+        """What rt says to rattle."""
+        file = home / "src" / ("main.rt" if (home / "src/main.rt").is_file() else "lib.rt")
+        words = [self.own / "bin/rattle", "check", "--crate-name", crate, file, "--extern", f"std={self.own}/rlib/std.rlib"]
+        for name in self.needs[crate]:
+            place = ROOT / "target" if (ROOT / "crates" / name).is_dir() else self.own
+            words += ["--extern", f"{name}={place}/rlib/{name}.rlib"]
+        words += ["-L", f"dependency={ROOT}/target/rlib", "-L", f"dependency={self.own}/rlib"]
+        return words + ["--antt-project", self.kit / "logic/antt-project.json", "--logic-built", self.own / "logic-built"]
+
+    def seed_of(self, crate):
+        return ROOT / f"target/rlib/{crate}.rlib/toolchain/checked"
+
+    def learn_seeds(self, crate):
+        """Checks a crate as it is, which must be proved, and sees where rattle keeps what it checked."""
+        home = self.folder(texts_of(ROOT / "crates" / crate))
+        status, log = self.run([*self.words(crate, home), "--incremental", home / "kept"])
+        if status != 0:
+            raise ValueError(f"{crate} itself is not proved:\n{log}")
+        kept = [f.name for f in (home / "kept").iterdir() if any(f.glob("*.oantt"))] if (home / "kept").is_dir() else []
+        self.seeds = kept[0] if len(kept) == 1 else ""
+        shutil.rmtree(home)
+
+    def folder(self, texts):
+        with self.lock:
+            self.made += 1
+            home = self.room / str(self.made)
+        for name, text in texts.items():
+            (home / name).parent.mkdir(parents=True, exist_ok=True)
+            (home / name).write_bytes(text.encode("utf-8"))
+        return home
+
+    def run(self, words):
+        """The exit status and all that was said; no status where it took too long."""
+        try:
+            ran = subprocess.run(words, capture_output=True, stdin=subprocess.DEVNULL, timeout=SECONDS, env=self.env)
+        except subprocess.TimeoutExpired:
+            return None, ""
+        return ran.returncode, (ran.stdout + ran.stderr).decode("utf-8", "replace")
+
+    def check(self, crate, texts, seeded):
+        """Why no fact refuses the texts, empty where one does; the first complaint; whether the seed was taken."""
+        home = self.folder(texts)
+        words = self.words(crate, home)
+        if seeded:
+            shutil.copytree(self.seed_of(crate), home / "kept" / self.seeds)
+            words += ["--incremental", home / "kept"]
+        status, log = self.run(words)
+        shutil.rmtree(home)
+        complaint, no_fact = said(log, str(home).strip("/"))
+        taken = re.search(f"^crate {crate}: modules loaded=[1-9]", log, re.M) is not None
+        if status == 0:
+            return "it is proved: no statement rules it out", "", taken
+        if status is None:
+            return f"no verdict in {SECONDS} s", "", taken
+        if status != 1 or not re.search("^logic=not-proved", log, re.M):
+            return f"it did not reach the prover, or the prover could not tell (exit {status})", complaint or log[-300:], taken
+        return no_fact or "", complaint, taken
+
+    def tried(self, program):
+        began = time.time()
+        texts = made(program)
+        if self.seeds and self.seed_of(program.crate).is_dir():
+            fault, complaint, taken = self.check(program.crate, texts, True)
+            if not fault and taken:
+                return Tried(program, "", complaint, True, time.time() - began)
+        fault, complaint, _ = self.check(program.crate, texts, False)
+        return Tried(program, fault, complaint, False, time.time() - began)
+
+
+def current(crates):
+    """Has rt prove what has changed of the crates since target/ was made. ValueError where it cannot."""
+    ran = subprocess.run(["rt", "check", *crates], cwd=ROOT, capture_output=True, text=True)
+    if ran.returncode != 0:
+        raise ValueError(ran.stdout + ran.stderr)
+
+
+def in_memory():
+    """A folder for files that a check writes and removes by the thousand: in memory, where there are 4 GB to be had."""
+    place = "/dev/shm"
+    if "TMPDIR" in os.environ or not os.access(place, os.W_OK) or shutil.disk_usage(place).free < 4e9:
+        return None
+    return place
+
+
+def try_all(programs):
+    """Tries the programs, two at a time, those of large crates first; what became of each."""
+    if not programs:
+        return
+    crates = sorted({program.crate for program in programs})
+    current(crates)
+    with tempfile.TemporaryDirectory(prefix="wrong-", dir=in_memory()) as room, ThreadPoolExecutor(AT_A_TIME) as pool:
+        checker = Checker(room)
+        size = {crate: sum(1 for _ in checker.seed_of(crate).glob("*")) for crate in crates}
+        checker.learn_seeds(min(crates, key=lambda crate: (size[crate] == 0, size[crate])))
+        try:
+            yield from pool.map(checker.tried, sorted(programs, key=lambda program: -size[program.crate]))
+        finally:
+            pool.shutdown(cancel_futures=True)
