@@ -1,4 +1,4 @@
-// The original's answers to the calls of envelope.rs: a row is 25 u64, compared bit for bit: the answer, the block after the
+// The original's answers to the calls of envelope.rs: a row is 25 u64, compared bit for bit: the answer, the state after the
 // call, and eight numbers of which the first are lent to `process`.
 use crate::fields;
 use answers::Answer;
@@ -12,17 +12,10 @@ pub const ROW: usize = 200;
 
 pub fn is_equal(row: &[u8]) -> bool {
     let length = words::u64_at(row, 48);
-    if length > 8 {
-        return false;
-    }
-    let lent = length as usize;
+    let lent = fields::at_most(length, 8);
     let mut slots = [fields::UNWRITTEN; 8];
     let told = is_called(row, &mut slots[0..lent]);
-    told & names_a_call(row) & fields::are_slots(row, 136, &slots)
-}
-
-fn names_a_call(row: &[u8]) -> bool {
-    (words::u64_at(row, 0) < 5) & (words::u32_at(row, 44) == 0) & (words::u64_at(row, 56) < 5)
+    told & (words::u64_at(row, 0) < 5) & (length < 9) & fields::are_slots(row, 136, &slots)
 }
 
 // Whether the call answers and leaves what it must.
@@ -30,7 +23,8 @@ fn is_called(row: &[u8], out: &mut [f64]) -> bool {
     let got = called(row, given(row), out);
     let answer = got.answer;
     let block = got.block;
-    fields::is_counted(row, 88, answer) & is_block(row, block)
+    let envelope = block.envelope;
+    fields::is_counted(row, 88, answer) & is_state(row, envelope)
 }
 
 fn given(row: &[u8]) -> EnvelopeBlock {
@@ -74,17 +68,6 @@ fn state(row: &[u8]) -> Envelope {
         stage_time: fields::float_at(row, 72),
         release_level: fields::float_at(row, 80),
     }
-}
-
-// The settings are those that were given, in every case.
-fn is_block(row: &[u8], block: EnvelopeBlock) -> bool {
-    let adsr = block.adsr;
-    let after = block.envelope;
-    fields::is_given(row, 8, adsr.attack)
-        & fields::is_given(row, 16, adsr.decay)
-        & fields::is_given(row, 24, adsr.sustain)
-        & fields::is_given(row, 32, adsr.release)
-        & is_state(row, after)
 }
 
 fn is_state(row: &[u8], after: Envelope) -> bool {

@@ -1,5 +1,6 @@
 // The fields of a row, where each part has its own: floats by their bits, answers by their numbers, waveforms by their codes; and
 // the samples and words that a call has written, beside those of a row.
+ghost use Prim.Native.Nat.{_≤_};
 use crate::nearness;
 use crate::tally::Finding;
 use answers::Answer;
@@ -7,6 +8,16 @@ use waveform::Waveform;
 
 // What each number holds before a call: no sample is that high.
 pub const UNWRITTEN: f64 = 42.0;
+
+// So many, but not more than there are.
+pub fn at_most(wanted: u64, most: usize) -> usize
+    ensures { λ r. ⌜ r ≤ most ⌝ }
+{
+    if wanted < most as u64 {
+        return wanted as usize;
+    }
+    most
+}
 
 // The byte so many words after another.
 pub fn after(at: usize, words: usize) -> usize {
@@ -19,11 +30,6 @@ pub fn float_at(row: &[u8], at: usize) -> f64 {
 
 pub fn is_word(row: &[u8], at: usize, x: f64) -> bool {
     words::f64_bits(x) == words::u64_at(row, at)
-}
-
-// A setting as it was given; whichever NaN it is.
-pub fn is_given(row: &[u8], at: usize, x: f64) -> bool {
-    words::f64_bits(x) == words::f64_bits(float_at(row, at))
 }
 
 // The number of an answer that has neither place nor count; of another one a number that no row has.

@@ -133,8 +133,8 @@ fn first_of(name: u64) -> usize {
 // How many words follow them.
 fn more_of(name: u64, row: &[u8]) -> u64 {
     match name {
-        BLOCKS => block_rows::samples_of(row),
-        RENDER => render_rows::more_of(row),
+        BLOCKS => words::u64_at(row, block_rows::MORE),
+        RENDER => words::u64_at(row, render_rows::MORE),
         _ => 0,
     }
 }

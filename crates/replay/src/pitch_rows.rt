@@ -14,8 +14,8 @@ pub fn is_equal(row: &[u8]) -> bool {
 fn is_single(row: &[u8], note: u8) -> bool {
     let got = pitch::midi_note_to_frequency(note);
     let answer = got.answer;
-    let told = [fields::number_of(answer), words::f32_bits(got.value) as u64];
-    fields::are_words(row, 8, &told)
+    (fields::number_of(answer) == words::u64_at(row, 8))
+        & (words::f32_bits(got.value) as u64 == words::u64_at(row, 16))
 }
 
 fn is_double(row: &[u8], note: u8) -> bool {

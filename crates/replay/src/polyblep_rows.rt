@@ -13,8 +13,9 @@ pub fn is_equal(row: &[u8]) -> bool {
         fields::float_at(row, 24),
     );
     let answer = got.answer;
-    let told = [fields::number_of(answer), words::f64_bits(got.value)];
-    (op < 6) & fields::are_words(row, 32, &told)
+    (op < 6)
+        & (fields::number_of(answer) == words::u64_at(row, 32))
+        & fields::is_word(row, 40, got.value)
 }
 
 fn called(op: u64, t: f64, dt: f64, duty: f64) -> Value {

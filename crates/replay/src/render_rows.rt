@@ -13,6 +13,9 @@ use state::State;
 // The bytes of a row before its score.
 pub const ROW: usize = 320;
 
+// Where a row says how many words follow.
+pub const MORE: usize = 8;
+
 // What each word of the shelf holds before a call: no entry has that stage.
 const UNKEPT: u64 = 0x2a2a_2a2a_2a2a_2a2a;
 
@@ -24,58 +27,33 @@ struct Places {
     end: usize,
 }
 
-// How many words follow a row's first ones.
-pub fn more_of(row: &[u8]) -> u64 {
-    words::u64_at(row, 8)
-}
-
 pub fn compared(row: &[u8]) -> Finding {
     let mut out = [fields::UNWRITTEN; 10000];
     let mut shelf = [UNKEPT; 48];
     compared_in(row, &mut out, &mut shelf)
 }
 
-// As much is lent as the row says; a row is unequal where there is not so much.
+// As much is lent as the row says, or as there is: then the row has another end.
 fn compared_in(row: &[u8], out: &mut [f64], shelf: &mut [u64]) -> Finding {
-    let samples = words::u64_at(row, 72) as usize;
-    if samples > out.len() {
-        return tally::exactly(false);
-    }
-    compared_with(row, &mut out[0..samples], shelf)
-}
-
-fn compared_with(row: &[u8], out: &mut [f64], shelf: &mut [u64]) -> Finding {
-    let kept = words::u64_at(row, 88) as usize;
-    if kept > shelf.len() {
-        return tally::exactly(false);
-    }
-    let told = is_called(row, out, &mut shelf[0..kept]);
-    judged(row, told, out, &shelf[0..kept])
+    let samples = fields::at_most(words::u64_at(row, 72), out.len());
+    let kept = fields::at_most(words::u64_at(row, 88), shelf.len());
+    let told = is_called(row, &mut out[0..samples], &mut shelf[0..kept]);
+    judged(row, told, &out[0..samples], &shelf[0..kept])
 }
 
 fn judged(row: &[u8], told: bool, out: &[f64], shelf: &[u64]) -> Finding {
-    let places = places_of(row);
+    let places = places_of(row, out.len(), shelf.len());
     let found = compared_samples(row, places, out);
     Finding {
         equal: told
-            & names_a_call(row, places)
+            & (places.end == fields::after(ROW, words::u64_at(row, MORE) as usize))
             & found.equal
             & fields::are_words(row, places.shelf, shelf),
         farthest: found.farthest,
     }
 }
 
-// A render has no position, a continuing call no shelf; the sizes are those of the words that follow.
-fn names_a_call(row: &[u8], places: Places) -> bool {
-    let op = words::u64_at(row, 0);
-    ((op == 0) & (words::u64_at(row, 96) == 0) | (op == 1) & (words::u64_at(row, 88) == 0))
-        & (words::u32_at(row, 20) == 0)
-        & (words::u64_at(row, 24) < 5)
-        & (places.end == fields::after(ROW, more_of(row) as usize))
-}
-
-fn places_of(row: &[u8]) -> Places {
-    let count = words::u64_at(row, 72) as usize;
+fn places_of(row: &[u8], count: usize, kept: usize) -> Places {
     let score = words::u64_at(row, 80) as usize;
     let samples = fields::after(ROW, score / 8 + (score % 8 + 7) / 8);
     let scales = fields::after(samples, count);
@@ -87,16 +65,17 @@ fn places_of(row: &[u8]) -> Places {
         samples,
         scales,
         shelf,
-        end: fields::after(shelf, words::u64_at(row, 88) as usize),
+        end: fields::after(shelf, kept),
     }
 }
 
 // Whether the call answers what it must, and the state after it is the one that it must be.
 fn is_called(row: &[u8], out: &mut [f64], shelf: &mut [u64]) -> bool {
-    if words::u64_at(row, 0) == 0 {
-        return is_rendered(row, out, shelf);
+    match words::u64_at(row, 0) {
+        0 => is_rendered(row, out, shelf),
+        1 => is_continued(row, out),
+        _ => false,
     }
-    is_continued(row, out)
 }
 
 fn is_rendered(row: &[u8], out: &mut [f64], shelf: &mut [u64]) -> bool {
@@ -118,15 +97,10 @@ fn is_continued(row: &[u8], out: &mut [f64]) -> bool {
 
 // As much of the score as there is.
 fn score_of(row: &[u8]) -> &[u8] {
-    let size = words::u64_at(row, 80) as usize;
-    if row.len() < ROW {
-        return &row[0..0];
-    }
-    if size > row.len() - ROW {
-        return &row[ROW..];
-    }
-    let end = ROW + size;
-    &row[ROW..end]
+    let first = fields::at_most(ROW as u64, row.len());
+    let size = fields::at_most(words::u64_at(row, 80), row.len() - first);
+    let end = first + size;
+    &row[first..end]
 }
 
 fn settings_of(row: &[u8]) -> Settings {

@@ -13,15 +13,7 @@ pub const ROW: usize = 124;
 const NONE: u32 = 256;
 
 pub fn is_equal(row: &[u8]) -> bool {
-    names_a_call(row) & is_called(row, state(row))
-}
-
-fn names_a_call(row: &[u8]) -> bool {
-    (words::u32_at(row, 0) < 6)
-        & (words::u32_at(row, 4) <= NONE)
-        & (words::u32_at(row, 8) < 2)
-        & (words::u32_at(row, 56) < 256)
-        & (words::u32_at(row, 60) < 256)
+    is_called(row, state(row))
 }
 
 // Whether the call answers and leaves what it must.
@@ -32,7 +24,8 @@ fn is_called(row: &[u8], given: VoiceState) -> bool {
         2 => is_changed(row, given.reset()),
         3 => is_activity(row, given),
         4 => is_count(row, given),
-        _ => is_outcome(row, 0, 0, VoiceState::new()),
+        5 => is_outcome(row, 0, 0, VoiceState::new()),
+        _ => false,
     }
 }
 

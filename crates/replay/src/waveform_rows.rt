@@ -6,64 +6,56 @@ use waveform::Waveform;
 
 pub const ROW: usize = 136;
 
-// What a call gave beside the samples.
-struct Outcome {
-    number: u64,
-    phase: f64,
-}
-
 pub fn is_equal(row: &[u8]) -> bool {
     let length = words::u64_at(row, 48);
-    if length > 8 {
-        return false;
-    }
-    let lent = length as usize;
+    let lent = fields::at_most(length, 8);
     let mut slots = [fields::UNWRITTEN; 8];
-    let waveform = fields::waveform_of(words::u64_at(row, 8), fields::float_at(row, 16));
-    let got = called(row, waveform, &mut slots[0..lent]);
-    let told = [got.number, words::f64_bits(got.phase)];
-    names_a_call(row) & fields::are_words(row, 56, &told) & fields::are_slots(row, 72, &slots)
+    let told = is_called(row, &mut slots[0..lent]);
+    told & (length < 9) & fields::are_slots(row, 72, &slots)
 }
 
-fn names_a_call(row: &[u8]) -> bool {
-    let code = words::u64_at(row, 8);
-    (words::u64_at(row, 0) < 3) & (code > 0) & (code < 5)
-}
-
-fn called(row: &[u8], waveform: Waveform, out: &mut [f64]) -> Outcome {
+// Whether the call answers what it must.
+fn is_called(row: &[u8], out: &mut [f64]) -> bool {
     match words::u64_at(row, 0) {
-        0 => Outcome {
-            number: 0,
-            phase: filled(row, waveform, out).0,
-        },
-        1 => Outcome {
-            number: 0,
-            phase: waveform::reduced(filled(row, waveform, out)).0,
-        },
-        _ => single(row, waveform, out),
+        0 => is_outcome(row, 0, filled(row, out).0),
+        1 => is_outcome(row, 0, waveform::reduced(filled(row, out)).0),
+        2 => is_outcome(row, single(row, out), 0.0),
+        _ => false,
     }
 }
 
-fn filled(row: &[u8], waveform: Waveform, out: &mut [f64]) -> Radians {
+fn is_outcome(row: &[u8], number: u64, phase: f64) -> bool {
+    (number == words::u64_at(row, 56)) & fields::is_word(row, 64, phase)
+}
+
+fn waveform_of(row: &[u8]) -> Waveform {
+    fields::waveform_of(words::u64_at(row, 8), fields::float_at(row, 16))
+}
+
+fn filled(row: &[u8], out: &mut [f64]) -> Radians {
     let start = Radians(fields::float_at(row, 24));
     let step = Radians(fields::float_at(row, 32));
-    waveform::fill(out, waveform, start, step, fields::float_at(row, 40))
+    waveform::fill(
+        out,
+        waveform_of(row),
+        start,
+        step,
+        fields::float_at(row, 40),
+    )
 }
 
-fn single(row: &[u8], waveform: Waveform, out: &mut [f64]) -> Outcome {
+// The number; the value is the first sample.
+fn single(row: &[u8], out: &mut [f64]) -> u64 {
     let got = waveform::sample(
-        waveform,
+        waveform_of(row),
         fields::float_at(row, 24),
         fields::float_at(row, 32),
     );
     let answer = got.answer;
-    let outcome = Outcome {
-        number: fields::number_of(answer),
-        phase: 0.0,
-    };
+    let number = fields::number_of(answer);
     if out.len() == 0 {
-        return outcome;
+        return number;
     }
     out[0] = got.value;
-    outcome
+    number
 }
