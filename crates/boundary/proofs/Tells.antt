@@ -6,6 +6,7 @@ use Prim.Native.Nat.{ℕ, _+_}
 use lib.Dec.{T}
 use lib.ListN.{length}
 use lib.Ieee.{Float, binary64, fits}
+use Rattle.runs.specs.Runs.{run}
 use Rattle.answers.specs.declared.Answer.the-variants.{Done}
 use Rattle.envelope.specs.declared.Adsr.{Adsr}
 use Rattle.score.specs.declared.Verdict.the-variants.{Accepted}
@@ -86,5 +87,5 @@ module _ (rate code : ℕ) (duty : Float) (k : Adsr) (is : HasWave rate duty k c
 
   -- before the first score there is none, and the fresh state
   pub stands-fresh : Stands [] 0 (freshOf 0)
-  unfolding stateFrom
+  unfolding stateFrom run
   stands-fresh = record { records = 0; accepted = refusals .nothing; reached = refl; read = encode-decode (freshOf 0) (fresh-fitting 0) fresh-is-state }

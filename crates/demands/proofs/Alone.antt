@@ -11,6 +11,7 @@ use lib.Seq.{take-at, drop-append-seam, length-take-le}
 use lib.Ieee.{Float}
 use Rattle.answers.specs.declared.Answer.the-variants.{Done, Refused}
 use Rattle.answers.specs.declared.Refusal.the-variants.{StartEntry}
+use Rattle.runs.specs.Runs.{run}
 use Rattle.score.specs.Below.{countBelow}
 use Rattle.shelf.specs.Shelf.{mark, entryWords, entriesFor, entryOf, stateOf, isEntry, word, shelfOf}
 use Rattle.shelf.proofs.Digits.{beyond}
@@ -32,7 +33,7 @@ back k xs ys h = ap (λ (i : ℕ). drop i (take k xs ++ ys)) (sym (length-take-l
 
 -- no sample on, the state is the one that it was
 none-yet : (g : Settings) (s : List ℕ) (m : ℕ) (v : State) → stateFrom g s (m * mark) v (0 * mark) ≡ v
-unfolding stateFrom
+unfolding stateFrom run
 none-yet g s m v = refl
 
 -- ---- what stays

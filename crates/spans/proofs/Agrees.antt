@@ -2,13 +2,15 @@
 -- is the first that is not below it. Assumes nothing.
 use mathlib.Core.Path.{_≡_, refl, sym, ap, _∙_}
 use mathlib.Core.Bool.{Bool, true, false, cond, or-true}
-use mathlib.Core.List.{List, [], _∷_, _++_}
+use mathlib.Core.List.{List}
 use mathlib.Core.Logic.{⊎-elim}
 use Prim.Native.Nat.{ℕ, zero, suc, _+_, _-_, _<_, _≤_}
 use native.Mathlib.Nat.{add-zero, add-suc, zero-add, eq-or-lt-of-le, le-of-suc-le-suc}
 use native.Mathlib.Omega.{arith}
 use lib.Dec.{eqb}
 use borrow.Author.Tests.{lt-ltb, le-ltb, eq-eqb, eqb-true, eqb-false}
+use Rattle.runs.specs.Runs.{run}
+use Rattle.runs.proofs.Listed.{listed-same}
 use Rattle.score.specs.Record.{countOf, positionAt, recordAt}
 use Rattle.score.specs.Below.{Sorted, Cut}
 use Rattle.score.proofs.Parted.{none-below}
@@ -134,7 +136,7 @@ module _ (g : Settings) (s : List ℕ) (o : Sorted s) (n i : ℕ) (v : State) (c
     pub cut : Cut s (n + k) (at k .next)
 
   pub kept : (k : ℕ) → Kept k
-  unfolding placeFrom stateFrom
+  unfolding placeFrom stateFrom run
   kept zero = record { state-is = refl; cut = rw (add-zero n) c }
   kept (suc k) =
       let ih : Kept k = kept k in
@@ -144,8 +146,6 @@ module _ (g : Settings) (s : List ℕ) (o : Sorted s) (n i : ℕ) (v : State) (c
       }
 
   pub samples-agree : (k : ℕ) → playedFrom g s n (placeOf v i) k ≡ samplesFrom g s n v k
-  unfolding playedFrom samplesFrom
-  samples-agree zero = refl
-  samples-agree (suc k) =
-      let ih : Kept k = kept k in
-      rw (samples-agree k, ← ih .state-is) (ap (λ (u : State). samplesFrom g s n v k ++ (sampleOf g u ∷ [])) (begun-agrees s o (n + k) (at k .next) (ih .cut) (at k .state)))
+  unfolding placeFrom playedFrom stateFrom samplesFrom
+  samples-agree k =
+      listed-same _ _ k (λ i l. ap (sampleOf g) (begun-agrees s o (n + i) (at i .next) (kept i .cut) (at i .state) ∙ ap (begun s (n + i)) (kept i .state-is)))

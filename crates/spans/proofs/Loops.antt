@@ -7,6 +7,7 @@ use lib.ListN.{length, take}
 use lib.Seq.{take-all}
 use borrow.Rule.Slice.PartMut.{putMid, midOf}
 use lib.Ieee.{Float}
+use Rattle.runs.specs.Runs.{run, listed}
 use Rattle.state.specs.declared.Settings.{Settings}
 use Rattle.state.specs.declared.State.{State}
 use Rattle.spans.specs.declared.Place.{Place}
@@ -23,7 +24,7 @@ module _ (g : Settings) (s : List ℕ) (n : ℕ) (p : Place) (before : List Floa
     pub samples : take i part ≡ playedFrom g s n p i
 
   pub begins : Upto before p 0
-  unfolding placeFrom playedFrom
+  unfolding placeFrom playedFrom run listed
   begins = record { size = refl; within = omega arith; place = refl; samples = refl }
 
   -- the span to e is begun at b, and its samples ys come back with the state u

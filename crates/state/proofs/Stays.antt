@@ -11,6 +11,7 @@ use borrow.Author.Tests.{eqb-false}
 use lib.Dec.{T}
 use lib.Ieee.{Float, binary64, ofBits, add, lt, le, fits}
 use lib.Ieee.Fits.{and-i, and-r}
+use Rattle.runs.specs.Runs.{run}
 use Rattle.floats.specs.Range.{nonneg}
 use Rattle.floats.specs.Double.{_⊕_, naught}
 use Rattle.floats.proofs.Literals.{lit0-is}
@@ -95,7 +96,7 @@ drifts : Carried Anywhere Anywhere
 drifts =
     record {
       zeroed = λ m. record { not-negative = unfold ofBits in tt; not-far = unfold ofBits in unfold le in tt };
-      reduced = λ m x o. record { not-negative = reduced-nonneg x (o .not-negative); not-far = fle-trans (reduceOf x) (ladder 0) far (reduced-on x (o .not-negative) 0) (unfold phaseFrom in unfold ofBits in unfold le in tt) };
+      reduced = λ m x o. record { not-negative = reduced-nonneg x (o .not-negative); not-far = fle-trans (reduceOf x) (ladder 0) far (reduced-on x (o .not-negative) 0) (unfold run in unfold phaseFrom in unfold ofBits in unfold le in tt) };
       left = λ m x e o. o;
       grown = λ m x step s t o. further x step s t o;
     }
