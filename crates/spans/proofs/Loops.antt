@@ -28,10 +28,10 @@ module _ (g : Settings) (s : List ℕ) (n : ℕ) (p : Place) (before : List Floa
   begins = record { size = refl; within = omega arith; place = refl; samples = refl }
 
   -- the span to e is begun at b, and its samples ys come back with the state u
-  pub goes-on : (part : List Float) (at : Place) (i : ℕ) (b : Place) (e : ℕ) (ys : List Float) (u : State) → Upto part at i → b ≡ begunFrom s (n + i) at → SpanEnd s (b .next) n i (length part) e
+  pub goes-on : (part : List Float) (at : Place) (i : ℕ) (b : Place) (e : ℕ) (ys : List Float) (u : State) → Upto part at i → b ≡ begunFrom g s (n + i) at → SpanEnd s (b .next) n i (length part) e
       → Sounded g (b .state) (midOf i (e - i) part) ys u → Upto (putMid i (e - i) part ys) (placeOf u (b .next)) e
   goes-on part at i b e ys u v h z x =
-      let here : b ≡ begunFrom s (n + i) (placeFrom g s n p i) = h ∙ ap (begunFrom s (n + i)) (v .place) in
+      let here : b ≡ begunFrom g s (n + i) (placeFrom g s n p i) = h ∙ ap (begunFrom g s (n + i)) (v .place) in
       let z' = rw here at z in
       let x' = rw here at x in
       let t = turn-length g s n p i (length part) e z' part ys u refl (v .samples) x' in

@@ -21,20 +21,13 @@ use Rattle.waveform.proofs.Steps.{samples-length, sample-at}
 use Rattle.waveform.proofs.Values.{value-fits}
 use Rattle.state.specs.declared.Settings.{Settings}
 use Rattle.state.specs.declared.State.{State}
-use Rattle.state.specs.State.{paceOf, sampleOf, advanceOf}
+use Rattle.state.specs.State.{withPhase, withEnvelope, paceOf, sampleOf, advanceOf}
 use Rattle.spans.specs.Plain.{advances, plain, Sounded, shapedTo, Shaped}
 
 module _ (g : Settings) (v : State) where
   -- the state after k samples, field by field
-  pub advances-is : (k : ℕ) → advances g v k
-      ≡ record {
-        phase = radians (phaseFrom (paceOf g v) (v .phase .0) k);
-        envelope = envelopeFrom (clampedOf (g .adsr)) (sampleTimeOf (g .rate)) (v .envelope) k;
-        frequency = v .frequency;
-        velocity = v .velocity;
-        keys = v .keys;
-        acted = v .acted;
-      }
+  pub advances-is : (k : ℕ)
+      → advances g v k ≡ withEnvelope (withPhase v (phaseFrom (paceOf g v) (v .phase .0) k)) (envelopeFrom (clampedOf (g .adsr)) (sampleTimeOf (g .rate)) (v .envelope) k)
   unfolding advances advanceOf phaseFrom envelopeFrom run
   advances-is zero = refl
   advances-is (suc k) = rw (advances-is k) refl
@@ -56,7 +49,7 @@ module _ (g : Settings) (v : State) where
   -- the second pass over what the first wrote
   pub sounding : (k : Adsr) (t : Float) (ys zs : List Float) (r : Radians) (e : Envelope) → k ≡ clampedOf (g .adsr) → t ≡ sampleTimeOf (g .rate)
       → Filled (g .waveform) (v .phase .0) (paceOf g v) one ys ys r → Shaped k t (v .envelope) (v .velocity) ys zs e
-      → Sounded g v ys zs (record { phase = r; envelope = e; frequency = v .frequency; velocity = v .velocity; keys = v .keys; acted = v .acted })
+      → Sounded g v ys zs (withEnvelope (withPhase v (r .0)) e)
   sounding k t ys zs r e ek et f h =
       record {
         samples = h .samples ∙ rw (ek, et) (ap (λ (xs : List Float). shapedTo (clampedOf (g .adsr)) (sampleTimeOf (g .rate)) (v .envelope) (v .velocity) xs (length ys)) (f .samples) ∙ shaped-is (length ys) (length ys) (omega arith));

@@ -34,25 +34,25 @@ unfolding plain
 plain-length g v = listed-length _
 
 -- where no span begins, a sample is begun as it stands
-pub quiet : (s : List ℕ) (n : ℕ) (p : Place) → beginsAt s (p .next) n ≡ false → begunFrom s n p ≡ p
+pub quiet : (g : Settings) (s : List ℕ) (n : ℕ) (p : Place) → beginsAt s (p .next) n ≡ false → begunFrom g s n p ≡ p
 unfolding begunFrom
-quiet s n p f = rw f (act-stop s n (countOf s - p .next) p (neither (eqb (n % 64) 0) (standsAt s (p .next) n) f .1))
+quiet g s n p f = rw f (act-stop g s n (countOf s - p .next) p (neither (eqb (n % 64) 0) (standsAt s (p .next) n) f .1))
 
 module _ (g : Settings) (s : List ℕ) (n : ℕ) (p : Place) (i : ℕ) where
   -- the place at which the span is begun
   abbrev pub begun : Place
-  begun = begunFrom s (n + i) (placeFrom g s n p i)
+  begun = begunFrom g s (n + i) (placeFrom g s n p i)
 
   -- no span begins on the next k samples
   abbrev Unbroken : ℕ → Type 0
   Unbroken k = (m : ℕ) → i < m → m < i + suc k → beginsAt s (begun .next) (n + m) ≡ false
 
-  span-begun : (k : ℕ) → Unbroken k → begunFrom s (n + (i + k)) (placeFrom g s n p (i + k)) ≡ placeOf (advances g (begun .state) k) (begun .next)
+  span-begun : (k : ℕ) → Unbroken k → begunFrom g s (n + (i + k)) (placeFrom g s n p (i + k)) ≡ placeOf (advances g (begun .state) k) (begun .next)
   unfolding placeFrom advances run
   span-begun zero f = rw (add-zero i) refl
   span-begun (suc k) f =
       rw (add-suc i k, span-begun k (λ m x y. f m x (omega arith)))
-      (quiet s (n + suc (i + k)) (placeOf (advances g (begun .state) (suc k)) (begun .next)) (rw (add-suc i k) at (f (i + suc k) (omega arith) (omega arith))))
+      (quiet g s (n + suc (i + k)) (placeOf (advances g (begun .state) (suc k)) (begun .next)) (rw (add-suc i k) at (f (i + suc k) (omega arith) (omega arith))))
 
   pub span-place : (k : ℕ) → Unbroken k → placeFrom g s n p (i + suc k) ≡ placeOf (advances g (begun .state) (suc k)) (begun .next)
   unfolding placeFrom advances run

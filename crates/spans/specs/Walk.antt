@@ -24,13 +24,13 @@ abbrev pub standsAt : List ℕ → ℕ → ℕ → Bool
 standsAt s i n = ltb i (countOf s) && eqb (positionAt s i) n
 
 -- the next record acts
-abbrev pub actNext : List ℕ → Place → Place
-actNext s p = placeOf (actOf (p .state) (eventOf (recordAt s (p .next)))) (suc (p .next))
+abbrev pub actNext : Settings → List ℕ → Place → Place
+actNext g s p = placeOf (actOf g (p .state) (eventOf g (recordAt s (p .next)))) (suc (p .next))
 
 -- of the next k records the first ones act, as long as they stand at n
-unfoldable pub actFrom : List ℕ → ℕ → ℕ → Place → Place
-actFrom s n zero p = p
-actFrom s n (suc k) p = cond (standsAt s (p .next) n) (actFrom s n k (actNext s p)) p
+unfoldable pub actFrom : Settings → List ℕ → ℕ → ℕ → Place → Place
+actFrom g s n zero p = p
+actFrom g s n (suc k) p = cond (standsAt s (p .next) n) (actFrom g s n k (actNext g s p)) p
 
 -- whether a span begins at n
 abbrev pub beginsAt : List ℕ → ℕ → ℕ → Bool
@@ -39,17 +39,17 @@ beginsAt s i n = eqb (n % 64) 0 || standsAt s i n
 abbrev pub reducedAt : Place → Place
 reducedAt p = placeOf (reducedOf (p .state)) (p .next)
 
-unfoldable pub begunFrom : List ℕ → ℕ → Place → Place
+unfoldable pub begunFrom : Settings → List ℕ → ℕ → Place → Place
 unfolding actFrom
-begunFrom s n p = actFrom s n (countOf s - p .next) (cond (beginsAt s (p .next) n) (reducedAt p) p)
+begunFrom g s n p = actFrom g s n (countOf s - p .next) (cond (beginsAt s (p .next) n) (reducedAt p) p)
 
 -- ---- from a place p before sample n is begun
 -- sample n, and the place after it
 abbrev pub playedAt : Settings → List ℕ → ℕ → Place → Float
-playedAt g s n p = sampleOf g (begunFrom s n p .state)
+playedAt g s n p = sampleOf g (begunFrom g s n p .state)
 
 abbrev pub afterPlayed : Settings → List ℕ → ℕ → Place → Place
-afterPlayed g s n p = let b = begunFrom s n p in placeOf (advanceOf g (b .state)) (b .next)
+afterPlayed g s n p = let b = begunFrom g s n p in placeOf (advanceOf g (b .state)) (b .next)
 
 -- the place before sample n + k is begun
 unfoldable pub placeFrom : Settings → List ℕ → ℕ → Place → ℕ → Place
