@@ -20,9 +20,13 @@ phaseFrom step p k = repeated (λ (q : Float). q ⊕ step) p k
 abbrev pub valueAt : Waveform → Float → Float → Float
 valueAt w step p = valueOf w (normalOf p) (step ⊗ invTau)
 
--- the first k samples, of any values: the value at each phase, times a scale
+-- the value times a scale: what a block writes
+abbrev pub scaledAt : (Float → Float) → Float → Float → Float
+scaledAt value scale p = value p ⊗ scale
+
+-- the first k samples, of any values
 unfoldable pub samplesBy : (Float → Float) → Float → Float → Float → ℕ → List Float
-samplesBy value step scale p k = listed (λ (i : ℕ). value (phaseFrom step p i) ⊗ scale) k
+samplesBy value step scale p k = listed (λ (i : ℕ). scaledAt value scale (phaseFrom step p i)) k
 
 -- of a waveform's own
 abbrev pub samplesFrom : Waveform → Float → Float → Float → ℕ → List Float
