@@ -45,7 +45,11 @@ refusalPlace StartEntry = 0
 refusalPlace Argument = 0
 refusalPlace GivenState = 0
 
--- done is 0, and its count the samples written; a refusal's count is 0
+-- no refusal has a count today
+abbrev pub refusalCount : Refusal → ℕ
+refusalCount r = 0
+
+-- done is 0, and its count the samples written
 abbrev pub numbersOf : Answer → Numbers
 numbersOf (Done n) = record { number = 0; place = 0; count = n }
-numbersOf (Refused r) = record { number = refusalNumber r; place = refusalPlace r; count = 0 }
+numbersOf (Refused r) = record { number = refusalNumber r; place = refusalPlace r; count = refusalCount r }

@@ -10,7 +10,7 @@ use Rattle.answers.specs.declared.Answer.the-variants.{Done}
 use Rattle.answers.specs.declared.Refusal.the-variants.{Setting, Argument}
 use Rattle.waveform.specs.declared.Radians.{Radians}
 use Rattle.waveform.specs.Waveform.{reduceOf, incrementOf, radians}
-use Rattle.waveform.specs.Filled.{Filled}
+use Rattle.waveform.specs.Filled.{valueAt, Filled}
 use Rattle.waveform.proofs.Steps.{samples-length}
 use Rattle.blocks.specs.Block.{isSetting, isTone, leaves, refusedOf, runOf}
 use Rattle.blocks.specs.declared.Ran.{Ran}
@@ -41,5 +41,5 @@ module _ (t : Tone) (highest : Float) (rate : ℕ) (xs : List Float) where
       leaves (record { answer = Done (length ys); phase = q }) ys ≡ runOf t highest rate xs
   unfolding runOf
   run-done step last q ys s a i f e =
-      let n : length ys ≡ length xs = ap length (f .samples) ∙ samples-length (t .waveform) (step .0) (t .depth) (t .phase .0) (length xs) in
+      let n : length ys ≡ length xs = ap length (f .samples) ∙ samples-length (valueAt (t .waveform) (step .0)) (step .0) (t .depth) (t .phase .0) (length xs) in
       rw (s, a, e, n, f .samples, f .phase, i) refl

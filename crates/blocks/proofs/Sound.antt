@@ -22,7 +22,7 @@ use Rattle.answers.specs.declared.Answer.the-variants.{Done, Refused}
 use Rattle.envelope.specs.Limits.{isRate}
 use Rattle.waveform.specs.declared.Radians.{Radians}
 use Rattle.waveform.specs.Waveform.{tau, isWaveform, incrementOf}
-use Rattle.waveform.specs.Filled.{phaseFrom, samplesFrom}
+use Rattle.waveform.specs.Filled.{phaseFrom, valueAt, samplesFrom}
 use Rattle.waveform.proofs.Normal.{highest, increment-le, increment-nonneg, step-in, reduce-nonneg, reduce-below}
 use Rattle.waveform.proofs.Steps.{samples-length}
 use Rattle.waveform.proofs.Values.{Near, far, sixteen, phase-near, samples-finite}
@@ -129,7 +129,7 @@ module _ (t : Tone) (top : Float) (rate : ℕ) (xs : List Float) (w : T (fits bi
           let usable = subst T (sym s) tt in
           let sound = subst T (sym a) tt in
           record {
-            samples = λ (i : ℕ) (l : i < length written). tone-finite t top rate w m usable sound i (length xs) (rw (samples-length (t .waveform) (incrementOf (t .frequency) rate) (t .depth) (t .phase .0) (length xs)) at l);
+            samples = λ (i : ℕ) (l : i < length written). tone-finite t top rate w m usable sound i (length xs) (rw (samples-length (valueAt (t .waveform) (incrementOf (t .frequency) rate)) (incrementOf (t .frequency) rate) (t .depth) (t .phase .0) (length xs)) at l);
             phase-from = after-in t top rate w m usable sound (length xs) .0;
             phase-below = after-in t top rate w m usable sound (length xs) .1;
           }

@@ -7,7 +7,6 @@ use lib.ListN.{length}
 use lib.Ieee.{Float}
 use Rattle.answers.specs.declared.Answer.the-variants.{Done}
 use Rattle.answers.specs.declared.Refusal.the-variants.{GivenState}
-use Rattle.envelope.specs.declared.Adsr.{Adsr}
 use Rattle.shelf.specs.declared.Entry.{Entry}
 use Rattle.shelf.specs.Shelf.{entryOf, stateOf, isEntry, decodedOf}
 use Rattle.state.specs.declared.Settings.{Settings}
@@ -18,38 +17,36 @@ use Rattle.render.specs.Calls.{PartOutcome, isStretch, isGiven, continueOf}
 use Rattle.render.proofs.Judging.{passed, all-passed}
 use Rattle.demands.specs.Chain.{Step}
 use Rattle.demands.proofs.Link.{answer-is, call-leaves, after, onward}
+use Rattle.desk.specs.declared.Asked.{Asked}
+use Rattle.desk.specs.declared.Choice.the-variants.{Known}
 use Rattle.desk.specs.Packed.{packedOf, numbersIn}
 use Rattle.desk.specs.Desk.{Outcome, leaves, choiceOf, continued, continueFor}
 use Rattle.boundary.specs.WordsChain.{andThen, wordsChainFrom}
 use Rattle.boundary.proofs.Zero.{zero-done}
-use Rattle.boundary.proofs.Codes.{under, HasWave}
 
 -- the words of v are read as v
 abbrev pub Read : State → Type 0
 Read v = decodedOf (entryOf v) ≡ record { holds = true; state = v }
 
-module _ (rate code : ℕ) (duty : Float) (k : Adsr) (is : HasWave rate duty k code) (v : State) (read : Read v) (p : ℕ) where
-  abbrev g : Settings
-  g = under rate duty k code
-
-  pub in-words : (s : List ℕ) (part : List Float) → continueFor (choiceOf code duty) rate k s (entryOf v) p part ≡ continued (continueOf g s v p part) (entryOf v)
+module _ (a : Asked) (g : Settings) (is : choiceOf a ≡ Known g) (v : State) (read : Read v) (p : ℕ) where
+  pub in-words : (s : List ℕ) (part : List Float) → continueFor (choiceOf a) s (entryOf v) p part ≡ continued (continueOf g s v p part) (entryOf v)
   in-words s part =
       let h : isEntry (entryOf v) ≡ true = ap (λ (e : Entry). e .holds) read in
       let e : stateOf (entryOf v) ≡ v = ap (λ (e : Entry). e .state) read in
-      is .continues s (entryOf v) p part ∙ rw (h, e) refl
+      rw (is, h, e) refl
 
-  pub zero-whole : (s : List ℕ) (part : List Float) → numbersIn (continueFor (choiceOf code duty) rate k s (entryOf v) p part .said) .number ≡ 0 → continueOf g s v p part .result .answer ≡ Done (length part)
+  pub zero-whole : (s : List ℕ) (part : List Float) → numbersIn (continueFor (choiceOf a) s (entryOf v) p part .said) .number ≡ 0 → continueOf g s v p part .result .answer ≡ Done (length part)
   zero-whole s part z =
       let n = length part in
       let d = zero-done (continueOf g s v p part .result .answer) (rw (in-words s part) at z) in
-      let a = all-passed g (isStretch p n) s (unless (isGiven s p v) GivenState (Done n)) (d .0) (sym (answer-is g s v p part) ∙ d .1) in
-      d .1 ∙ sym (passed (isGiven s p v) GivenState (Done n) (d .0) (a .score .follows) .1)
+      let b = all-passed g (isStretch p n) s (unless (isGiven s p v) GivenState (Done n)) (d .0) (sym (answer-is g s v p part) ∙ d .1) in
+      d .1 ∙ sym (passed (isGiven s p v) GivenState (Done n) (d .0) (b .score .follows) .1)
 
   -- the first call of a chain, done, leaves its samples, and the rest goes on from the words of the state after them
   pub words-step : (x : Step) (xs : List Step) → continueOf g (x .score) v p (x .part) .result .answer ≡ Done (length (x .part))
-      → wordsChainFrom rate code duty k (entryOf v) p (x ∷ xs)
-      ≡ andThen (leaves (packedOf (Done (length (x .part)))) (samplesFrom g (x .score) p v (length (x .part))) (entryOf (after g v p x xs))) (wordsChainFrom rate code duty k (entryOf (after g v p x xs)) (onward g v p x xs) xs)
+      → wordsChainFrom a (entryOf v) p (x ∷ xs)
+      ≡ andThen (leaves (packedOf (Done (length (x .part)))) (samplesFrom g (x .score) p v (length (x .part))) (entryOf (after g v p x xs))) (wordsChainFrom a (entryOf (after g v p x xs)) (onward g v p x xs) xs)
   unfolding wordsChainFrom
   words-step x xs e =
-      ap (λ (o : Outcome). andThen o (wordsChainFrom rate code duty k (o .stored) (onward g v p x xs) xs))
+      ap (λ (o : Outcome). andThen o (wordsChainFrom a (o .stored) (onward g v p x xs) xs))
       (in-words (x .score) (x .part) ∙ ap (λ (c : PartOutcome). continued c (entryOf v)) (call-leaves g (x .score) v p (x .part) e))

@@ -1,55 +1,31 @@
--- Under a code up to 4 the calls are those under its waveform; above, each is refused. Assumes nothing.
-use mathlib.Core.Path.{_≡_, refl, sym, ap, subst}
-use mathlib.Core.Bool.{Bool, true, false}
-use mathlib.Core.List.{List}
-use Prim.Native.Nat.{ℕ, _≤_, _<_}
-use native.Mathlib.Omega.{arith}
-use borrow.Author.Tests.{eqb-true, eqb-false, ne-eqb}
-use lib.Dec.{eqb}
-use lib.Ieee.{Float}
-use Rattle.answers.specs.declared.Answer.the-variants.{Refused}
-use Rattle.answers.specs.declared.Refusal.the-variants.{Setting}
-use Rattle.envelope.specs.declared.Adsr.{Adsr}
-use Rattle.shelf.specs.Shelf.{isEntry}
+-- What a host asks for is known or unknown. Known, the settings have the host's own sustain; a call that does not answer 6 tells that they are. Assumes nothing.
+use mathlib.Core.Path.{_≡_, refl, subst, ap}
+use lib.Dec.{T}
+use lib.Ieee.{Float, binary64, fits}
 use Rattle.state.specs.declared.Settings.{Settings}
-use Rattle.render.specs.Calls.{renderOf}
-use Rattle.rerender.specs.Rerender.{rerenderOf}
-use Rattle.desk.specs.Packed.{packedOf}
-use Rattle.desk.specs.Desk.{leaves, choiceOf, settingsOf, rendered, renderFor, rerendered, rerenderFor, continueIn, continueFor}
-use Rattle.boundary.specs.WordsChain.{waveformOf}
+use Rattle.desk.specs.declared.Asked.{Asked}
+use Rattle.desk.specs.declared.Shape.{Shape}
+use Rattle.desk.specs.declared.Shape.the-variants as shape
+use Rattle.desk.specs.declared.Choice.{Choice}
+use Rattle.desk.specs.declared.Choice.the-variants.{Known, Unknown}
+use Rattle.desk.specs.Desk.{shapeOf, settingsOf, choiceFor, choiceOf}
+use Rattle.score.proofs.Parted.{clash}
 
-module _ (rate : ℕ) (duty : Float) (k : Adsr) where
-  -- the settings of a code
-  abbrev pub under : ℕ → Settings
-  under code = settingsOf rate (waveformOf code duty) k
+pub record IsKnown (a : Asked) : Type 0 where
+  pub settings : Settings
+  pub known : choiceOf a ≡ Known settings
 
-  pub record HasWave (code : ℕ) : Type 0 where
-    pub continues : (s ws : List ℕ) (p : ℕ) (part : List Float) → continueFor (choiceOf code duty) rate k s ws p part ≡ continueIn (isEntry ws) (under code) s ws p part
-    pub renders : (s : List ℕ) (out : List Float) (shelf : List ℕ) → renderFor (choiceOf code duty) rate k s out shelf ≡ rendered (renderOf (under code) s out shelf)
-    pub rerenders : (old new : List ℕ) (out : List Float) (shelf : List ℕ) → rerenderFor (choiceOf code duty) rate k old new out shelf ≡ rerendered (rerenderOf (under code) old new out shelf)
+pub is-known : (a : Asked) → (choiceOf a ≡ Unknown → ⊥) → IsKnown a
+is-known a n = go (choiceOf a) refl
+  where
+    go : (c : Choice) → choiceOf a ≡ c → IsKnown a
+    go (Known g) e = record { settings = g; known = e }
+    go Unknown e = absurd (n e)
 
-  pub has-wave : (code : ℕ) → code ≤ 4 → HasWave code
-  has-wave code h = go (eqb code 0) (eqb code 1) (eqb code 2) (eqb code 3) refl refl refl refl
-    where
-      is : (i : ℕ) → HasWave i → code ≡ i → HasWave code
-      is i x e = subst HasWave (sym e) x
-
-      go : (a b c d : Bool) → eqb code 0 ≡ a → eqb code 1 ≡ b → eqb code 2 ≡ c → eqb code 3 ≡ d → HasWave code
-      go true b c d p q r s = is 0 (record { continues = λ s ws p part. refl; renders = λ s out shelf. refl; rerenders = λ old new out shelf. refl }) (eqb-true code 0 p)
-      go false true c d p q r s = is 1 (record { continues = λ s ws p part. refl; renders = λ s out shelf. refl; rerenders = λ old new out shelf. refl }) (eqb-true code 1 q)
-      go false false true d p q r s = is 2 (record { continues = λ s ws p part. refl; renders = λ s out shelf. refl; rerenders = λ old new out shelf. refl }) (eqb-true code 2 r)
-      go false false false true p q r s = is 3 (record { continues = λ s ws p part. refl; renders = λ s out shelf. refl; rerenders = λ old new out shelf. refl }) (eqb-true code 3 s)
-      go false false false false p q r s =
-          is 4 (record { continues = λ s ws p part. refl; renders = λ s out shelf. refl; rerenders = λ old new out shelf. refl })
-          (omega (arith, eqb-false code 0 p, eqb-false code 1 q, eqb-false code 2 r, eqb-false code 3 s))
-
-  -- a code above 4
-  module _ (code : ℕ) (high : 4 < code) where
-    as-five : choiceOf code duty ≡ choiceOf 5 duty
-    as-five = rw (ne-eqb code 0 (λ e. omega arith), ne-eqb code 1 (λ e. omega arith), ne-eqb code 2 (λ e. omega arith), ne-eqb code 3 (λ e. omega arith), ne-eqb code 4 (λ e. omega arith)) refl
-
-    pub continue-unknown : (s ws : List ℕ) (p : ℕ) (part : List Float) → continueFor (choiceOf code duty) rate k s ws p part ≡ leaves (packedOf (Refused Setting)) part ws
-    continue-unknown s ws p part = ap (λ c. continueFor c rate k s ws p part) as-five
-
-    pub render-unknown : (s : List ℕ) (out : List Float) (shelf : List ℕ) → renderFor (choiceOf code duty) rate k s out shelf ≡ leaves (packedOf (Refused Setting)) out shelf
-    render-unknown s out shelf = ap (λ c. renderFor c rate k s out shelf) as-five
+pub sustain-fits : (a : Asked) → T (fits binary64 (a .sustain)) → (g : Settings) → choiceOf a ≡ Known g → T (fits binary64 (g .adsr .sustain))
+unfolding choiceOf
+sustain-fits a w g e = go (shapeOf (a .code) (a .duty)) e
+  where
+    go : (x : Shape) → choiceFor x a ≡ Known g → T (fits binary64 (g .adsr .sustain))
+    go (shape.Known f) e = let q : settingsOf a f ≡ g = cc in subst (λ (x : Float). T (fits binary64 x)) (ap (λ (h : Settings). h .adsr .sustain) q) w
+    go shape.Unknown e = absurd (clash (cc))

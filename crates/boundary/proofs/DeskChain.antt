@@ -5,7 +5,6 @@
 use mathlib.Core.Path.{_≡_, refl, sym, ap, subst, _∙_}
 use mathlib.Core.Bool.{true}
 use mathlib.Core.List.{List, [], _∷_, map}
-use mathlib.Core.Logic.{⊎-elim}
 use Prim.Native.Nat.{ℕ, _≤_}
 use native.Mathlib.Omega.{arith}
 use borrow.Author.Tests.{eq-eqb}
@@ -14,9 +13,8 @@ use lib.ListN.{length, replicate, length-replicate}
 use lib.Ieee.{Float, binary64, fits}
 use Rattle.answers.specs.declared.Answer.the-variants.{Done}
 use Rattle.answers.specs.declared.Refusal.the-variants.{Setting}
-use Rattle.envelope.specs.declared.Adsr.{Adsr}
-use Rattle.score.proofs.Cuts.{lt-or-ge}
 use Rattle.shelf.specs.Shelf.{entryWords, wordsFor, entryOf}
+use Rattle.state.specs.declared.Settings.{Settings}
 use Rattle.state.specs.Settings.{settingsOk}
 use Rattle.state.specs.State.{freshOf}
 use Rattle.render.specs.Order.{most, isRoom}
@@ -25,11 +23,14 @@ use Rattle.render.proofs.Judging.{all-passed, roomy}
 use Rattle.demands.specs.Chain.{Step, samplesOf, lastOf, doneAll, Grows, AllAccepted, NoneAddedBelow}
 use Rattle.demands.proofs.Honest.{render-says}
 use Rattle.demands.proofs.Chain.{chain, chain-done}
+use Rattle.desk.specs.declared.Asked.{Asked}
+use Rattle.desk.specs.declared.Choice.{Choice}
+use Rattle.desk.specs.declared.Choice.the-variants.{Known}
 use Rattle.desk.specs.Packed.{packedOf}
 use Rattle.desk.specs.Desk.{Outcome, choiceOf, renderFor, continueFor, freshFor}
 use Rattle.boundary.specs.WordsChain.{WordsOutcome, wordsChainFrom, endWords, AllZero}
 use Rattle.boundary.proofs.Zero.{refused-not-zero, zero-done, done-zero}
-use Rattle.boundary.proofs.Codes.{under, has-wave, continue-unknown}
+use Rattle.boundary.proofs.Codes.{IsKnown, is-known, sustain-fits}
 use Rattle.boundary.proofs.Tells.{zero-all, tells, stands-fresh}
 
 -- what gav_fresh leaves in twelve words
@@ -43,40 +44,43 @@ done-zeros (x ∷ xs) = (done-zero (length (x .part)), done-zeros xs)
 
 -- ---- the theorem
 -- each call counts its part, and together they leave what one render of the last score leaves, which is done
-pub record OneDeskRender (rate code : ℕ) (duty : Float) (k : Adsr) (xs : List Step) (out : List Float) (shelf : List ℕ) (o : WordsOutcome) : Type 0 where
+pub record OneDeskRender (a : Asked) (xs : List Step) (out : List Float) (shelf : List ℕ) (o : WordsOutcome) : Type 0 where
   pub said : o .said ≡ map packedOf (doneAll xs)
-  pub done : renderFor (choiceOf code duty) rate k (lastOf [] xs) out shelf .said ≡ packedOf (Done (samplesOf xs))
-  pub heard : o .heard ≡ renderFor (choiceOf code duty) rate k (lastOf [] xs) out shelf .heard
-  pub stored : o .stored ≡ endWords rate code duty k (lastOf [] xs) out shelf
+  pub done : renderFor (choiceOf a) (lastOf [] xs) out shelf .said ≡ packedOf (Done (samplesOf xs))
+  pub heard : o .heard ≡ renderFor (choiceOf a) (lastOf [] xs) out shelf .heard
+  pub stored : o .stored ≡ endWords (choiceOf a) (lastOf [] xs) out shelf
 
-module _ (rate code : ℕ) (duty : Float) (k : Adsr) (sus : T (fits binary64 (k .sustain))) (room : List ℕ) (twelve : length room ≡ entryWords) where
+module _ (a : Asked) (sus : T (fits binary64 (a .sustain))) (room : List ℕ) (twelve : length room ≡ entryWords) where
   -- the calls of a chain, from what gav_fresh leaves
   abbrev pub calls : List Step → WordsOutcome
-  calls xs = wordsChainFrom rate code duty k (freshFor room .left) 0 xs
+  calls xs = wordsChainFrom a (freshFor room .left) 0 xs
 
-  from-fresh : (xs : List Step) → calls xs ≡ wordsChainFrom rate code duty k (entryOf (freshOf 0)) 0 xs
-  from-fresh xs = ap (λ (ws : List ℕ). wordsChainFrom rate code duty k ws 0 xs) (fresh-left room twelve)
+  from-fresh : (xs : List Step) → calls xs ≡ wordsChainFrom a (entryOf (freshOf 0)) 0 xs
+  from-fresh xs = ap (λ (ws : List ℕ). wordsChainFrom a ws 0 xs) (fresh-left room twelve)
 
-  -- a code above 4 is refused at once
-  code-low : (x : Step) (xs : List Step) → AllZero (calls (x ∷ xs) .said) → code ≤ 4
+  -- unknown settings are refused at once
+  settings-known : (x : Step) (xs : List Step) → AllZero (calls (x ∷ xs) .said) → IsKnown a
   unfolding wordsChainFrom
-  code-low x xs z = ⊎-elim (λ h. absurd (refused-not-zero Setting (rw (continue-unknown rate duty k code h (x .score) (freshFor room .left) 0 (x .part)) at (z .0)))) (λ h. h) (lt-or-ge 4 code)
+  settings-known x xs z = is-known a (λ e. refused-not-zero Setting (rw e at (z .0)))
 
   pub desk-chain : (x : Step) (xs : List Step) → Grows [] (x ∷ xs) → AllZero (calls (x ∷ xs) .said)
-      → (out : List Float) (shelf : List ℕ) → length out ≡ samplesOf (x ∷ xs) → length shelf ≡ wordsFor (length out) → OneDeskRender rate code duty k (x ∷ xs) out shelf (calls (x ∷ xs))
+      → (out : List Float) (shelf : List ℕ) → length out ≡ samplesOf (x ∷ xs) → length shelf ≡ wordsFor (length out) → OneDeskRender a (x ∷ xs) out shelf (calls (x ∷ xs))
   desk-chain x xs grow z out shelf e l =
-      let is = has-wave rate duty k code (code-low x xs z) in
-      let h = stands-fresh rate code duty k is sus in
-      let d = zero-all rate code duty k is sus (x ∷ xs) [] 0 (freshOf 0) h grow (subst (λ (o : WordsOutcome). AllZero (o .said)) (from-fresh (x ∷ xs)) z) in
-      let t = tells rate code duty k is sus (x ∷ xs) [] 0 (freshOf 0) h grow d in
-      let c = chain (under rate duty k code) x xs grow d out shelf e l in
-      let r = is .renders (lastOf [] (x ∷ xs)) out shelf in
-      subst (OneDeskRender rate code duty k (x ∷ xs) out shelf) (sym (from-fresh (x ∷ xs)))
+      let q = settings-known x xs z in
+      let g = q .settings in
+      let is = q .known in
+      let fit = sustain-fits a sus g is in
+      let h = stands-fresh a g is fit in
+      let d = zero-all a g is fit (x ∷ xs) [] 0 (freshOf 0) h grow (subst (λ (o : WordsOutcome). AllZero (o .said)) (from-fresh (x ∷ xs)) z) in
+      let t = tells a g is fit (x ∷ xs) [] 0 (freshOf 0) h grow d in
+      let c = chain g x xs grow d out shelf e l in
+      let r = ap (λ (c : Choice). renderFor c (lastOf [] (x ∷ xs)) out shelf) is in
+      subst (OneDeskRender a (x ∷ xs) out shelf) (sym (from-fresh (x ∷ xs)))
       (record {
         said = t .said;
         done = ap (λ (o : Outcome). o .said) r ∙ ap packedOf (c .done);
         heard = t .heard ∙ c .heard ∙ sym (ap (λ (o : Outcome). o .heard) r);
-        stored = t .stored ∙ ap entryOf (c .state);
+        stored = rw is (t .stored ∙ ap entryOf (c .state));
       })
 
   -- ---- the lemma
@@ -85,34 +89,34 @@ module _ (rate code : ℕ) (duty : Float) (k : Adsr) (sus : T (fits binary64 (k 
     pub zero-only-if : AllZero (calls xs .said) → NoneAddedBelow [] 0 xs
     pub zero-if : NoneAddedBelow [] 0 xs → AllZero (calls xs .said)
 
-  pub desk-chain-done : code ≤ 4 → settingsOk (under rate duty k code) ≡ true → (xs : List Step) → AllAccepted xs → Grows [] xs → samplesOf xs ≤ most → ZeroExactly xs
-  desk-chain-done low ok xs b grow l =
-      let is = has-wave rate duty k code low in
-      let h = stands-fresh rate code duty k is sus in
-      let c = chain-done (under rate duty k code) ok sus xs b grow l in
+  pub desk-chain-done : (g : Settings) → choiceOf a ≡ Known g → settingsOk g ≡ true → (xs : List Step) → AllAccepted xs → Grows [] xs → samplesOf xs ≤ most → ZeroExactly xs
+  desk-chain-done g is ok xs b grow l =
+      let fit = sustain-fits a sus g is in
+      let h = stands-fresh a g is fit in
+      let c = chain-done g ok fit xs b grow l in
       record {
-        zero-only-if = λ z. c .done-only-if (zero-all rate code duty k is sus xs [] 0 (freshOf 0) h grow (subst (λ (o : WordsOutcome). AllZero (o .said)) (from-fresh xs) z));
-        zero-if = λ f. rw (from-fresh xs, tells rate code duty k is sus xs [] 0 (freshOf 0) h grow (c .done-if f) .said) (done-zeros xs);
+        zero-only-if = λ z. c .done-only-if (zero-all a g is fit xs [] 0 (freshOf 0) h grow (subst (λ (o : WordsOutcome). AllZero (o .said)) (from-fresh xs) z));
+        zero-if = λ f. rw (from-fresh xs, tells a g is fit xs [] 0 (freshOf 0) h grow (c .done-if f) .said) (done-zeros xs);
       }
 
   -- ---- one call
   -- gav_render tells no end state: the words left last are those that one gav_continue of the last score over the whole output leaves
   pub one-call : (x : Step) (xs : List Step) → Grows [] (x ∷ xs) → AllZero (calls (x ∷ xs) .said) → (out : List Float) → length out ≡ samplesOf (x ∷ xs)
-      → calls (x ∷ xs) .stored ≡ continueFor (choiceOf code duty) rate k (lastOf [] (x ∷ xs)) (freshFor room .left) 0 out .stored
+      → calls (x ∷ xs) .stored ≡ continueFor (choiceOf a) (lastOf [] (x ∷ xs)) (freshFor room .left) 0 out .stored
   unfolding wordsChainFrom
   one-call x xs grow z out e =
       let s = lastOf [] (x ∷ xs) in
-      let g = under rate duty k code in
+      let q = settings-known x xs z in
+      let g = q .settings in
       let n = length out in
       let shelf : List ℕ = replicate (wordsFor n) 0 in
       let fit : length shelf ≡ wordsFor n = length-replicate (wordsFor n) 0 in
-      let low = code-low x xs z in
       let many = desk-chain x xs grow z out shelf e fit in
-      let said : packedOf (renderOf g s out shelf .result .answer) ≡ packedOf (Done (samplesOf (x ∷ xs))) = sym (ap (λ (o : Outcome). o .said) (has-wave rate duty k code low .renders s out shelf)) ∙ many .done in
+      let said : packedOf (renderOf g s out shelf .result .answer) ≡ packedOf (Done (samplesOf (x ∷ xs))) = sym (ap (λ (c : Choice). renderFor c s out shelf .said) (q .known)) ∙ many .done in
       let d = zero-done (renderOf g s out shelf .result .answer) (rw said (done-zero (samplesOf (x ∷ xs)))) in
       let p = all-passed g (isRoom n (length shelf)) s (Done n) (d .0) (sym (render-says g s out shelf) ∙ d .1) in
       let short : n ≤ most = roomy n (length shelf) (p .sized) .short in
       let whole : Step = record { score = s; part = out } in
       let grows : Grows [] (whole ∷ []) = (record { added = s; grown = refl }, tt) in
-      let zeros = desk-chain-done low (p .settings) (whole ∷ []) ((p .score .records, p .score .accepted), tt) grows (omega arith) .zero-if ((λ i a b. omega arith), tt) in
+      let zeros = desk-chain-done g (q .known) (p .settings) (whole ∷ []) ((p .score .records, p .score .accepted), tt) grows (omega arith) .zero-if ((λ i a b. omega arith), tt) in
       many .stored ∙ sym (desk-chain whole [] grows zeros out shelf (omega arith) fit .stored)

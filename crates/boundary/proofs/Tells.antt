@@ -6,8 +6,8 @@ use Prim.Native.Nat.{ℕ, _+_}
 use lib.Dec.{T}
 use lib.ListN.{length}
 use lib.Ieee.{Float, binary64, fits}
+use Rattle.runs.specs.Runs.{run}
 use Rattle.answers.specs.declared.Answer.the-variants.{Done}
-use Rattle.envelope.specs.declared.Adsr.{Adsr}
 use Rattle.score.specs.declared.Verdict.the-variants.{Accepted}
 use Rattle.score.specs.Score.{verdictOf}
 use Rattle.score.proofs.Marks.{refusals}
@@ -22,17 +22,16 @@ use Rattle.render.specs.Calls.{continueOf}
 use Rattle.demands.specs.Chain.{Step, ChainOutcome, chainFrom, doneAll, AllDone, Grows, NoneBelow}
 use Rattle.demands.proofs.Honest.{fresh-fitting, honest}
 use Rattle.demands.proofs.Link.{PassedCall, call-passed, Reached, acted-is, none-below, goes-on, after, onward, chain-step, first-done, rest-done, all-done}
+use Rattle.desk.specs.declared.Asked.{Asked}
+use Rattle.desk.specs.declared.Choice.the-variants.{Known}
+use Rattle.desk.specs.Desk.{choiceOf}
 use Rattle.desk.specs.Packed.{packedOf}
 use Rattle.boundary.specs.WordsChain.{WordsOutcome, wordsChainFrom, AllZero}
-use Rattle.boundary.proofs.Codes.{under, HasWave}
 use Rattle.boundary.proofs.Call.{Read, zero-whole, words-step}
 
-module _ (rate code : ℕ) (duty : Float) (k : Adsr) (is : HasWave rate duty k code) (sus : T (fits binary64 (k .sustain))) where
-  abbrev g : Settings
-  g = under rate duty k code
-
+module _ (a : Asked) (g : Settings) (is : choiceOf a ≡ Known g) (sus : T (fits binary64 (g .adsr .sustain))) where
   abbrev inWords : State → ℕ → List Step → WordsOutcome
-  inWords v p xs = wordsChainFrom rate code duty k (entryOf v) p xs
+  inWords v p xs = wordsChainFrom a (entryOf v) p xs
 
   -- what stands at v
   pub record Stands (s : List ℕ) (p : ℕ) (v : State) : Type 0 where
@@ -59,8 +58,8 @@ module _ (rate code : ℕ) (duty : Float) (k : Adsr) (is : HasWave rate duty k c
   unfolding chainFrom wordsChainFrom
   zero-all [] s p v h grow z = refl
   zero-all (x ∷ xs) s p v h grow z =
-      let e = zero-whole rate code duty k is v (h .read) p (x .score) (x .part) (z .0) in
-      let y : AllZero (inWords (after g v p x xs) (onward g v p x xs) xs .said) = subst (λ (o : WordsOutcome). AllZero (o .said)) (words-step rate code duty k is v (h .read) p x xs e) z .1 in
+      let e = zero-whole a g is v (h .read) p (x .score) (x .part) (z .0) in
+      let y : AllZero (inWords (after g v p x xs) (onward g v p x xs) xs .said) = subst (λ (o : WordsOutcome). AllZero (o .said)) (words-step a g is v (h .read) p x xs e) z .1 in
       all-done g v p x xs e (zero-all xs (x .score) (onward g v p x xs) (after g v p x xs) (stands-on s p v x xs h grow e) (grow .1) y)
 
   -- and then the words tell what the chain on the states leaves
@@ -76,15 +75,15 @@ module _ (rate code : ℕ) (duty : Float) (k : Adsr) (is : HasWave rate duty k c
       let n = length (x .part) in
       let e = first-done g v p x xs d in
       let rest = tells xs (x .score) (onward g v p x xs) (after g v p x xs) (stands-on s p v x xs h grow e) (grow .1) (rest-done g v p x xs d) in
-      let a = words-step rate code duty k is v (h .read) p x xs e in
+      let w = words-step a g is v (h .read) p x xs e in
       let b = chain-step g v p x xs e in
       record {
-        said = ap (λ (o : WordsOutcome). o .said) a ∙ ap (λ (l : List ℕ). packedOf (Done n) ∷ l) (rest .said);
-        heard = ap (λ (o : WordsOutcome). o .heard) a ∙ ap (λ (l : List Float). samplesFrom g (x .score) p v n ++ l) (rest .heard) ∙ sym (ap (λ (o : ChainOutcome). o .heard) b);
-        stored = ap (λ (o : WordsOutcome). o .stored) a ∙ rest .stored ∙ sym (ap (λ (o : ChainOutcome). entryOf (o .state)) b);
+        said = ap (λ (o : WordsOutcome). o .said) w ∙ ap (λ (l : List ℕ). packedOf (Done n) ∷ l) (rest .said);
+        heard = ap (λ (o : WordsOutcome). o .heard) w ∙ ap (λ (l : List Float). samplesFrom g (x .score) p v n ++ l) (rest .heard) ∙ sym (ap (λ (o : ChainOutcome). o .heard) b);
+        stored = ap (λ (o : WordsOutcome). o .stored) w ∙ rest .stored ∙ sym (ap (λ (o : ChainOutcome). entryOf (o .state)) b);
       }
 
   -- before the first score there is none, and the fresh state
   pub stands-fresh : Stands [] 0 (freshOf 0)
-  unfolding stateFrom
+  unfolding stateFrom run
   stands-fresh = record { records = 0; accepted = refusals .nothing; reached = refl; read = encode-decode (freshOf 0) (fresh-fitting 0) fresh-is-state }

@@ -3,7 +3,7 @@
 use mathlib.Core.List.{List, [], _∷_}
 use Prim.Native.Nat.{ℕ}
 use lib.Ieee.{Float}
-use Rattle.envelope.specs.declared.Adsr.{Adsr}
+use Rattle.desk.specs.declared.Asked.{Asked}
 use Rattle.desk.specs.Desk.{Outcome, choiceOf, renderFor, rerenderFor}
 use Rattle.boundary.specs.WordsChain.{WordsOutcome}
 
@@ -12,12 +12,10 @@ abbrev pub andOver : Outcome → WordsOutcome → WordsOutcome
 andOver c rest = record { said = c .said ∷ rest .said; heard = rest .heard; stored = rest .stored }
 
 -- from what stands in the output and the shelf, and the score that it was made of
-unfoldable pub wordsEditsFrom : ℕ → ℕ → Float → Adsr → List ℕ → List (List ℕ) → List Float → List ℕ → WordsOutcome
-wordsEditsFrom rate code duty k old [] out shelf = record { said = []; heard = out; stored = shelf }
-wordsEditsFrom rate code duty k old (new ∷ rest) out shelf =
-    let c = rerenderFor (choiceOf code duty) rate k old new out shelf in andOver c (wordsEditsFrom rate code duty k new rest (c .heard) (c .stored))
+unfoldable pub wordsEditsFrom : Asked → List ℕ → List (List ℕ) → List Float → List ℕ → WordsOutcome
+wordsEditsFrom a old [] out shelf = record { said = []; heard = out; stored = shelf }
+wordsEditsFrom a old (new ∷ rest) out shelf = let c = rerenderFor (choiceOf a) old new out shelf in andOver c (wordsEditsFrom a new rest (c .heard) (c .stored))
 
 -- a render of the first score, and then the edits
-abbrev pub wordsEdits : ℕ → ℕ → Float → Adsr → List ℕ → List (List ℕ) → List Float → List ℕ → WordsOutcome
-wordsEdits rate code duty k first news out shelf =
-    let c = renderFor (choiceOf code duty) rate k first out shelf in andOver c (wordsEditsFrom rate code duty k first news (c .heard) (c .stored))
+abbrev pub wordsEdits : Asked → List ℕ → List (List ℕ) → List Float → List ℕ → WordsOutcome
+wordsEdits a first news out shelf = let c = renderFor (choiceOf a) first out shelf in andOver c (wordsEditsFrom a first news (c .heard) (c .stored))

@@ -13,6 +13,7 @@ use lib.ListN.{length}
 use lib.Ieee.{Float, binary64, fits}
 use borrow.Author.Tests.{le-leb, eq-eqb}
 use Rattle.answers.specs.declared.Answer.the-variants.{Done}
+use Rattle.runs.specs.Runs.{run, listed}
 use Rattle.score.specs.declared.Verdict.the-variants.{Accepted}
 use Rattle.score.specs.Score.{verdictOf}
 use Rattle.score.specs.Below.{countBelow}
@@ -58,7 +59,7 @@ joined g s t l p v n k o r c z y =
     }
 
 ends : (g : Settings) (xs : List Step) (s : List ℕ) (m : ℕ) → verdictOf s ≡ Accepted m → (p : ℕ) (v : State) → Reached g s p v → Grows s xs → AllDone g v p xs → Ends g s (lastOf s xs) p v (samplesOf xs) (chainFrom g v p xs)
-unfolding chainFrom stateFrom samplesFrom
+unfolding chainFrom stateFrom samplesFrom run listed
 ends g [] s m a p v r w d = record { agree = record { states = λ n u k h. refl; samples = λ n u k h. refl }; heard = refl; state = refl }
 ends g (x ∷ xs) s m a p v r w d =
     let n = length (x .part) in
@@ -77,7 +78,7 @@ nothing-accepted = refusals .nothing
 -- from the fresh state at 0: the samples and the end state of the last score
 pub chain-samples : (g : Settings) (xs : List Step) → Grows [] xs → AllDone g (freshOf 0) 0 xs
     → (chainFrom g (freshOf 0) 0 xs .heard ≡ samplesFrom g (lastOf [] xs) 0 (freshOf 0) (samplesOf xs)) × (chainFrom g (freshOf 0) 0 xs .state ≡ stateFrom g (lastOf [] xs) 0 (freshOf 0) (samplesOf xs))
-unfolding stateFrom
+unfolding stateFrom run
 chain-samples g xs w d = let e = ends g xs [] 0 nothing-accepted 0 (freshOf 0) refl w d in (e .heard, e .state)
 
 -- ---- the theorem
@@ -153,7 +154,7 @@ module _ (g : Settings) (ok : settingsOk g ≡ true) (sus : T (fits binary64 (g 
       (none-done xs t (b .0 .0) (b .0 .1) (p + length (x .part)) (after g v p x xs) (goes-on s t m (b .0 .0) a (b .0 .1) (w .0) p g v r (f .0) (length (x .part))) (w .1) (b .1) (omega arith) (f .1))
 
   pub chain-done : (xs : List Step) → AllAccepted xs → Grows [] xs → samplesOf xs ≤ most → DoneExactly g xs
-  unfolding stateFrom
+  unfolding stateFrom run
   chain-done xs b w l =
       record {
         done-only-if = λ d. done-none g xs [] 0 nothing-accepted 0 (freshOf 0) refl w d;

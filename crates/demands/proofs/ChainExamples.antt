@@ -9,6 +9,7 @@ use lib.Dec.{T}
 use lib.ListN.{replicate}
 use lib.Ieee.{binary64, ofBits, fits, isNan}
 use lib.Ieee.Bits.{ofBits-fits}
+use Rattle.shelf.specs.Shelf.{entryWords}
 use Rattle.floats.specs.Double.{half}
 use Rattle.answers.specs.declared.Answer.the-variants.{Done, Refused}
 use Rattle.answers.specs.declared.Refusal.the-variants.{GivenState}
@@ -73,7 +74,7 @@ pub record OnTime : Type 0 where
   pub growing : Grows [] (played 100)
   pub none-below : NoneAddedBelow [] 0 (played 100)
   pub answers : chainFrom plain (freshOf 0) 0 (played 100) .answers ≡ Done 100 ∷ Done 28 ∷ []
-  pub one-render : OneRender plain (played 100) (replicate 128 half) (replicate 12 0)
+  pub one-render : OneRender plain (played 100) (replicate 128 half) (replicate entryWords 0)
 
 sustain-fits : T (fits binary64 (plain .adsr .sustain))
 sustain-fits = ofBits-fits binary64 0x3fe0_0000_0000_0000
@@ -94,7 +95,7 @@ on-time =
       growing = grows 100;
       none-below = none-100;
       answers = done-100;
-      one-render = chain plain _ _ (grows 100) done-100 (replicate 128 half) (replicate 12 0) refl refl;
+      one-render = chain plain _ _ (grows 100) done-100 (replicate 128 half) (replicate entryWords 0) refl refl;
     }
 
 -- ---- too late

@@ -40,7 +40,7 @@ use Rattle.render.specs.Calls.{renderOf}
 use Rattle.demands.proofs.Honest.{honest}
 use Rattle.rerender.specs.declared.Plan.the-variants.{Nothing}
 use Rattle.rerender.specs.Rerender.{Outcome, leaves, checkedOf, planOf, entryAt, startOf, isStart, fromOf, rerenderOf}
-use Rattle.rerender.proofs.Cases.{plan-equal, plan-late, plan-from}
+use Rattle.rerender.proofs.Cases.{made-is, plan-equal, plan-late, plan-from}
 
 -- what a render of s leaves, of n samples
 abbrev pub soundOf : Settings → List ℕ → ℕ → List Float
@@ -166,7 +166,7 @@ module _ (g : Settings) (old new : List ℕ) (x : Edit g old new) (p : ℕ) (dif
       unfolding rerenderOf fromOf
       demand-3 =
           let there : m < entriesFor (length out) = start-there (length out) p heard in
-          rw (checked g old new x out shelf z, ← plan-from old new (length out) p differs heard, never-8, start-is, sound-after (length out) (omega arith), shelf-after (length out) (omega arith)) refl
+          rw (checked g old new x out shelf z, ← plan-from old new (length out) p differs heard, never-8, made-is g old new m out shelf (z .fits), start-is, sound-after (length out) (omega arith), shelf-after (length out) (omega arith)) refl
 
     -- the same in terms of renders of as many samples: one of the old score left the start entry, and one of the new score is what is heard from the mark on
     module _ (out₁ out₂ : List Float) (shelf₁ shelf₂ : List ℕ) (z₁ : Lent out₁ shelf₁) (z₂ : Lent out₂ shelf₂) (long₁ : length out₁ ≡ length out) (long₂ : length out₂ ≡ length out)

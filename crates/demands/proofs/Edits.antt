@@ -87,7 +87,7 @@ module _ (g : Settings) (old new : List ℕ) (x : Edit g old new) (n : ℕ) (sho
   -- it is done with the samples of its plan, and holds what a render of the new score leaves
   pub record Edited (o : Outcome) : Type 0 where
     pub whole : Whole g new n o
-    pub counted : o .answer ≡ Done (countFor (planOf old new n) n)
+    pub counted : o .answer ≡ Done (countFor g old new (planOf old new n) n)
 
   -- where nothing is made, nothing that is heard has changed
   unchanged : Nothing ≡ planOf old new (length out) → soundOf g old n ≡ soundOf g new n → shelvedOf g old n ≡ shelvedOf g new n → Edited (rerenderOf g old new out shelf)
@@ -152,7 +152,7 @@ module _ (g : Settings) (ok : settingsOk g ≡ true) (w : T (fits binary64 (g .a
       all-edits new rest (b .0) (b .1) (rerenderOf g old new (o .heard) (o .stored)) e
 
   -- every call is done, with the samples of its plan
-  pub all-answers : (old : List ℕ) (news : List (List ℕ)) → Taken old → AllTaken news → (o : Outcome) → Whole g old n o → answersFrom g old news o ≡ allCounted old news n
+  pub all-answers : (old : List ℕ) (news : List (List ℕ)) → Taken old → AllTaken news → (o : Outcome) → Whole g old n o → answersFrom g old news o ≡ allCounted g old news n
   unfolding answersFrom allCounted
   all-answers old [] a b o h = refl
   all-answers old (new ∷ rest) a b o h =
@@ -161,7 +161,7 @@ module _ (g : Settings) (ok : settingsOk g ≡ true) (w : T (fits binary64 (g .a
       let next = rerenderOf g old new (soundOf g old n) (shelvedOf g old n) in
       rw (h .heard-is, h .stored-is)
       (ap (λ (q : Answer). q ∷ answersFrom g new rest next) (r .counted)
-      ∙ ap (λ (l : List Answer). Done (countFor (planOf old new n) n) ∷ l) (all-answers new rest (b .0) (b .1) next (r .whole)))
+      ∙ ap (λ (l : List Answer). Done (countFor g old new (planOf old new n) n) ∷ l) (all-answers new rest (b .0) (b .1) next (r .whole)))
 
   -- the same in terms of renders: one of the first score, then the edits, and one of the last score, each of n samples
   module _ (out out′ : List Float) (shelf shelf′ : List ℕ) (z : Lent out shelf) (z′ : Lent out′ shelf′) (long : length out ≡ n) (long′ : length out′ ≡ n) where

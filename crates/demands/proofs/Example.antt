@@ -15,7 +15,7 @@ use Rattle.score.specs.declared.Verdict.the-variants.{Accepted}
 use Rattle.score.specs.Record.{positionAt}
 use Rattle.score.specs.Score.{markRight, kindRight, fieldsRight, inOrder, verdictAt, verdictFrom, verdictOf}
 use Rattle.score.specs.Apart.{sameTo, firstFrom, differenceOf}
-use Rattle.shelf.specs.Shelf.{wordsFor, entryOf}
+use Rattle.shelf.specs.Shelf.{entryWords, wordsFor, entryOf}
 use Rattle.shelf.proofs.There.{entry-length}
 use Rattle.demands.proofs.ChainExamples.{plain, plain-ok, begins, begins-accepted}
 use Rattle.rerender.specs.Rerender.{leaves, entryAt, rerenderOf}
@@ -47,7 +47,7 @@ abbrev pub out : List Float
 out = replicate 6000 half
 
 abbrev pub shelf : List ℕ
-shelf = replicate 12 7 ++ entryOf (atMark plain begins 1)
+shelf = replicate entryWords 7 ++ entryOf (atMark plain begins 1)
 
 long : length out ≡ 6000
 long = length-replicate 6000 half
@@ -56,12 +56,12 @@ lent : Lent out shelf
 lent =
     record {
       short = omega (arith, long);
-      fits = length-append (replicate 12 7) (entryOf (atMark plain begins 1)) ∙ ap (λ (n : ℕ). 12 + n) (entry-length (atMark plain begins 1)) ∙ sym (ap wordsFor long);
+      fits = length-append (replicate entryWords 7) (entryOf (atMark plain begins 1)) ∙ ap (λ (n : ℕ). entryWords + n) (entry-length (atMark plain begins 1)) ∙ sym (ap wordsFor long);
     }
 
 kept : entryAt shelf 1 ≡ entryOf (atMark plain begins 1)
-kept = take-all 12 (entryOf (atMark plain begins 1)) (omega (arith, entry-length (atMark plain begins 1)))
+kept = take-all entryWords (entryOf (atMark plain begins 1)) (omega (arith, entry-length (atMark plain begins 1)))
 
 pub an-edit-over-rubbish : rerenderOf plain begins edited out shelf
-    ≡ leaves (Done 1904) (take 4096 out ++ drop 4096 (soundOf plain edited 6000)) (take 12 shelf ++ drop 12 (shelvedOf plain edited 6000))
+    ≡ leaves (Done 1904) (take 4096 out ++ drop 4096 (soundOf plain edited 6000)) (take entryWords shelf ++ drop entryWords (shelvedOf plain edited 6000))
 an-edit-over-rubbish = rw long at (demand-3 plain begins edited an-edit 5000 differs out shelf lent (omega (arith, long)) kept)

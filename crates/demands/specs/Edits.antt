@@ -23,6 +23,6 @@ answersFrom g old [] o = []
 answersFrom g old (new ∷ rest) o = let r = rerenderOf g old new (o .heard) (o .stored) in r .answer ∷ answersFrom g new rest r
 
 -- each done, with the samples of its plan, in an output of n
-unfoldable pub allCounted : List ℕ → List (List ℕ) → ℕ → List Answer
-allCounted old [] n = []
-allCounted old (new ∷ rest) n = Done (countFor (planOf old new n) n) ∷ allCounted new rest n
+unfoldable pub allCounted : Settings → List ℕ → List (List ℕ) → ℕ → List Answer
+allCounted g old [] n = []
+allCounted g old (new ∷ rest) n = Done (countFor g old new (planOf old new n) n) ∷ allCounted g new rest n

@@ -13,7 +13,6 @@ use Rattle.answers.specs.declared.Answer.the-variants.{Done, Refused}
 use Rattle.answers.specs.declared.Refusal.{Refusal}
 use Rattle.answers.specs.declared.Refusal.the-variants.{Setting, Size, Argument, GivenState}
 use Rattle.answers.specs.Value.{valueIf}
-use Rattle.envelope.specs.declared.Adsr.{Adsr}
 use Rattle.floats.specs.Double.{naught}
 use Rattle.listing.specs.Listing.{listingOf}
 use Rattle.listing.specs.Outcome.{Listed}
@@ -32,43 +31,43 @@ use Rattle.state.specs.declared.State.{State}
 use Rattle.state.specs.State.{freshOf}
 use Rattle.waveform.specs.declared.Waveform.{Waveform}
 use Rattle.waveform.specs.Waveform.{sampleOf}
+use Rattle.desk.specs.declared.Shape.{Shape}
+use Rattle.desk.specs.declared.Shape.the-variants as shape
 use Rattle.desk.specs.declared.Choice.{Choice}
 use Rattle.desk.specs.declared.Choice.the-variants.{Known, Unknown}
 use Rattle.desk.specs.Packed.{packedOf}
 use Rattle.desk.proofs.Lines.{listing-starts}
-use Rattle.desk.specs.Desk.{Outcome, leaves, fills, settingsOf, singleFor, renderFor, rendered, rerenderFor, rerendered, continueIn, continueFor, freshFor, listRoom, listFor}
+use Rattle.desk.specs.Desk.{Outcome, leaves, fills, singleFor, renderFor, rendered, rerenderFor, rerendered, continueIn, continueFor, freshFor, listRoom, listFor}
 
 -- ---- a single sample
-pub single-known : (choice : Choice) (phase dt : Float) {w : Waveform} → choice ≡ Known w → sampleOf w phase dt ≡ singleFor choice phase dt
-single-known choice phase dt e = rw e refl
+pub single-known : (x : Shape) (phase dt : Float) {w : Waveform} → x ≡ shape.Known w → sampleOf w phase dt ≡ singleFor x phase dt
+single-known x phase dt e = rw e refl
 
-pub single-unknown : (choice : Choice) (phase dt : Float) → choice ≡ Unknown → valueIf false Setting naught ≡ singleFor choice phase dt
-single-unknown choice phase dt e = rw e refl
+pub single-unknown : (x : Shape) (phase dt : Float) → x ≡ shape.Unknown → valueIf false Setting naught ≡ singleFor x phase dt
+single-unknown x phase dt e = rw e refl
 
--- ---- render and re-render
-module _ (choice : Choice) (rate : ℕ) (k : Adsr) (s : List ℕ) (out : List Float) (shelf : List ℕ) where
-  pub render-known : (w : Waveform) → choice ≡ Known w → (g : Settings) → g ≡ settingsOf rate w k → (r : Rendered) (ys : List Float) (ws : List ℕ) → render.leaves r ys ws ≡ renderOf g s out shelf
-      → (word : ℕ) → word ≡ packedOf (r .answer) → leaves word ys ws ≡ renderFor choice rate k s out shelf
-  render-known w e g f r ys ws x word p = rw (e, ← f, p) (ap rendered x)
+-- ---- render, re-render and continue
+module _ (choice : Choice) (g : Settings) (e : choice ≡ Known g) where
+  pub render-known : (s : List ℕ) (out : List Float) (shelf : List ℕ) (r : Rendered) (ys : List Float) (ws : List ℕ) → render.leaves r ys ws ≡ renderOf g s out shelf
+      → (word : ℕ) → word ≡ packedOf (r .answer) → leaves word ys ws ≡ renderFor choice s out shelf
+  render-known s out shelf r ys ws x word p = rw (e, p) (ap rendered x)
 
-  pub render-unknown : choice ≡ Unknown → (word : ℕ) → word ≡ packedOf (Refused Setting) → leaves word out shelf ≡ renderFor choice rate k s out shelf
-  render-unknown e word p = rw (e, p) refl
+  pub rerender-known : (old new : List ℕ) (out : List Float) (shelf : List ℕ) (a : Answer) (ys : List Float) (ws : List ℕ) → rerender.leaves a ys ws ≡ rerenderOf g old new out shelf
+      → (word : ℕ) → word ≡ packedOf a → leaves word ys ws ≡ rerenderFor choice old new out shelf
+  rerender-known old new out shelf a ys ws x word p = rw (e, p) (ap rerendered x)
 
-module _ (choice : Choice) (rate : ℕ) (k : Adsr) (old new : List ℕ) (out : List Float) (shelf : List ℕ) where
-  pub rerender-known : (w : Waveform) → choice ≡ Known w → (g : Settings) → g ≡ settingsOf rate w k → (a : Answer) (ys : List Float) (ws : List ℕ) → rerender.leaves a ys ws ≡ rerenderOf g old new out shelf
-      → (word : ℕ) → word ≡ packedOf a → leaves word ys ws ≡ rerenderFor choice rate k old new out shelf
-  rerender-known w e g f a ys ws x word p = rw (e, ← f, p) (ap rerendered x)
+  pub continue-known : (s ws : List ℕ) (p : ℕ) (part : List Float) (o : Outcome) → o ≡ continueIn (isEntry ws) g s ws p part → o ≡ continueFor choice s ws p part
+  continue-known s ws p part o x = rw e x
 
-  pub rerender-unknown : choice ≡ Unknown → (word : ℕ) → word ≡ packedOf (Refused Setting) → leaves word out shelf ≡ rerenderFor choice rate k old new out shelf
-  rerender-unknown e word p = rw (e, p) refl
+module _ (choice : Choice) (e : choice ≡ Unknown) (word : ℕ) (q : word ≡ packedOf (Refused Setting)) where
+  pub render-unknown : (s : List ℕ) (out : List Float) (shelf : List ℕ) → leaves word out shelf ≡ renderFor choice s out shelf
+  render-unknown s out shelf = rw (e, q) refl
 
--- ---- continue
-module _ (choice : Choice) (rate : ℕ) (k : Adsr) (s ws : List ℕ) (p : ℕ) (part : List Float) where
-  pub continue-known : (w : Waveform) → choice ≡ Known w → (g : Settings) → g ≡ settingsOf rate w k → (o : Outcome) → o ≡ continueIn (isEntry ws) g s ws p part → o ≡ continueFor choice rate k s ws p part
-  continue-known w e g f o x = rw (e, ← f) x
+  pub rerender-unknown : (old new : List ℕ) (out : List Float) (shelf : List ℕ) → leaves word out shelf ≡ rerenderFor choice old new out shelf
+  rerender-unknown old new out shelf = rw (e, q) refl
 
-  pub continue-unknown : choice ≡ Unknown → (word : ℕ) → word ≡ packedOf (Refused Setting) → leaves word part ws ≡ continueFor choice rate k s ws p part
-  continue-unknown e word q = rw (e, q) refl
+  pub continue-unknown : (s ws : List ℕ) (p : ℕ) (part : List Float) → leaves word part ws ≡ continueFor choice s ws p part
+  continue-unknown s ws p part = rw (e, q) refl
 
 module _ (g : Settings) (s ws : List ℕ) (p : ℕ) (part : List Float) (d : Entry) (decoded : d ≡ decodedOf ws) where
   -- the words are no state

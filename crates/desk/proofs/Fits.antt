@@ -35,8 +35,8 @@ use Rattle.state.specs.declared.Settings.{Settings}
 use Rattle.state.specs.Settings.{settingsOk}
 use Rattle.state.specs.declared.State.{State}
 use Rattle.waveform.specs.Waveform.{isWaveform, valueOf}
-use Rattle.desk.specs.declared.Choice.{Choice}
-use Rattle.desk.specs.declared.Choice.the-variants.{Known, Unknown}
+use Rattle.desk.specs.declared.Shape.{Shape}
+use Rattle.desk.specs.declared.Shape.the-variants.{Known, Unknown}
 use Rattle.desk.specs.Desk.{singleFor}
 
 pub record Fits (a : Answer) : Type 0 where
@@ -140,7 +140,7 @@ value-fits : (t : Bool) (why : Refusal) (x : Float) → refusalPlace why ≤ 409
 value-fits true why x p = done-fits 0 (omega arith)
 value-fits false why x p = refused-fits why p
 
-pub single-fits : (choice : Choice) (phase dt : Float) → Fits (singleFor choice phase dt .answer)
+pub single-fits : (x : Shape) (phase dt : Float) → Fits (singleFor x phase dt .answer)
 single-fits Unknown phase dt = refused-fits Setting (omega arith)
 single-fits (Known w) phase dt = go (isWaveform w)
   where
@@ -170,14 +170,14 @@ pub rerender-fits : (g : Settings) (old new : List ℕ) (out : List Float) (shel
 unfolding rerenderOf fromOf
 rerender-fits g old new out shelf = go (checkedOf g old new (length out) (length shelf)) refl
   where
-    from : (m : ℕ) → length out ≤ most → (t : Bool) → Fits (cond {A = Outcome} t (madeFrom g new m out shelf) (leaves (Refused StartEntry) out shelf) .answer)
+    from : (m : ℕ) → length out ≤ most → (t : Bool) → Fits (cond {A = Outcome} t (madeFrom g old new m out shelf) (leaves (Refused StartEntry) out shelf) .answer)
     from m h true = done-fits (length out - m * 4096) (omega arith)
     from m h false = refused-fits StartEntry (omega arith)
 
-    run : (plan : Plan) → length out ≤ most → Fits (runOf g new plan out shelf .answer)
+    run : (plan : Plan) → length out ≤ most → Fits (runOf g old new plan out shelf .answer)
     run Nothing h = done-fits 0 (omega arith)
     run (From m) h = from m h (isStart new m shelf)
 
-    go : (a : Answer) → checkedOf g old new (length out) (length shelf) ≡ a → Fits (afterChecks a g new (planOf old new (length out)) out shelf .answer)
+    go : (a : Answer) → checkedOf g old new (length out) (length shelf) ≡ a → Fits (afterChecks a g old new (planOf old new (length out)) out shelf .answer)
     go (Done n) e = run (planOf old new (length out)) (all-checked g old new (length out) (length shelf) n e .room .short)
     go (Refused why) e = rw e at (judged-fits g (isRoom (length out) (length shelf)) old (newScored (verdictOf new) (Done 0)) (λ h. newly-fits new))

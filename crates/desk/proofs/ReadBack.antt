@@ -18,7 +18,7 @@ use Rattle.score.specs.Score.{verdictOf, answerOf}
 use Rattle.state.specs.declared.Settings.{Settings}
 use Rattle.shelf.specs.Shelf.{stateOf}
 use Rattle.desk.specs.Packed.{packedOf, numbersIn}
-use Rattle.desk.specs.Desk.{choiceOf, checkOf, singleOf, rendered, rerendered, continued, continueIn}
+use Rattle.desk.specs.Desk.{shapeOf, checkOf, singleOf, rendered, rerendered, continued, continueIn}
 use Rattle.desk.proofs.Lines.{listing-fits}
 use Rattle.desk.proofs.Fits.{Fits, done-fits, refused-fits, judged-fits, check-fits, single-fits, render-fits, rerender-fits, continue-fits}
 
@@ -52,7 +52,7 @@ pub check-reads : (s : List ℕ) → numbersIn (checkOf s) ≡ numbersOf (answer
 check-reads s = read-back (answerOf (verdictOf s)) (check-fits s)
 
 pub sample-reads : (code : ℕ) (phase dt duty : Float) → numbersIn (packedOf (singleOf code phase dt duty .answer)) ≡ numbersOf (singleOf code phase dt duty .answer)
-sample-reads code phase dt duty = read-back (singleOf code phase dt duty .answer) (single-fits (choiceOf code duty) phase dt)
+sample-reads code phase dt duty = read-back (singleOf code phase dt duty .answer) (single-fits (shapeOf code duty) phase dt)
 
 -- a code above 4, whatever else is given
 pub unknown-reads : numbersIn (packedOf (Refused Setting)) ≡ numbersOf (Refused Setting)

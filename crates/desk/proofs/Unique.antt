@@ -3,9 +3,10 @@ use mathlib.Core.Path.{_≡_, sym, ap, _∙_}
 use mathlib.Core.List.{List}
 use Prim.Native.Nat.{ℕ}
 use lib.Ieee.{Float}
+use Rattle.desk.specs.declared.Asked.{Asked}
 use Rattle.desk.specs.Packed.{packedOf}
 use Rattle.desk.specs.Version.{version}
-use Rattle.desk.specs.Desk.{Outcome, leaves, Filled, fills, choiceOf, adsrOf, checkOf, singleOf, renderFor, rerenderFor, continueFor, freshFor, listFor}
+use Rattle.desk.specs.Desk.{Outcome, leaves, Filled, fills, choiceOf, checkOf, singleOf, renderFor, rerenderFor, continueFor, freshFor, listFor}
 
 pub gav-version-unique : (r t : ℕ) → r ≡ version → t ≡ version → r ≡ t
 gav-version-unique r t p q = p ∙ sym q
@@ -30,17 +31,17 @@ same-filled o r t a b x y =
     let e : fills r a ≡ fills t b = x ∙ sym y in
     (ap (λ (l : Filled). l .said) e, ap (λ (l : Filled). l .left) e)
 
-pub gav-render-unique : (rate code : ℕ) (duty attack decay sustain release : Float) (s : List ℕ) (out : List Float) (shelf : List ℕ) (r t : ℕ) (a b : List Float) (c d : List ℕ)
-    → leaves r a c ≡ renderFor (choiceOf code duty) rate (adsrOf attack decay sustain release) s out shelf → leaves t b d ≡ renderFor (choiceOf code duty) rate (adsrOf attack decay sustain release) s out shelf → (r ≡ t) × (a ≡ b) × (c ≡ d)
-gav-render-unique rate code duty attack decay sustain release s out shelf r t a b c d x y = same-left (renderFor (choiceOf code duty) rate (adsrOf attack decay sustain release) s out shelf) r t a b c d x y
+pub gav-render-unique : (a : Asked) (s : List ℕ) (out : List Float) (shelf : List ℕ) (r t : ℕ) (ys zs : List Float) (c d : List ℕ)
+    → leaves r ys c ≡ renderFor (choiceOf a) s out shelf → leaves t zs d ≡ renderFor (choiceOf a) s out shelf → (r ≡ t) × (ys ≡ zs) × (c ≡ d)
+gav-render-unique a s out shelf r t ys zs c d x y = same-left (renderFor (choiceOf a) s out shelf) r t ys zs c d x y
 
-pub gav-rerender-unique : (rate code : ℕ) (duty attack decay sustain release : Float) (old new : List ℕ) (out : List Float) (shelf : List ℕ) (r t : ℕ) (a b : List Float) (c d : List ℕ)
-    → leaves r a c ≡ rerenderFor (choiceOf code duty) rate (adsrOf attack decay sustain release) old new out shelf → leaves t b d ≡ rerenderFor (choiceOf code duty) rate (adsrOf attack decay sustain release) old new out shelf → (r ≡ t) × (a ≡ b) × (c ≡ d)
-gav-rerender-unique rate code duty attack decay sustain release old new out shelf r t a b c d x y = same-left (rerenderFor (choiceOf code duty) rate (adsrOf attack decay sustain release) old new out shelf) r t a b c d x y
+pub gav-rerender-unique : (a : Asked) (old new : List ℕ) (out : List Float) (shelf : List ℕ) (r t : ℕ) (ys zs : List Float) (c d : List ℕ)
+    → leaves r ys c ≡ rerenderFor (choiceOf a) old new out shelf → leaves t zs d ≡ rerenderFor (choiceOf a) old new out shelf → (r ≡ t) × (ys ≡ zs) × (c ≡ d)
+gav-rerender-unique a old new out shelf r t ys zs c d x y = same-left (rerenderFor (choiceOf a) old new out shelf) r t ys zs c d x y
 
-pub gav-continue-unique : (rate code : ℕ) (duty attack decay sustain release : Float) (s ws : List ℕ) (p : ℕ) (part : List Float) (r t : ℕ) (a b : List Float) (c d : List ℕ)
-    → leaves r a c ≡ continueFor (choiceOf code duty) rate (adsrOf attack decay sustain release) s ws p part → leaves t b d ≡ continueFor (choiceOf code duty) rate (adsrOf attack decay sustain release) s ws p part → (r ≡ t) × (a ≡ b) × (c ≡ d)
-gav-continue-unique rate code duty attack decay sustain release s ws p part r t a b c d x y = same-left (continueFor (choiceOf code duty) rate (adsrOf attack decay sustain release) s ws p part) r t a b c d x y
+pub gav-continue-unique : (a : Asked) (s ws : List ℕ) (p : ℕ) (part : List Float) (r t : ℕ) (ys zs : List Float) (c d : List ℕ)
+    → leaves r ys c ≡ continueFor (choiceOf a) s ws p part → leaves t zs d ≡ continueFor (choiceOf a) s ws p part → (r ≡ t) × (ys ≡ zs) × (c ≡ d)
+gav-continue-unique a s ws p part r t ys zs c d x y = same-left (continueFor (choiceOf a) s ws p part) r t ys zs c d x y
 
 pub gav-fresh-unique : (ws : List ℕ) (r t : ℕ) (a b : List ℕ) → fills r a ≡ freshFor ws → fills t b ≡ freshFor ws → (r ≡ t) × (a ≡ b)
 gav-fresh-unique ws r t a b x y = same-filled (freshFor ws) r t a b x y

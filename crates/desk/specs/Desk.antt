@@ -12,7 +12,6 @@ use Rattle.answers.specs.declared.Answer.the-variants.{Done, Refused}
 use Rattle.answers.specs.declared.Refusal.the-variants.{Setting, Size, Argument, GivenState}
 use Rattle.answers.specs.declared.Value.{Value}
 use Rattle.answers.specs.Value.{valueIf}
-use Rattle.envelope.specs.declared.Adsr.{Adsr}
 use Rattle.floats.specs.Double.{naught}
 use Rattle.listing.specs.Listing.{listingOf}
 use Rattle.render.specs.Calls as render
@@ -28,6 +27,9 @@ use Rattle.state.specs.State.{freshOf}
 use Rattle.waveform.specs.declared.Waveform.{Waveform}
 use Rattle.waveform.specs.declared.Waveform.the-variants.{Sine, Square, Sawtooth, Triangle, Pulse}
 use Rattle.waveform.specs.Waveform.{sampleOf}
+use Rattle.desk.specs.declared.Asked.{Asked}
+use Rattle.desk.specs.declared.Shape.{Shape}
+use Rattle.desk.specs.declared.Shape.the-variants as shape
 use Rattle.desk.specs.declared.Choice.{Choice}
 use Rattle.desk.specs.declared.Choice.the-variants.{Known, Unknown}
 use Rattle.desk.specs.Packed.{packedOf}
@@ -52,47 +54,56 @@ fills said left = record { said = said; left = left }
 
 -- ---- the settings
 -- codes 0 to 4 in the Rust's order; the duty is Pulse's alone
-abbrev pub choiceOf : ℕ → Float → Choice
-choiceOf code duty =
-    cond (eqb code 0) (Known Sine)
-    (cond (eqb code 1) (Known Square)
-    (cond (eqb code 2) (Known Sawtooth)
-    (cond (eqb code 3) (Known Triangle)
-    (cond (eqb code 4) (Known (Pulse duty)) Unknown))))
+abbrev pub shapeOf : ℕ → Float → Shape
+shapeOf code duty =
+    cond (eqb code 0) (shape.Known Sine)
+    (cond (eqb code 1) (shape.Known Square)
+    (cond (eqb code 2) (shape.Known Sawtooth)
+    (cond (eqb code 3) (shape.Known Triangle)
+    (cond (eqb code 4) (shape.Known (Pulse duty)) shape.Unknown))))
 
-abbrev pub adsrOf : Float → Float → Float → Float → Adsr
-adsrOf attack decay sustain release = record { attack = attack; decay = decay; sustain = sustain; release = release }
+-- what a host asks, number by number
+abbrev pub asks : ℕ → ℕ → Float → Float → Float → Float → Float → Asked
+asks rate code duty attack decay sustain release = record { rate = rate; code = code; duty = duty; attack = attack; decay = decay; sustain = sustain; release = release }
 
-abbrev pub settingsOf : ℕ → Waveform → Adsr → Settings
-settingsOf rate w k = record { rate = rate; waveform = w; adsr = k }
+-- the settings that are asked for, or unknown
+abbrev pub settingsOf : Asked → Waveform → Settings
+settingsOf a w = record { rate = a .rate; waveform = w; adsr = record { attack = a .attack; decay = a .decay; sustain = a .sustain; release = a .release } }
+
+abbrev pub choiceFor : Shape → Asked → Choice
+choiceFor (shape.Known w) a = Known (settingsOf a w)
+choiceFor shape.Unknown a = Unknown
+
+unfoldable pub choiceOf : Asked → Choice
+choiceOf a = choiceFor (shapeOf (a .code) (a .duty)) a
 
 -- ---- the score's check
 abbrev pub checkOf : List ℕ → ℕ
 checkOf s = packedOf (answerOf (verdictOf s))
 
 -- ---- a single sample; a code above 4 is 6 and +0
-abbrev pub singleFor : Choice → Float → Float → Value
-singleFor (Known w) phase dt = sampleOf w phase dt
-singleFor Unknown phase dt = valueIf false Setting naught
+abbrev pub singleFor : Shape → Float → Float → Value
+singleFor (shape.Known w) phase dt = sampleOf w phase dt
+singleFor shape.Unknown phase dt = valueIf false Setting naught
 
 abbrev pub singleOf : ℕ → Float → Float → Float → Value
-singleOf code phase dt duty = singleFor (choiceOf code duty) phase dt
+singleOf code phase dt duty = singleFor (shapeOf code duty) phase dt
 
 -- ---- render: a code above 4 is 6, which comes before all else
 abbrev pub rendered : render.Outcome → Outcome
 rendered o = leaves (packedOf (o .result .answer)) (o .heard) (o .stored)
 
-abbrev pub renderFor : Choice → ℕ → Adsr → List ℕ → List Float → List ℕ → Outcome
-renderFor (Known w) rate k s out shelf = rendered (renderOf (settingsOf rate w k) s out shelf)
-renderFor Unknown rate k s out shelf = leaves (packedOf (Refused Setting)) out shelf
+abbrev pub renderFor : Choice → List ℕ → List Float → List ℕ → Outcome
+renderFor (Known g) s out shelf = rendered (renderOf g s out shelf)
+renderFor Unknown s out shelf = leaves (packedOf (Refused Setting)) out shelf
 
 -- ---- re-render
 abbrev pub rerendered : rerender.Outcome → Outcome
 rerendered o = leaves (packedOf (o .answer)) (o .heard) (o .stored)
 
-abbrev pub rerenderFor : Choice → ℕ → Adsr → List ℕ → List ℕ → List Float → List ℕ → Outcome
-rerenderFor (Known w) rate k old new out shelf = rerendered (rerenderOf (settingsOf rate w k) old new out shelf)
-rerenderFor Unknown rate k old new out shelf = leaves (packedOf (Refused Setting)) out shelf
+abbrev pub rerenderFor : Choice → List ℕ → List ℕ → List Float → List ℕ → Outcome
+rerenderFor (Known g) old new out shelf = rerendered (rerenderOf g old new out shelf)
+rerenderFor Unknown old new out shelf = leaves (packedOf (Refused Setting)) out shelf
 
 -- ---- continue: a state is its twelve words, and comes back in them
 -- the words ws after a call: those of the state v, or refused as they came
@@ -108,9 +119,9 @@ abbrev pub continueIn : Bool → Settings → List ℕ → List ℕ → ℕ → 
 continueIn true g s ws p part = continued (continueOf g s (stateOf ws) p part) ws
 continueIn false g s ws p part = leaves (packedOf (judgedOf g (isStretch p (length part)) s (Refused GivenState))) part ws
 
-abbrev pub continueFor : Choice → ℕ → Adsr → List ℕ → List ℕ → ℕ → List Float → Outcome
-continueFor (Known w) rate k s ws p part = continueIn (isEntry ws) (settingsOf rate w k) s ws p part
-continueFor Unknown rate k s ws p part = leaves (packedOf (Refused Setting)) part ws
+abbrev pub continueFor : Choice → List ℕ → List ℕ → ℕ → List Float → Outcome
+continueFor (Known g) s ws p part = continueIn (isEntry ws) g s ws p part
+continueFor Unknown s ws p part = leaves (packedOf (Refused Setting)) part ws
 
 -- ---- the fresh state in twelve words; another number of them is 9
 abbrev pub freshFor : List ℕ → Filled

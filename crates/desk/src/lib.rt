@@ -6,7 +6,7 @@ ghost use mathlib.Core.Path.{_≡_};
 ghost use Rattle.shelf.specs.Shelf.{isEntry};
 ghost use Rattle.desk.specs.Packed.{packedOf};
 ghost use Rattle.desk.specs.Version.{version};
-ghost use Rattle.desk.specs.Desk.{leaves, fills, choiceOf, adsrOf, settingsOf, checkOf, singleOf, renderFor, rerenderFor, continueIn, continueFor, freshFor, listFor};
+ghost use Rattle.desk.specs.Desk.{leaves, fills, shapeOf, asks, settingsOf, choiceOf, checkOf, singleOf, renderFor, rerenderFor, continueIn, continueFor, freshFor, listFor};
 use answers::Answer;
 use answers::Refusal;
 use answers::Value;
@@ -18,9 +18,26 @@ use waveform::Waveform;
 // GAV_VERSION of the header.
 const VERSION: u32 = 1;
 
+// What a host asks of the voice, in its own numbers.
+pub struct Asked {
+    pub rate: u32,
+    pub code: u32,
+    pub duty: f64,
+    pub attack: f64,
+    pub decay: f64,
+    pub sustain: f64,
+    pub release: f64,
+}
+
 // The waveform of a code, where it has one.
-enum Choice {
+pub enum Shape {
     Known(Waveform),
+    Unknown,
+}
+
+// The settings that are asked for, where their code has a waveform.
+pub enum Choice {
+    Known(Settings),
     Unknown,
 }
 
@@ -73,13 +90,20 @@ pub extern "C" fn gav_render(
     out: &mut [f64],
     shelf: &mut [u64],
 ) -> u64
-    ensures { λ r. ⌜ leaves r (now (out .exit)) (now (shelf .exit)) ≡ renderFor (choiceOf code duty) rate (adsrOf attack decay sustain release) (now (score .entry)) (now (out .entry)) (now (shelf .entry)) ⌝ }
+    ensures { λ r. ⌜ leaves r (now (out .exit)) (now (shelf .exit)) ≡ renderFor (choiceOf (asks rate code duty attack decay sustain release)) (now (score .entry)) (now (out .entry)) (now (shelf .entry)) ⌝ }
 {
-    let choice = choice_of(code, duty);
-    let Choice::Known(waveform) = choice else {
+    let choice = choice_of(Asked {
+        rate,
+        code,
+        duty,
+        attack,
+        decay,
+        sustain,
+        release,
+    });
+    let Choice::Known(settings) = choice else {
         return packed(Answer::Refused(Refusal::Setting));
     };
-    let settings = settings_of(rate, waveform, attack, decay, sustain, release);
     let rendered = render::render(settings, score, out, shelf);
     let answer = rendered.answer;
     packed(answer)
@@ -100,13 +124,20 @@ pub extern "C" fn gav_rerender(
     out: &mut [f64],
     shelf: &mut [u64],
 ) -> u64
-    ensures { λ r. ⌜ leaves r (now (out .exit)) (now (shelf .exit)) ≡ rerenderFor (choiceOf code duty) rate (adsrOf attack decay sustain release) (now (old .entry)) (now (new .entry)) (now (out .entry)) (now (shelf .entry)) ⌝ }
+    ensures { λ r. ⌜ leaves r (now (out .exit)) (now (shelf .exit)) ≡ rerenderFor (choiceOf (asks rate code duty attack decay sustain release)) (now (old .entry)) (now (new .entry)) (now (out .entry)) (now (shelf .entry)) ⌝ }
 {
-    let choice = choice_of(code, duty);
-    let Choice::Known(waveform) = choice else {
+    let choice = choice_of(Asked {
+        rate,
+        code,
+        duty,
+        attack,
+        decay,
+        sustain,
+        release,
+    });
+    let Choice::Known(settings) = choice else {
         return packed(Answer::Refused(Refusal::Setting));
     };
-    let settings = settings_of(rate, waveform, attack, decay, sustain, release);
     packed(rerender::rerender(settings, old, new, out, shelf))
 }
 
@@ -125,13 +156,20 @@ pub extern "C" fn gav_continue(
     position: u64,
     part: &mut [f64],
 ) -> u64
-    ensures { λ r. ⌜ leaves r (now (part .exit)) (now (state .exit)) ≡ continueFor (choiceOf code duty) rate (adsrOf attack decay sustain release) (now (score .entry)) (now (state .entry)) position (now (part .entry)) ⌝ }
+    ensures { λ r. ⌜ leaves r (now (part .exit)) (now (state .exit)) ≡ continueFor (choiceOf (asks rate code duty attack decay sustain release)) (now (score .entry)) (now (state .entry)) position (now (part .entry)) ⌝ }
 {
-    let choice = choice_of(code, duty);
-    let Choice::Known(waveform) = choice else {
+    let choice = choice_of(Asked {
+        rate,
+        code,
+        duty,
+        attack,
+        decay,
+        sustain,
+        release,
+    });
+    let Choice::Known(settings) = choice else {
         return packed(Answer::Refused(Refusal::Setting));
     };
-    let settings = settings_of(rate, waveform, attack, decay, sustain, release);
     continue_in(settings, score, state, position, part)
 }
 
@@ -169,37 +207,40 @@ fn packed(answer: Answer) -> u64
     numbers.number as u64 + 256 * place + 0x1_0000_0000 * count
 }
 
-fn choice_of(code: u32, duty: f64) -> Choice
-    ensures { λ r. ⌜ r ≡ choiceOf code duty ⌝ }
+fn shape_of(code: u32, duty: f64) -> Shape
+    ensures { λ r. ⌜ r ≡ shapeOf code duty ⌝ }
 {
     match code {
-        0 => Choice::Known(Waveform::Sine),
-        1 => Choice::Known(Waveform::Square),
-        2 => Choice::Known(Waveform::Sawtooth),
-        3 => Choice::Known(Waveform::Triangle),
-        4 => Choice::Known(Waveform::Pulse(duty)),
-        _ => Choice::Unknown,
+        0 => Shape::Known(Waveform::Sine),
+        1 => Shape::Known(Waveform::Square),
+        2 => Shape::Known(Waveform::Sawtooth),
+        3 => Shape::Known(Waveform::Triangle),
+        4 => Shape::Known(Waveform::Pulse(duty)),
+        _ => Shape::Unknown,
     }
 }
 
-fn settings_of(
-    rate: u32,
-    waveform: Waveform,
-    attack: f64,
-    decay: f64,
-    sustain: f64,
-    release: f64,
-) -> Settings
-    ensures { λ r. ⌜ r ≡ settingsOf rate waveform (adsrOf attack decay sustain release) ⌝ }
+fn choice_of(asked: Asked) -> Choice
+    ensures { λ r. ⌜ r ≡ choiceOf asked ⌝ }
+{
+    let shape = shape_of(asked.code, asked.duty);
+    match shape {
+        Shape::Known(waveform) => Choice::Known(settings_of(asked, waveform)),
+        Shape::Unknown => Choice::Unknown,
+    }
+}
+
+fn settings_of(asked: Asked, waveform: Waveform) -> Settings
+    ensures { λ r. ⌜ r ≡ settingsOf asked waveform ⌝ }
 {
     Settings {
-        rate,
+        rate: asked.rate,
         waveform,
         adsr: Adsr {
-            attack,
-            decay,
-            sustain,
-            release,
+            attack: asked.attack,
+            decay: asked.decay,
+            sustain: asked.sustain,
+            release: asked.release,
         },
     }
 }
@@ -207,10 +248,10 @@ fn settings_of(
 fn single(code: u32, phase: f64, dt: f64, duty: f64) -> Value
     ensures { λ r. ⌜ r ≡ singleOf code phase dt duty ⌝ }
 {
-    let choice = choice_of(code, duty);
-    match choice {
-        Choice::Known(waveform) => waveform::sample(waveform, phase, dt),
-        Choice::Unknown => answers::value_if(false, Refusal::Setting, 0.0),
+    let shape = shape_of(code, duty);
+    match shape {
+        Shape::Known(waveform) => waveform::sample(waveform, phase, dt),
+        Shape::Unknown => answers::value_if(false, Refusal::Setting, 0.0),
     }
 }
 

@@ -3,15 +3,16 @@
 use mathlib.Core.Path.{_≡_, refl, sym, subst}
 use mathlib.Core.Bool.{Bool, true, false, _&&_}
 use mathlib.Core.List.{List, [], _∷_}
-use Prim.Native.Nat.{ℕ, zero, suc, _<_}
+use Prim.Native.Nat.{ℕ, suc, _<_}
 use lib.Dec.{T}
 use lib.ListN.{length, getD}
 use lib.Ieee.{Float, nan, binary64, fits}
 use lib.Ieee.Fits.{and-l, and-r}
 use Rattle.floats.specs.Range.{within}
 use Rattle.floats.specs.Double.{naught, one}
+use Rattle.runs.proofs.Laws.{repeated-keeps}
 use Rattle.envelope.specs.Limits.{isAdsr, isRate, isEnvelope, clampedOf, sampleTimeOf}
-use Rattle.envelope.specs.Stages.{freshOf, triggeredOf, releasedOf}
+use Rattle.envelope.specs.Stages.{freshOf, stepOf, triggeredOf, releasedOf}
 use Rattle.envelope.specs.Running.{envelopeFrom, levelsFrom}
 use Rattle.envelope.specs.Calls.{judgedOf, handedOf, changedOf, newOf, noteOnOf, noteOffOf, resetOf, processOf}
 use Rattle.envelope.specs.declared.Adsr.{Adsr}
@@ -25,8 +26,7 @@ use Rattle.envelope.proofs.RunsOn.{level-at}
 module _ (k : Adsr) (rate : ℕ) (e : Envelope) (a : T (isAdsr k)) (w : T (fits binary64 (k .sustain))) (r : T (isRate rate)) (h : T (isEnvelope e)) where
   pub run-keeps : (n : ℕ) → T (isEnvelope (envelopeFrom (clampedOf k) (sampleTimeOf rate) e n))
   unfolding envelopeFrom
-  run-keeps zero = h
-  run-keeps (suc n) = step-keeps k rate (envelopeFrom (clampedOf k) (sampleTimeOf rate) e n) a w r (run-keeps n)
+  run-keeps = repeated-keeps (stepOf (clampedOf k) (sampleTimeOf rate)) e (λ (x : Envelope). T (isEnvelope x)) (λ x. step-keeps k rate x a w r) h
 
   -- every level lies from 0 to 1
   pub levels-in : (i n : ℕ) → i < n → T (within naught one (getD (levelsFrom (clampedOf k) (sampleTimeOf rate) e n) i nan))

@@ -8,6 +8,7 @@ use lib.IntN.{pos, negsuc}
 use lib.ListN.{length, getD}
 use lib.Ieee.{Float, nan, fin, ofBits, ofInt, isNan, add, sub, mul, div, le, lt}
 use Rattle.floats.specs.Range.{nought}
+use Rattle.runs.specs.Runs.{run}
 use Rattle.answers.specs.declared.Answer.the-variants.{Done}
 use Rattle.envelope.specs.Limits.{isAdsr, isRate, isEnvelope, clampedOf, sampleTimeOf}
 use Rattle.envelope.specs.Stages.{stepOf}
@@ -35,7 +36,7 @@ peak = record { stage = Attack; level = fin false 4095 (negsuc 11); «stage_time
 
 -- the only long computation
 to-peak : envelopeFrom adsr tick start 4096 ≡ peak
-unfolding envelopeFrom stepOf ofBits add sub mul div le
+unfolding run envelopeFrom stepOf ofBits add sub mul div le
 to-peak = refl
 
 -- from there on, with the long way kept shut
@@ -43,11 +44,11 @@ from-peak : (j : ℕ) → envelopeFrom adsr tick start (4096 + j) ≡ envelopeFr
 from-peak j = envelope-runs-on adsr tick start 4096 j ∙ ap (λ (e : Envelope). envelopeFrom adsr tick e j) to-peak
 
 one-on : envelopeFrom adsr tick peak 1 .level ≡ fin false 1 (pos 0)
-unfolding envelopeFrom stepOf ofBits add sub mul div le
+unfolding run envelopeFrom stepOf ofBits add sub mul div le
 one-on = refl
 
 two-on : envelopeFrom adsr tick peak 2 .level ≡ fin false 8191 (negsuc 12)
-unfolding envelopeFrom stepOf ofBits add sub mul div le
+unfolding run envelopeFrom stepOf ofBits add sub mul div le
 two-on = refl
 
 -- ---- the call: it is done, and its levels are these

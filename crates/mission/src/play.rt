@@ -7,6 +7,7 @@ use crate::sheets::Score;
 use crate::sheets::Sheet;
 use answers::Numbers;
 use render::Rendered;
+use state::Settings;
 use state::State;
 
 // What was said, the state that was handed back, and what was lent, as it was left.
@@ -174,7 +175,12 @@ pub fn stepped(
     let mut state = given;
     let mut i = n - lent::at_most(says.count, n);
     while i < n {
-        state = begun(sheet, state, std::num::wrapping_add_u64(position, i as u64));
+        state = begun(
+            settings,
+            sheet,
+            state,
+            std::num::wrapping_add_u64(position, i as u64),
+        );
         out[i] = state::sample_of(settings, state);
         state = state::advance(settings, state);
         i += 1;
@@ -189,21 +195,22 @@ pub fn stepped(
 }
 
 // The state in which sample n is taken.
-fn begun(sheet: Sheet, given: State, n: u64) -> State {
+fn begun(settings: Settings, sheet: Sheet, given: State, n: u64) -> State {
     let next = std::num::wrapping_add_u64(n, 1);
     if (n % 64 == 0) | (sheets::below(sheet, n) < sheets::below(sheet, next)) {
-        return acted(sheet, state::reduce(given), n);
+        return acted(settings, sheet, state::reduce(given), n);
     }
     given
 }
 
-fn acted(sheet: Sheet, given: State, n: u64) -> State {
+fn acted(settings: Settings, sheet: Sheet, given: State, n: u64) -> State {
     let mut state = given;
     let mut i = 0;
     while i < 24 {
         let record = sheet[i];
         if sheets::position_of(record) == n {
-            state = state::act(state, state::event_of(sheets::record_of(record)));
+            let event = state::event_of(settings, sheets::record_of(record));
+            state = state::act(settings, state, event);
         }
         i += 1;
     }

@@ -2,10 +2,11 @@
 use mathlib.Core.Path.{_≡_, refl}
 use mathlib.Core.Bool.{true}
 use mathlib.Core.List.{List}
-use Prim.Native.Nat.{ℕ, zero, suc}
+use Prim.Native.Nat.{ℕ}
 use lib.Dec.{T}
 use lib.ListN.{length}
 use lib.Ieee.{Float, binary64, ofBits, le, fits}
+use Rattle.runs.proofs.Listed.{listed-same}
 use Rattle.floats.specs.Range.{within}
 use Rattle.floats.specs.Double.{_⊗_, naught, one}
 use Rattle.floats.proofs.Literals.{lit1-is}
@@ -13,7 +14,7 @@ use Rattle.floats.proofs.OneWay.{times-one}
 use Rattle.answers.specs.declared.Answer.the-variants.{Done}
 use Rattle.waveform.specs.declared.Waveform.{Waveform}
 use Rattle.waveform.specs.Waveform.{invTau, normalOf, incrementOf}
-use Rattle.waveform.specs.Filled.{phaseFrom, valueAt, samplesFrom}
+use Rattle.waveform.specs.Filled.{phaseFrom, valueAt, samplesBy, samplesFrom}
 use Rattle.waveform.proofs.Values.{value-fits}
 use Rattle.blocks.specs.Block.{isTone, runOf}
 use Rattle.blocks.specs.declared.Tone.{Tone}
@@ -26,10 +27,8 @@ one-times : (x : Float) → T (fits binary64 x) → x ⊗ one ≡ x
 one-times x w = rw (lit1-is binary64) (times-one binary64 x w)
 
 pub samples-are-values : (w : Waveform) (step p : Float) (k : ℕ) → samplesFrom w step one p k ≡ valuesFrom w step p k
-unfolding samplesFrom valuesFrom
-samples-are-values w step p zero = refl
-samples-are-values w step p (suc k) =
-    rw (samples-are-values w step p k, one-times (valueAt w step (phaseFrom step p k)) (value-fits w (normalOf (phaseFrom step p k)) (step ⊗ invTau))) refl
+unfolding samplesBy valuesFrom
+samples-are-values w step p k = listed-same _ _ k (λ i l. one-times (valueAt w step (phaseFrom step p i)) (value-fits w (normalOf (phaseFrom step p i)) (step ⊗ invTau)))
 
 -- the block as a tone
 abbrev pub toneOf : OscillatorBlock → Tone

@@ -3,10 +3,11 @@
 -- oscillator.rs decides the rest: a note's frequency, where it is set, goes before the block's own; the frequency that does not sound is not judged. A setting is judged by the call that
 -- uses it, which is `process`: the other calls refuse nothing. Definitions only.
 use mathlib.Core.Bool.{_&&_}
-use mathlib.Core.List.{List, [], _∷_, _++_}
-use Prim.Native.Nat.{ℕ, zero, suc}
+use mathlib.Core.List.{List}
+use Prim.Native.Nat.{ℕ}
 use lib.ListN.{length}
 use lib.Ieee.{Float, binary64, ofBits}
+use Rattle.runs.specs.Runs.{listed}
 use Rattle.floats.specs.Range.{within}
 use Rattle.floats.specs.Double.{naught}
 use Rattle.waveform.specs.declared.Radians.{Radians}
@@ -48,8 +49,7 @@ playedOf b = soundsAt (b .«midi_frequency») (b .frequency)
 
 -- the first k values
 unfoldable pub valuesFrom : Waveform → Float → Float → ℕ → List Float
-valuesFrom w step p zero = []
-valuesFrom w step p (suc k) = valuesFrom w step p k ++ (valueAt w step (phaseFrom step p k) ∷ [])
+valuesFrom w step p k = listed (λ (i : ℕ). valueAt w step (phaseFrom step p i)) k
 
 -- what it leaves: its result, and the lent numbers
 pub record Outcome : Type 0 where

@@ -1,11 +1,11 @@
 -- The plan, its run and the call, case by case. Assumes nothing.
 use mathlib.Core.Path.{_≡_, refl, sym, _∙_}
 use mathlib.Core.Bool.{Bool, true, false, cond, _&&_}
-use mathlib.Core.List.{List}
+use mathlib.Core.List.{List, _++_, append-nil}
 use Prim.Native.Nat.{ℕ, suc, _-_, _*_, _/_, _≤_, _<_}
 use native.Mathlib.Omega.{arith}
 use lib.Dec.{ltb}
-use lib.ListN.{length}
+use lib.ListN.{length, take, drop-of-length-le}
 use lib.Ieee.{Float}
 use borrow.Author.Tests.{lt-ltb, le-ltb, ltb-true}
 use Rattle.answers.specs.declared.Answer.the-variants.{Done, Refused}
@@ -21,10 +21,11 @@ use Rattle.score.specs.Apart.{differenceOf}
 use Rattle.score.proofs.Parted.{clash}
 use Rattle.score.proofs.Codec.{both}
 use Rattle.score.proofs.Cuts.{parts-cut, parts-count}
-use Rattle.shelf.specs.Shelf.{mark, entriesFor, wordsFor, isEntry}
+use Rattle.shelf.specs.Shelf.{mark, entryWords, entriesFor, wordsFor, isEntry, shelfOf}
 use Rattle.shelf.proofs.Count.{start-there}
 use Rattle.state.specs.declared.Settings.{Settings}
 use Rattle.state.specs.Settings.{settingsOk}
+use Rattle.state.specs.Heart.{samplesFrom, entriesFrom}
 use Rattle.spans.specs.declared.Place.{Place}
 use Rattle.spans.specs.Walk.{placeOf}
 use Rattle.sections.specs.Sections as sections
@@ -34,7 +35,7 @@ use Rattle.render.specs.Order.{isRoom}
 use Rattle.render.proofs.Judging.{Passed, all-passed, Roomy, roomy}
 use Rattle.rerender.specs.declared.Plan.{Plan}
 use Rattle.rerender.specs.declared.Plan.the-variants.{Nothing, From}
-use Rattle.rerender.specs.Rerender.{leaves, newScored, checkedOf, planFor, planOf, entryAt, startOf, isStart, fromOf, runOf, rerenderOf}
+use Rattle.rerender.specs.Rerender.{leaves, newScored, checkedOf, planFor, planOf, entryAt, startOf, isStart, between, madeFrom, fromOf, runOf, rerenderOf}
 
 -- ---- the plan
 module _ (old new : List ℕ) (n : ℕ) where
@@ -80,7 +81,11 @@ pub plan-there : (old new : List ℕ) (n m : ℕ) → planOf old new n ≡ From 
 plan-there old new n m h = let p : Planned old new n m = plan-says old new n m h in rw (p .mark-is) (start-there n (p .change) (p .heard))
 
 -- ---- the run
-module _ (g : Settings) (new : List ℕ) (m : ℕ) (out : List Float) (shelf : List ℕ) where
+-- up to the end
+pub none-after : {A : Type 0} (a b : ℕ) (xs ys : List A) → length xs ≤ b → between a b xs ys ≡ take a xs ++ ys
+none-after a b xs ys h = rw (drop-of-length-le xs {i = b} h, append-nil ys) refl
+
+module _ (g : Settings) (old new : List ℕ) (m : ℕ) (out : List Float) (shelf : List ℕ) where
   -- the entry is looked at through two records of the new score
   abbrev starts : Bool
   starts = isEntry (entryAt shelf m) && partsAt new (startOf shelf m .acted) (m * mark)
@@ -88,18 +93,24 @@ module _ (g : Settings) (new : List ℕ) (m : ℕ) (out : List Float) (shelf : L
   start-is : Sorted new → isStart new m shelf ≡ starts
   start-is o = rw (parts-count new o (startOf shelf m .acted) (m * mark)) refl
 
-  pub from-refused : Sorted new → starts ≡ false → leaves (Refused StartEntry) out shelf ≡ fromOf g new m out shelf
+  pub from-refused : Sorted new → starts ≡ false → leaves (Refused StartEntry) out shelf ≡ fromOf g old new m out shelf
   unfolding fromOf
   from-refused o e = rw (start-is o ∙ e) refl
 
+  -- where the shelf fits, nothing stands from the stop on
+  pub made-is : length shelf ≡ wordsFor (length out) → madeFrom g old new m out shelf
+      ≡ leaves (Done (length out - m * mark)) (take (m * mark) out ++ samplesFrom g new (m * mark) (startOf shelf m) (length out - m * mark))
+      (take (m * entryWords) shelf ++ shelfOf (entriesFrom g new m (startOf shelf m) (entriesFor (length out) - m)))
+  made-is f = rw (none-after (m * mark) (length out) out _ (omega arith), none-after (m * entryWords) (entriesFor (length out) * entryWords) shelf _ (omega arith)) refl
+
   pub from-made : Sorted new → length shelf ≡ wordsFor (length out) → starts ≡ true
       → (p : Place) (ys : List Float) (ws : List ℕ) → sections.leaves p ys ws ≡ playOnOf g new m (placeOf (startOf shelf m) (startOf shelf m .acted)) out shelf
-      → leaves (Done (length out - m * mark)) ys ws ≡ fromOf g new m out shelf
+      → leaves (Done (length out - m * mark)) ys ws ≡ fromOf g old new m out shelf
   unfolding fromOf
   from-made o f e p ys ws x =
       let cut : Cut new (m * mark) (startOf shelf m .acted) = parts-cut new o _ _ (both (isEntry (entryAt shelf m)) _ e .1) in
       let d = made g new o m (startOf shelf m .acted) (startOf shelf m) cut out shelf f in
-      rw (start-is o ∙ e, ← d .heard-is, ← d .stored-is, ← x) refl
+      rw (start-is o ∙ e, made-is f, ← d .heard-is, ← d .stored-is, ← x) refl
 
 -- ---- the call
 pub newly-refused : (new : List ℕ) (v : Verdict) → verdictOf new ≡ v → newScored v (Done 0) ≡ newScored (verdictOf new) (Done 0)
@@ -130,6 +141,6 @@ module _ (g : Settings) (old new : List ℕ) (out : List Float) (shelf : List �
   unfolding rerenderOf
   checks-refuse why e = rw e refl
 
-  pub checks-pass : (k : ℕ) → checkedOf g old new (length out) (length shelf) ≡ Done k → (plan : Plan) → planOf old new (length out) ≡ plan → runOf g new plan out shelf ≡ rerenderOf g old new out shelf
+  pub checks-pass : (k : ℕ) → checkedOf g old new (length out) (length shelf) ≡ Done k → (plan : Plan) → planOf old new (length out) ≡ plan → runOf g old new plan out shelf ≡ rerenderOf g old new out shelf
   unfolding rerenderOf
   checks-pass k e plan q = rw (e, q) refl

@@ -63,36 +63,40 @@ startOf shelf m = stateOf (entryAt shelf m)
 abbrev pub isStart : List ℕ → ℕ → List ℕ → Bool
 isStart new m shelf = isEntry (entryAt shelf m) && eqb (startOf shelf m .acted) (countBelow new (m * mark))
 
--- where the samples end: with the output
-abbrev pub endOf : ℕ → ℕ
-endOf n = n
+-- the sample at which it stops, of an output of n: the end, whatever the scores and the shelf are
+abbrev pub stopOf : Settings → List ℕ → List ℕ → ℕ → ℕ → ℕ
+stopOf g old new m n = n
 
--- what lies before the mark stays as it came
-abbrev pub madeFrom : Settings → List ℕ → ℕ → List Float → List ℕ → Outcome
-madeFrom g new m out shelf =
-    let n = length out in
+-- xs with ys in the place of what stands from a to b
+abbrev pub between : {A : Type 0} → ℕ → ℕ → List A → List A → List A
+between a b xs ys = take a xs ++ (ys ++ drop b xs)
+
+-- what lies before the mark, and from the stop on, stays as it came
+abbrev pub madeFrom : Settings → List ℕ → List ℕ → ℕ → List Float → List ℕ → Outcome
+madeFrom g old new m out shelf =
+    let stop = stopOf g old new m (length out) in
     let v = startOf shelf m in
     leaves
-    (Done (endOf n - m * mark))
-    (take (m * mark) out ++ samplesFrom g new (m * mark) v (endOf n - m * mark))
-    (take (m * entryWords) shelf ++ shelfOf (entriesFrom g new m v (entriesFor (endOf n) - m)))
+    (Done (stop - m * mark))
+    (between (m * mark) stop out (samplesFrom g new (m * mark) v (stop - m * mark)))
+    (between (m * entryWords) (entriesFor stop * entryWords) shelf (shelfOf (entriesFrom g new m v (entriesFor stop - m))))
 
-unfoldable pub fromOf : Settings → List ℕ → ℕ → List Float → List ℕ → Outcome
-fromOf g new m out shelf = cond (isStart new m shelf) (madeFrom g new m out shelf) (leaves (Refused StartEntry) out shelf)
+unfoldable pub fromOf : Settings → List ℕ → List ℕ → ℕ → List Float → List ℕ → Outcome
+fromOf g old new m out shelf = cond (isStart new m shelf) (madeFrom g old new m out shelf) (leaves (Refused StartEntry) out shelf)
 
-abbrev pub runOf : Settings → List ℕ → Plan → List Float → List ℕ → Outcome
-runOf g new Nothing out shelf = leaves (Done 0) out shelf
-runOf g new (From m) out shelf = fromOf g new m out shelf
+abbrev pub runOf : Settings → List ℕ → List ℕ → Plan → List Float → List ℕ → Outcome
+runOf g old new Nothing out shelf = leaves (Done 0) out shelf
+runOf g old new (From m) out shelf = fromOf g old new m out shelf
 
 -- ---- the call
-abbrev pub afterChecks : Answer → Settings → List ℕ → Plan → List Float → List ℕ → Outcome
-afterChecks (Done n) g new plan out shelf = runOf g new plan out shelf
-afterChecks (Refused why) g new plan out shelf = leaves (Refused why) out shelf
+abbrev pub afterChecks : Answer → Settings → List ℕ → List ℕ → Plan → List Float → List ℕ → Outcome
+afterChecks (Done n) g old new plan out shelf = runOf g old new plan out shelf
+afterChecks (Refused why) g old new plan out shelf = leaves (Refused why) out shelf
 
 unfoldable pub rerenderOf : Settings → List ℕ → List ℕ → List Float → List ℕ → Outcome
-rerenderOf g old new out shelf = afterChecks (checkedOf g old new (length out) (length shelf)) g new (planOf old new (length out)) out shelf
+rerenderOf g old new out shelf = afterChecks (checkedOf g old new (length out) (length shelf)) g old new (planOf old new (length out)) out shelf
 
 -- how many samples a plan makes, of an output of n
-abbrev pub countFor : Plan → ℕ → ℕ
-countFor Nothing n = 0
-countFor (From m) n = endOf n - m * mark
+abbrev pub countFor : Settings → List ℕ → List ℕ → Plan → ℕ → ℕ
+countFor g old new Nothing n = 0
+countFor g old new (From m) n = stopOf g old new m n - m * mark

@@ -43,7 +43,7 @@ pub fn rerender(
     let plan = planned(old, new, out.len());
     match plan {
         Plan::Nothing => Answer::Done(0),
-        Plan::From(mark) => run_from(settings, new, mark, out, shelf),
+        Plan::From(mark) => run_from(settings, old, new, mark, out, shelf),
     }
 }
 
@@ -76,6 +76,7 @@ fn new_scored(new: &[u8]) -> Answer
 // From the state that the shelf keeps at a mark, or 8.
 fn run_from(
     settings: Settings,
+    old: &[u8],
     new: &[u8],
     mark: usize,
     out: &mut [f64],
@@ -84,7 +85,7 @@ fn run_from(
     requires { ⌜ Sorted (now new) ⌝ }
     requires { ⌜ length (now shelf) ≡ wordsFor (length (now out)) ⌝ }
     requires { ⌜ mark < entriesFor (length (now out)) ⌝ }
-    ensures { λ r. ⌜ leaves r (now (out .exit)) (now (shelf .exit)) ≡ fromOf settings (now (new .entry)) mark (now (out .entry)) (now (shelf .entry)) ⌝ }
+    ensures { λ r. ⌜ leaves r (now (out .exit)) (now (shelf .exit)) ≡ fromOf settings (now (old .entry)) (now (new .entry)) mark (now (out .entry)) (now (shelf .entry)) ⌝ }
 {
     let word = mark * ENTRY_WORDS;
     let start = mark * MARK;

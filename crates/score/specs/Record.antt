@@ -17,15 +17,15 @@ countOf s = length s / 10
 abbrev pub byteAt : List ℕ → ℕ → ℕ → ℕ
 byteAt s i j = getD s (i * 10 + j) 0
 
--- ---- bytes that are read at once. These four serve private functions; no public statement cites them
 -- four bytes as one number, low byte first
 abbrev pub wordOf : ℕ → ℕ → ℕ → ℕ → ℕ
 wordOf a b c d = a + b * 256 + c * 65536 + d * 16777216
 
--- the four bytes of record i from byte j on, the two of its mark, and the eight after it
+-- the four bytes of record i from byte j on
 abbrev pub wordAt : List ℕ → ℕ → ℕ → ℕ
 wordAt s i j = wordOf (byteAt s i j) (byteAt s i (j + 1)) (byteAt s i (j + 2)) (byteAt s i (j + 3))
 
+-- the two of its mark, and the eight after it. These two serve private functions; no public statement cites them
 abbrev pub markAt : List ℕ → ℕ → ℕ
 markAt s i = wordOf (byteAt s i 0) (byteAt s i 1) 0 0
 
@@ -35,7 +35,7 @@ restAt s i = wordAt s i 2 + wordAt s i 6 * 4294967296
 -- ---- a record
 -- the position of record i, low byte first
 unfoldable pub positionAt : List ℕ → ℕ → ℕ
-positionAt s i = byteAt s i 2 + byteAt s i 3 * 256 + byteAt s i 4 * 65536 + byteAt s i 5 * 16777216
+positionAt s i = wordAt s i 2
 
 -- 1 on, 2 off, 3 reset
 abbrev pub kindByte : Kind → ℕ

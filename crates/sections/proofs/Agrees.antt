@@ -1,26 +1,24 @@
 -- On a score whose positions never fall, from the first record that is not below a mark, the sections are what the state's definitions say: samples, states and entries. Assumes nothing.
-use mathlib.Core.Path.{_≡_, refl, ap}
+use mathlib.Core.Path.{_≡_, ap}
 use mathlib.Core.List.{List, _++_}
-use Prim.Native.Nat.{ℕ, zero, suc, _-_, _*_}
+use Prim.Native.Nat.{ℕ, _-_, _*_}
 use lib.ListN.{length, take}
 use lib.Ieee.{Float}
 use borrow.Author.Tests.{eq-eqb}
+use Rattle.runs.proofs.Listed.{listed-same}
 use Rattle.score.specs.Below.{Sorted, Cut}
 use Rattle.state.specs.declared.Settings.{Settings}
 use Rattle.state.specs.declared.State.{State}
 use Rattle.state.specs.Heart.{stateFrom, samplesFrom, entriesFrom}
 use Rattle.shelf.specs.Shelf.{mark, entryWords, entriesFor, wordsFor, shelfOf}
-use Rattle.shelf.proofs.Whole.{shelf-more}
 use Rattle.spans.specs.Walk.{placeOf}
 use Rattle.spans.proofs.Agrees.{kept, samples-agree}
 use Rattle.sections.specs.Sections.{keptFrom, Outcome, playOnOf}
 
 module _ (g : Settings) (s : List ℕ) (o : Sorted s) (m i : ℕ) (v : State) (c : Cut s (m * mark) i) where
   entries-agree : (k : ℕ) → keptFrom g s m (placeOf v i) k ≡ shelfOf (entriesFrom g s m v k)
-  unfolding keptFrom entriesFrom shelfOf
-  entries-agree zero = refl
-  entries-agree (suc k) =
-      rw (shelf-more (entriesFrom g s m v k) (stateFrom g s (m * mark) v (k * mark)), entries-agree k, kept g s o (m * mark) i v c (k * mark) .state-is) refl
+  unfolding keptFrom entriesFrom
+  entries-agree k = ap shelfOf (listed-same _ _ k (λ j l. kept g s o (m * mark) i v c (j * mark) .state-is))
 
   -- what the call leaves where the shelf fits the output
   pub record Made (out : List Float) (shelf : List ℕ) (r : Outcome) : Type 0 where

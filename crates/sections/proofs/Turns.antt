@@ -9,8 +9,10 @@ use lib.Seq.{take-all}
 use lib.Ieee.{Float}
 use borrow.Author.Tests.{eq-eqb, ne-eqb}
 use borrow.Rule.Slice.PartMut.{putMid, midOf, mid-len, same-len-mid}
-use Rattle.shelf.specs.Shelf.{mark, entryWords, entriesFor, wordsFor, entryOf, keptIn}
+use Rattle.runs.specs.Runs.{run, listed}
+use Rattle.shelf.specs.Shelf.{mark, entryWords, entriesFor, wordsFor, entryOf, keptIn, shelfOf}
 use Rattle.shelf.proofs.There.{entry-length, kept-twelve}
+use Rattle.shelf.proofs.Whole.{shelf-more}
 use Rattle.state.specs.declared.Settings.{Settings}
 use Rattle.spans.specs.declared.Place.{Place}
 use Rattle.spans.specs.Walk.{placeFrom, playedFrom, Played}
@@ -32,9 +34,14 @@ pub record Walked (g : Settings) (s : List ℕ) (m : ℕ) (p : Place) (out₀ : 
   pub heard : take start out ≡ take (m * mark) out₀ ++ playedFrom g s (m * mark) p (start - m * mark)
   pub stored : take (k * entryWords) shelf ≡ take (m * entryWords) shelf₀ ++ keptFrom g s m p (k - m)
 
+-- one entry more
+kept-more : (g : Settings) (s : List ℕ) (m : ℕ) (p : Place) (k : ℕ) → keptFrom g s m p (suc k) ≡ keptFrom g s m p k ++ entryOf (placeFrom g s (m * mark) p (k * mark) .state)
+unfolding keptFrom listed
+kept-more g s m p k = shelf-more _ _
+
 module _ (g : Settings) (s : List ℕ) (m : ℕ) (p : Place) (out₀ : List Float) (shelf₀ : List ℕ) (fits : length shelf₀ ≡ wordsFor (length out₀)) (there : m < entriesFor (length out₀)) where
   pub walk-first : Walked g s m p out₀ shelf₀ out₀ shelf₀ p m (m * mark)
-  unfolding placeFrom playedFrom keptFrom
+  unfolding placeFrom playedFrom keptFrom run listed shelfOf
   walk-first =
       record {
         len = refl;
@@ -96,7 +103,6 @@ module _ (g : Settings) (s : List ℕ) (m : ℕ) (p : Place) (out₀ : List Floa
           ∙ ap (λ (l : List Float). take (m * mark) out₀ ++ l) (sym (played-on g s (m * mark) p (start - m * mark) (e - start)) ∙ ap (playedFrom g s (m * mark) p) span)
 
       pub turn-stored : take ((k + 1) * entryWords) shelf′ ≡ take (m * entryWords) shelf₀ ++ keptFrom g s m p (k + 1 - m)
-      unfolding keptFrom
       turn-stored =
           let a : start ≡ k * mark = w .at-mark (omega (arith, w .len)) in
           let q : k + 1 - m ≡ suc (k - m) = omega (arith, w .past) in
@@ -104,7 +110,7 @@ module _ (g : Settings) (s : List ℕ) (m : ℕ) (p : Place) (out₀ : List Floa
           let n : (k + 1) * entryWords ≡ k * entryWords + entryWords = omega arith in
           let l : length zs ≡ entryWords = ap length kept ∙ entry-length (at .state) in
           let v : at ≡ placeFrom g s (m * mark) p ((k - m) * mark) = w .place-is ∙ ap (placeFrom g s (m * mark) p) b in
-          rw (n, q) (take-mid (k * entryWords) entryWords shelf zs (omega (arith, room)) l
+          rw (n, q, kept-more g s m p (k - m)) (take-mid (k * entryWords) entryWords shelf zs (omega (arith, room)) l
           ∙ rw (w .stored, kept, v) (append-assoc (take (m * entryWords) shelf₀) (keptFrom g s m p (k - m)) (entryOf (placeFrom g s (m * mark) p ((k - m) * mark) .state))))
 
       pub walk-on : Walked g s m p out₀ shelf₀ out′ shelf′ r (k + 1) e
@@ -144,7 +150,7 @@ module _ (g : Settings) (s : List ℕ) (m : ℕ) (p : Place) (out : List Float) 
 
   -- a mark at or past the end leaves nothing to play
   pub past-the-end : length shelf ≡ wordsFor (length out) → entriesFor (length out) ≤ m → leaves p out shelf ≡ playOnOf g s m p out shelf
-  unfolding playOnOf placeFrom playedFrom keptFrom
+  unfolding playOnOf placeFrom playedFrom keptFrom run listed shelfOf
   past-the-end e h =
       let a : length out - m * mark ≡ 0 = omega arith in
       let b : entriesFor (length out) - m ≡ 0 = omega arith in

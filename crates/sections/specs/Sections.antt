@@ -2,20 +2,20 @@
 -- 4096k below N, the output's length". It is a walk (the crate spans) from a place at any mark; where the shelf has not the words that the output asks for, nothing is played and nothing stored. Definitions only.
 use mathlib.Core.Bool.{Bool, true, false}
 use mathlib.Core.Path.{_≡_}
-use mathlib.Core.List.{List, [], _++_}
-use Prim.Native.Nat.{ℕ, zero, suc, _+_, _-_, _*_, _<_, _≤_}
+use mathlib.Core.List.{List, _++_}
+use Prim.Native.Nat.{ℕ, _+_, _-_, _*_, _<_, _≤_}
 use lib.Dec.{eqb}
 use lib.ListN.{length, take}
 use lib.Ieee.{Float}
-use Rattle.shelf.specs.Shelf.{mark, entryWords, entriesFor, wordsFor, entryOf}
+use Rattle.runs.specs.Runs.{listed}
+use Rattle.shelf.specs.Shelf.{mark, entryWords, entriesFor, wordsFor, shelfOf}
 use Rattle.spans.specs.declared.Place.{Place}
 use Rattle.spans.specs.Walk.{placeFrom, playedFrom}
 use Rattle.state.specs.declared.Settings.{Settings}
 
 -- the words of the entries m to m + k - 1, from a place p at mark m
 unfoldable pub keptFrom : Settings → List ℕ → ℕ → Place → ℕ → List ℕ
-keptFrom g s m p zero = []
-keptFrom g s m p (suc k) = keptFrom g s m p k ++ entryOf (placeFrom g s (m * mark) p (k * mark) .state)
+keptFrom g s m p k = shelfOf (listed (λ (i : ℕ). placeFrom g s (m * mark) p (i * mark) .state) k)
 
 -- what the call leaves: the place after the last sample, the output, the shelf
 pub record Outcome : Type 0 where

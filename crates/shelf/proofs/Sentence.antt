@@ -32,7 +32,7 @@ pub record Sounding (b g : ℕ) : Type 0 where
   pub gate-down : b ≡ 255 → g ≡ 0
 
 pub record Sentence (ws : List ℕ) : Type 0 where
-  pub twelve-words : length ws ≡ 12
+  pub twelve-words : length ws ≡ entryWords
   pub phase-in : T (isRadians (float ws 0))
   pub stage-in : word ws 1 ≤ 4
   pub level-in : T (within naught one (float ws 2))

@@ -4,19 +4,21 @@ use mathlib.Core.Bool.{Bool, true, false, cond, true≢false}
 use mathlib.Core.List.{List, [], _∷_, _++_}
 use mathlib.Core.Logic.{⊎-elim}
 use Prim.Native.Nat.{ℕ, zero, suc, _+_, _-_, _*_, _/_, _%_, _^_, _≤_, _<_}
-use native.Mathlib.Nat.{le-of-eq, eq-or-lt-of-le, le-of-suc-le-suc, not-suc-le-zero, zero-lt-suc, sub-zero, mul-pos}
+use native.Mathlib.Nat.{le-of-eq, eq-or-lt-of-le, le-of-suc-le-suc, zero-lt-suc, sub-zero, mul-pos}
 use native.Mathlib.Numerals.{add-one}
 use native.Mathlib.Omega.{arith}
 use borrow.Author.Tests.{lt-ltb}
 use lib.IntN.{ℤ, pos, negsuc, negℤ}
 use lib.Dec.{lit≤, lit<}
-use lib.ListN.{length, getD, set, replicate, length-replicate, length-set, length-append, List·getD-append}
-use lib.Seq.{take-suc-set, take-all, getD-take, getD-at}
+use lib.ListN.{getD, set, replicate, length-replicate, length-set}
+use lib.Seq.{take-suc-set, take-all, getD-take}
 use lib.Ieee.{Float, nan, inf, fin, binary64, up, down, ofBits, ofInt, round, neg, sum, add, sub}
 use lib.Ieee.Fits.{down-pos}
 use lib.Ieee.Back.{round-whole}
 use lib.Ieee.Exact.{HasValue}
 use lib.Ieee.Scale.{round-same}
+use Rattle.runs.specs.Runs.{listed}
+use Rattle.runs.proofs.Listed.{listed-more, listed-at}
 use Rattle.floats.specs.Double.{_⊖_, naught}
 use Rattle.sine.specs.Table.{quarter, entryOf}
 use Rattle.sine.specs.Sine.{float, startOf}
@@ -82,24 +84,15 @@ level-negate k =
 -- ---- the first n points in a list
 pub levels-more : (n : ℕ) → levels (n + 1) ≡ levels n ++ (levelOf n ∷ [])
 unfolding levels
-levels-more n = rw (add-one n) refl
-
-pub levels-length : (n : ℕ) → length (levels n) ≡ n
-unfolding levels
-levels-length zero = refl
-levels-length (suc n) = rw (length-append (levels n) (levelOf n ∷ []), levels-length n) (add-one n)
+levels-more = listed-more levelOf
 
 pub level-at : (i n : ℕ) → i < n → getD (levels n) i nan ≡ levelOf i
 unfolding levels
-level-at i zero h = absurd (not-suc-le-zero h)
-level-at i (suc n) h =
-    ⊎-elim (λ e. rw e (getD-at (levels n) (levelOf n) [] nan n (levels-length n)))
-    (λ l. List·getD-append (levels n) (levelOf n ∷ []) nan i (rw (levels-length n) l) ∙ level-at i n l)
-    (eq-or-lt-of-le (le-of-suc-le-suc h))
+level-at i n = listed-at levelOf n i nan
 
 -- ---- a table that is written from its start: nothing is written, one of its points is read, one more is written, and all are
 pub blank : (x : Float) → Unfolded 0 (replicate 4097 x)
-unfolding levels
+unfolding levels listed
 blank x = record { size = length-replicate 4097 x; points = refl }
 
 module _ (n : ℕ) (wave : List Float) (u : Unfolded n wave) where

@@ -1,13 +1,14 @@
 -- The wave unfolded from the quarter: 01's a at each of its points, as a float. Of such a table a reading takes a at its point and b at the next, by 01's rule: "p = u*4096, i its whole part, f = p - i; i = 4096
 -- is read as i = 0, f = 0 .. The answer is (a + (b - a)*f)/2^30". Of the wave it is the reading of the quarter (proofs/Whole.antt). Definitions only.
 use mathlib.Core.Bool.{cond}
-use mathlib.Core.List.{List, [], _∷_, _++_}
+use mathlib.Core.List.{List}
 use mathlib.Core.Path.{_≡_}
-use Prim.Native.Nat.{ℕ, zero, suc, _+_, _/_, _%_}
+use Prim.Native.Nat.{ℕ, _+_, _/_, _%_}
 use lib.IntN.{pos}
 use lib.Dec.{eqb}
 use lib.ListN.{length, getD, take}
 use lib.Ieee.{Float, nan}
+use Rattle.runs.specs.Runs.{listed}
 use Rattle.floats.specs.Range.{within}
 use Rattle.floats.specs.Double.{_⊖_, _⊗_, naught, one}
 use Rattle.sine.specs.Table.{quarter}
@@ -19,8 +20,7 @@ levelOf i = float (startOf quarter (i / 1024) (i % 1024))
 
 -- at the first k points
 unfoldable pub levels : ℕ → List Float
-levels zero = []
-levels (suc k) = levels k ++ (levelOf k ∷ [])
+levels k = listed levelOf k
 
 -- from point 0 to point 4096, where the wave begins again
 abbrev pub wholeWave : List Float

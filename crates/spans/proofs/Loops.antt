@@ -7,6 +7,7 @@ use lib.ListN.{length, take}
 use lib.Seq.{take-all}
 use borrow.Rule.Slice.PartMut.{putMid, midOf}
 use lib.Ieee.{Float}
+use Rattle.runs.specs.Runs.{run, listed}
 use Rattle.state.specs.declared.Settings.{Settings}
 use Rattle.state.specs.declared.State.{State}
 use Rattle.spans.specs.declared.Place.{Place}
@@ -23,14 +24,14 @@ module _ (g : Settings) (s : List ℕ) (n : ℕ) (p : Place) (before : List Floa
     pub samples : take i part ≡ playedFrom g s n p i
 
   pub begins : Upto before p 0
-  unfolding placeFrom playedFrom
+  unfolding placeFrom playedFrom run listed
   begins = record { size = refl; within = omega arith; place = refl; samples = refl }
 
   -- the span to e is begun at b, and its samples ys come back with the state u
-  pub goes-on : (part : List Float) (at : Place) (i : ℕ) (b : Place) (e : ℕ) (ys : List Float) (u : State) → Upto part at i → b ≡ begunFrom s (n + i) at → SpanEnd s (b .next) n i (length part) e
+  pub goes-on : (part : List Float) (at : Place) (i : ℕ) (b : Place) (e : ℕ) (ys : List Float) (u : State) → Upto part at i → b ≡ begunFrom g s (n + i) at → SpanEnd s (b .next) n i (length part) e
       → Sounded g (b .state) (midOf i (e - i) part) ys u → Upto (putMid i (e - i) part ys) (placeOf u (b .next)) e
   goes-on part at i b e ys u v h z x =
-      let here : b ≡ begunFrom s (n + i) (placeFrom g s n p i) = h ∙ ap (begunFrom s (n + i)) (v .place) in
+      let here : b ≡ begunFrom g s (n + i) (placeFrom g s n p i) = h ∙ ap (begunFrom g s (n + i)) (v .place) in
       let z' = rw here at z in
       let x' = rw here at x in
       let t = turn-length g s n p i (length part) e z' part ys u refl (v .samples) x' in

@@ -1,15 +1,17 @@
 -- The second pass: one value more, a step within a run, a stage that stands, and the rest of a part. Assumes nothing.
 use mathlib.Core.Path.{_≡_, refl, sym, subst, ap, _∙_}
 use mathlib.Core.Bool.{Bool, true, false, true≢false, _||_}
-use mathlib.Core.List.{List, [], _∷_, _++_, append-assoc, append-nil}
+use mathlib.Core.List.{List, _++_}
 use Prim.Native.Nat.{ℕ, zero, suc, _+_, _-_, _<_, _≤_}
-use native.Mathlib.Nat.{add-zero, add-suc}
+use native.Mathlib.Nat.{add-suc}
 use native.Mathlib.Numerals.{add-one}
 use native.Mathlib.Omega.{arith}
-use lib.ListN.{length, drop, getD, set, length-append, length-set}
+use lib.ListN.{length, drop, getD, set, length-set}
 use lib.Seq.{take-suc-set, take-all, getD-set-other, getD-take, getD-drop}
 use lib.Ieee.{Float, nan}
 use borrow.Rule.Slice.PartMut.{putMid, midOf, mid-len, same-len-mid}
+use Rattle.runs.specs.Runs.{run, listed}
+use Rattle.runs.proofs.Listed.{listed-length, listed-on, listed-same}
 use Rattle.floats.specs.Double.{_⊕_, _⊗_}
 use Rattle.score.proofs.Parted.{clash, none-below}
 use Rattle.envelope.specs.declared.Adsr.{Adsr}
@@ -36,9 +38,7 @@ two-long velocity ys zs i a b z = ap length z ∙ simp length-set refl
 -- as many values as were asked for
 shaped-length : (k : Adsr) (t : Float) (e : Envelope) (velocity : Float) (xs : List Float) (n : ℕ) → length (shapedTo k t e velocity xs n) ≡ n
 unfolding shapedTo
-shaped-length k t e velocity xs zero = refl
-shaped-length k t e velocity xs (suc n) =
-    rw (length-append (shapedTo k t e velocity xs n) (getD xs n nan ⊗ envelopeFrom k t e (suc n) .level ⊗ velocity ∷ []), shaped-length k t e velocity xs n) (add-one n)
+shaped-length k t e velocity xs = listed-length _
 
 module _ (k : Adsr) (t : Float) (e : Envelope) where
   -- ---- within a run the stage stays, and a step gives its level and lets the time grow
@@ -66,7 +66,7 @@ module _ (k : Adsr) (t : Float) (e : Envelope) where
       go Release h = absurd (clash (cc))
 
   pub stands : grows (e .stage) ≡ false → (n : ℕ) → 0 < n → stepOf k t e ≡ envelopeFrom k t e n
-  unfolding envelopeFrom
+  unfolding envelopeFrom run
   stands h zero l = absurd (none-below 0 l)
   stands h (suc zero) l = refl
   stands h (suc (suc n)) l = sym (still h) ∙ ap (stepOf k t) (stands h (suc n) (omega arith))
@@ -74,12 +74,12 @@ module _ (k : Adsr) (t : Float) (e : Envelope) where
   module _ (velocity : Float) (xs : List Float) where
     -- ---- how far a part is shaped
     pub reached-none : Reached k t e velocity xs xs e 0
-    unfolding shapedTo envelopeFrom
+    unfolding shapedTo envelopeFrom run listed
     reached-none = record { long = refl; within = omega arith; envelope = refl; first = refl; others = λ j h. refl }
 
     pub reached-more : (ys : List Float) (c d : Envelope) (level : Float) (i : ℕ) → i < length ys → d ≡ stepOf k t c → level ≡ d .level → Reached k t e velocity xs ys c i
         → Reached k t e velocity xs (set ys i (getD ys i nan ⊗ level ⊗ velocity)) d (i + 1)
-    unfolding shapedTo envelopeFrom
+    unfolding shapedTo envelopeFrom run listed
     reached-more ys c d level i h q l b =
         let next : d ≡ envelopeFrom k t e (suc i) = q ∙ ap (stepOf k t) (b .envelope) in
         record {
@@ -112,10 +112,8 @@ module _ (k : Adsr) (t : Float) (e : Envelope) where
     shaped-on : (zs : List Float) (i n : ℕ) → ((j : ℕ) → j < n → getD zs j nan ≡ getD xs (i + j) nan)
         → shapedTo k t e velocity xs (i + n) ≡ shapedTo k t e velocity xs i ++ shapedTo k t (envelopeFrom k t e i) velocity zs n
     unfolding shapedTo
-    shaped-on zs i zero f = rw (add-zero i) (sym (append-nil (shapedTo k t e velocity xs i)))
-    shaped-on zs i (suc n) f =
-        rw (add-suc i n, shaped-on zs i n (λ j h. f j (omega arith)), ← add-suc i n, envelope-runs-on k t e i (suc n), ← f n (omega arith))
-        (append-assoc (shapedTo k t e velocity xs i) (shapedTo k t (envelopeFrom k t e i) velocity zs n) (getD zs n nan ⊗ envelopeFrom k t (envelopeFrom k t e i) (suc n) .level ⊗ velocity ∷ []))
+    shaped-on zs i n f =
+        listed-on _ i n ∙ ap (_++_ (shapedTo k t e velocity xs i)) (listed-same _ _ n (λ j l. rw (← f j l, ← add-suc i j, envelope-runs-on k t e i (suc j)) refl))
 
     -- the part from sample i on is lent, and comes back as zs with the envelope r
     pub shaped-rest : (ys zs : List Float) (c r : Envelope) (i : ℕ) → Reached k t e velocity xs ys c i → Shaped k t c velocity (midOf i (length ys - i) ys) zs r

@@ -5,6 +5,8 @@ use Prim.Native.Nat.{ℕ, zero, suc, _≤_}
 use native.Mathlib.Omega.{arith}
 use lib.ListN.{length}
 use lib.Ieee.{Float, binary64}
+use Rattle.runs.specs.Runs.{run}
+use Rattle.runs.proofs.Listed.{listed-same}
 use Rattle.floats.specs.Double.{_⊗_, one}
 use Rattle.floats.proofs.Literals.{lit1-is}
 use Rattle.floats.proofs.OneWay.{times-one}
@@ -15,25 +17,18 @@ use Rattle.envelope.specs.Running.{envelopeFrom}
 use Rattle.waveform.specs.Waveform.{radians, normalOf, invTau}
 use Rattle.waveform.specs.Filled.{phaseFrom, samplesFrom, valueAt, Filled}
 use Rattle.waveform.specs.declared.Radians.{Radians}
-use Rattle.waveform.proofs.Steps.{samples-length}
-use Rattle.waveform.proofs.Values.{value-fits, sample-at}
+use Rattle.waveform.proofs.Steps.{samples-length, sample-at}
+use Rattle.waveform.proofs.Values.{value-fits}
 use Rattle.state.specs.declared.Settings.{Settings}
 use Rattle.state.specs.declared.State.{State}
-use Rattle.state.specs.State.{paceOf, sampleOf, advanceOf}
+use Rattle.state.specs.State.{withPhase, withEnvelope, paceOf, sampleOf, advanceOf}
 use Rattle.spans.specs.Plain.{advances, plain, Sounded, shapedTo, Shaped}
 
 module _ (g : Settings) (v : State) where
   -- the state after k samples, field by field
-  pub advances-is : (k : ℕ) → advances g v k
-      ≡ record {
-        phase = radians (phaseFrom (paceOf g v) (v .phase .0) k);
-        envelope = envelopeFrom (clampedOf (g .adsr)) (sampleTimeOf (g .rate)) (v .envelope) k;
-        frequency = v .frequency;
-        velocity = v .velocity;
-        keys = v .keys;
-        acted = v .acted;
-      }
-  unfolding advances advanceOf phaseFrom envelopeFrom
+  pub advances-is : (k : ℕ)
+      → advances g v k ≡ withEnvelope (withPhase v (phaseFrom (paceOf g v) (v .phase .0) k)) (envelopeFrom (clampedOf (g .adsr)) (sampleTimeOf (g .rate)) (v .envelope) k)
+  unfolding advances advanceOf phaseFrom envelopeFrom run
   advances-is zero = refl
   advances-is (suc k) = rw (advances-is k) refl
 
@@ -46,15 +41,15 @@ module _ (g : Settings) (v : State) where
 
   -- shaped, the first k of n values are the first k samples
   pub shaped-is : (n k : ℕ) → k ≤ n → shapedTo (clampedOf (g .adsr)) (sampleTimeOf (g .rate)) (v .envelope) (v .velocity) (values n) k ≡ plain g v k
-  unfolding shapedTo plain sampleOf envelopeFrom
-  shaped-is n zero h = refl
-  shaped-is n (suc k) h =
-      rw (shaped-is n k (omega arith), advances-is k, sample-at (g .waveform) (paceOf g v) one (v .phase .0) k n (omega arith), times-one-is (phaseFrom (paceOf g v) (v .phase .0) k)) refl
+  unfolding shapedTo plain sampleOf envelopeFrom run
+  shaped-is n k h =
+      listed-same _ _ k
+      (λ i l. rw (advances-is i, sample-at (valueAt (g .waveform) (paceOf g v)) (paceOf g v) one (v .phase .0) i n (omega arith), times-one-is (phaseFrom (paceOf g v) (v .phase .0) i)) refl)
 
   -- the second pass over what the first wrote
   pub sounding : (k : Adsr) (t : Float) (ys zs : List Float) (r : Radians) (e : Envelope) → k ≡ clampedOf (g .adsr) → t ≡ sampleTimeOf (g .rate)
       → Filled (g .waveform) (v .phase .0) (paceOf g v) one ys ys r → Shaped k t (v .envelope) (v .velocity) ys zs e
-      → Sounded g v ys zs (record { phase = r; envelope = e; frequency = v .frequency; velocity = v .velocity; keys = v .keys; acted = v .acted })
+      → Sounded g v ys zs (withEnvelope (withPhase v (r .0)) e)
   sounding k t ys zs r e ek et f h =
       record {
         samples = h .samples ∙ rw (ek, et) (ap (λ (xs : List Float). shapedTo (clampedOf (g .adsr)) (sampleTimeOf (g .rate)) (v .envelope) (v .velocity) xs (length ys)) (f .samples) ∙ shaped-is (length ys) (length ys) (omega arith));
@@ -64,7 +59,7 @@ module _ (g : Settings) (v : State) where
   -- the first pass, over what stood there before
   module _ (step : Radians) (xs ys : List Float) (r : Radians) (es : step ≡ radians (paceOf g v)) (f : Filled (g .waveform) (v .phase .0) (step .0) one xs ys r) where
     full : length ys ≡ length xs
-    full = ap length (f .samples) ∙ samples-length (g .waveform) (step .0) one (v .phase .0) (length xs)
+    full = ap length (f .samples) ∙ samples-length (valueAt (g .waveform) (step .0)) (step .0) one (v .phase .0) (length xs)
 
     pub written : Filled (g .waveform) (v .phase .0) (paceOf g v) one ys ys r
     written =

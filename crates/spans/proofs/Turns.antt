@@ -1,16 +1,17 @@
 -- A turn of the loop over the spans: from a place, what a span gives is what the walk gives as far as the span's end. Assumes nothing.
 use mathlib.Core.Path.{_≡_, refl, sym, ap, _∙_}
 use mathlib.Core.Bool.{false}
-use mathlib.Core.List.{List, [], _∷_, _++_, append-assoc}
+use mathlib.Core.List.{List, _++_, append-assoc}
 use Prim.Native.Nat.{ℕ, zero, suc, _+_, _-_, _%_, _<_, _≤_}
 use native.Mathlib.Nat.{add-zero, add-suc}
-use native.Mathlib.Numerals.{add-one}
 use native.Mathlib.Omega.{arith}
 use lib.ListN.{length, take, drop, length-append}
 use lib.Seq.{take-at, length-take-le}
 use borrow.Rule.Slice.PartMut.{putMid, midOf, mid-len, same-len-mid}
 use lib.Dec.{eqb}
 use lib.Ieee.{Float}
+use Rattle.runs.specs.Runs.{run}
+use Rattle.runs.proofs.Listed.{listed-length, listed-on, listed-same}
 use Rattle.score.specs.Record.{countOf}
 use Rattle.state.specs.declared.Settings.{Settings}
 use Rattle.state.specs.declared.State.{State}
@@ -30,40 +31,43 @@ take-mid a k xs ys h e =
 -- a span has as many samples as were asked for
 plain-length : (g : Settings) (v : State) (k : ℕ) → length (plain g v k) ≡ k
 unfolding plain
-plain-length g v zero = refl
-plain-length g v (suc k) = rw (length-append (plain g v k) (sampleOf g (advances g v k) ∷ []), plain-length g v k) (add-one k)
+plain-length g v = listed-length _
 
 -- where no span begins, a sample is begun as it stands
-pub quiet : (s : List ℕ) (n : ℕ) (p : Place) → beginsAt s (p .next) n ≡ false → begunFrom s n p ≡ p
+pub quiet : (g : Settings) (s : List ℕ) (n : ℕ) (p : Place) → beginsAt s (p .next) n ≡ false → begunFrom g s n p ≡ p
 unfolding begunFrom
-quiet s n p f = rw f (act-stop s n (countOf s - p .next) p (neither (eqb (n % 64) 0) (standsAt s (p .next) n) f .1))
+quiet g s n p f = rw f (act-stop g s n (countOf s - p .next) p (neither (eqb (n % 64) 0) (standsAt s (p .next) n) f .1))
 
 module _ (g : Settings) (s : List ℕ) (n : ℕ) (p : Place) (i : ℕ) where
   -- the place at which the span is begun
   abbrev pub begun : Place
-  begun = begunFrom s (n + i) (placeFrom g s n p i)
+  begun = begunFrom g s (n + i) (placeFrom g s n p i)
 
-  pub span-place : (k : ℕ) → ((m : ℕ) → i < m → m < i + suc k → beginsAt s (begun .next) (n + m) ≡ false) → placeFrom g s n p (i + suc k) ≡ placeOf (advances g (begun .state) (suc k)) (begun .next)
-  unfolding placeFrom advances
-  span-place zero f = rw (add-suc i 0, add-zero i) refl
-  span-place (suc k) f =
-      let q : placeFrom g s n p (i + suc k) ≡ placeOf (advances g (begun .state) (suc k)) (begun .next) = span-place k (λ m x y. f m x (omega arith)) in
-      rw (add-suc i (suc k), q, quiet s (n + (i + suc k)) (placeOf (advances g (begun .state) (suc k)) (begun .next)) (f (i + suc k) (omega arith) (omega arith))) refl
+  -- no span begins on the next k samples
+  abbrev Unbroken : ℕ → Type 0
+  Unbroken k = (m : ℕ) → i < m → m < i + suc k → beginsAt s (begun .next) (n + m) ≡ false
 
-  pub span-samples : (k : ℕ) → ((m : ℕ) → i < m → m < i + suc k → beginsAt s (begun .next) (n + m) ≡ false) → playedFrom g s n p (i + suc k) ≡ playedFrom g s n p i ++ plain g (begun .state) (suc k)
-  unfolding playedFrom plain advances
-  span-samples zero f = rw (add-suc i 0, add-zero i) refl
-  span-samples (suc k) f =
-      let f' : (m : ℕ) → i < m → m < i + suc k → beginsAt s (begun .next) (n + m) ≡ false = λ m x y. f m x (omega arith) in
-      rw (add-suc i (suc k), span-samples k f', span-place k f', quiet s (n + (i + suc k)) (placeOf (advances g (begun .state) (suc k)) (begun .next)) (f (i + suc k) (omega arith) (omega arith)))
-      (append-assoc (playedFrom g s n p i) (plain g (begun .state) (suc k)) (sampleOf g (advances g (begun .state) (suc k)) ∷ []))
+  span-begun : (k : ℕ) → Unbroken k → begunFrom g s (n + (i + k)) (placeFrom g s n p (i + k)) ≡ placeOf (advances g (begun .state) k) (begun .next)
+  unfolding placeFrom advances run
+  span-begun zero f = rw (add-zero i) refl
+  span-begun (suc k) f =
+      rw (add-suc i k, span-begun k (λ m x y. f m x (omega arith)))
+      (quiet g s (n + suc (i + k)) (placeOf (advances g (begun .state) (suc k)) (begun .next)) (rw (add-suc i k) at (f (i + suc k) (omega arith) (omega arith))))
+
+  pub span-place : (k : ℕ) → Unbroken k → placeFrom g s n p (i + suc k) ≡ placeOf (advances g (begun .state) (suc k)) (begun .next)
+  unfolding placeFrom advances run
+  span-place k f = rw (add-suc i k, span-begun k f) refl
+
+  pub span-samples : (k : ℕ) → Unbroken k → playedFrom g s n p (i + suc k) ≡ playedFrom g s n p i ++ plain g (begun .state) (suc k)
+  unfolding placeFrom playedFrom plain
+  span-samples k f = listed-on _ i (suc k) ∙ ap (_++_ (playedFrom g s n p i)) (listed-same _ _ (suc k) (λ j l. ap (λ (q : Place). sampleOf g (q .state)) (span-begun j (λ m x y. f m x (omega arith)))))
 
   -- the same as far as the span's end e
   module _ (l e : ℕ) (z : SpanEnd s (begun .next) n i l e) where
     whole : i + suc (e - i - 1) ≡ e
     whole = omega (arith, z .after)
 
-    unbroken : (m : ℕ) → i < m → m < i + suc (e - i - 1) → beginsAt s (begun .next) (n + m) ≡ false
+    unbroken : Unbroken (e - i - 1)
     unbroken m x y = z .unbroken m x (omega (arith, whole))
 
     pub turn-place : placeFrom g s n p e ≡ placeOf (advances g (begun .state) (e - i)) (begun .next)

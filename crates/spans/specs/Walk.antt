@@ -2,12 +2,13 @@
 -- records at n act." A walk looks at the next record alone: it acts where it stands at n, and then so may the one after it. On a score whose positions never fall, from the first record that is not below n, that is
 -- what state's Heart says of all records (proofs/Agrees.antt); it is defined for every score and every place. Definitions only.
 use mathlib.Core.Bool.{Bool, cond, true, false, _&&_, _||_}
-use mathlib.Core.List.{List, [], _∷_, _++_}
+use mathlib.Core.List.{List}
 use mathlib.Core.Path.{_≡_}
 use Prim.Native.Nat.{ℕ, zero, suc, _+_, _-_, _%_, _<_, _≤_}
 use lib.Dec.{ltb, eqb}
 use lib.ListN.{length}
 use lib.Ieee.{Float}
+use Rattle.runs.specs.Runs.{run, seen}
 use Rattle.score.specs.Record.{countOf, positionAt, recordAt}
 use Rattle.state.specs.declared.Settings.{Settings}
 use Rattle.state.specs.declared.State.{State}
@@ -23,13 +24,13 @@ abbrev pub standsAt : List ℕ → ℕ → ℕ → Bool
 standsAt s i n = ltb i (countOf s) && eqb (positionAt s i) n
 
 -- the next record acts
-abbrev pub actNext : List ℕ → Place → Place
-actNext s p = placeOf (actOf (p .state) (eventOf (recordAt s (p .next)))) (suc (p .next))
+abbrev pub actNext : Settings → List ℕ → Place → Place
+actNext g s p = placeOf (actOf g (p .state) (eventOf g (recordAt s (p .next)))) (suc (p .next))
 
 -- of the next k records the first ones act, as long as they stand at n
-unfoldable pub actFrom : List ℕ → ℕ → ℕ → Place → Place
-actFrom s n zero p = p
-actFrom s n (suc k) p = cond (standsAt s (p .next) n) (actFrom s n k (actNext s p)) p
+unfoldable pub actFrom : Settings → List ℕ → ℕ → ℕ → Place → Place
+actFrom g s n zero p = p
+actFrom g s n (suc k) p = cond (standsAt s (p .next) n) (actFrom g s n k (actNext g s p)) p
 
 -- whether a span begins at n
 abbrev pub beginsAt : List ℕ → ℕ → ℕ → Bool
@@ -38,21 +39,25 @@ beginsAt s i n = eqb (n % 64) 0 || standsAt s i n
 abbrev pub reducedAt : Place → Place
 reducedAt p = placeOf (reducedOf (p .state)) (p .next)
 
-unfoldable pub begunFrom : List ℕ → ℕ → Place → Place
+unfoldable pub begunFrom : Settings → List ℕ → ℕ → Place → Place
 unfolding actFrom
-begunFrom s n p = actFrom s n (countOf s - p .next) (cond (beginsAt s (p .next) n) (reducedAt p) p)
+begunFrom g s n p = actFrom g s n (countOf s - p .next) (cond (beginsAt s (p .next) n) (reducedAt p) p)
 
 -- ---- from a place p before sample n is begun
+-- sample n, and the place after it
+abbrev pub playedAt : Settings → List ℕ → ℕ → Place → Float
+playedAt g s n p = sampleOf g (begunFrom g s n p .state)
+
+abbrev pub afterPlayed : Settings → List ℕ → ℕ → Place → Place
+afterPlayed g s n p = let b = begunFrom g s n p in placeOf (advanceOf g (b .state)) (b .next)
+
 -- the place before sample n + k is begun
 unfoldable pub placeFrom : Settings → List ℕ → ℕ → Place → ℕ → Place
-placeFrom g s n p zero = p
-placeFrom g s n p (suc k) = let b = begunFrom s (n + k) (placeFrom g s n p k) in placeOf (advanceOf g (b .state)) (b .next)
+placeFrom g s n p k = run (afterPlayed g s) n p k
 
 -- samples n to n + k - 1
 unfoldable pub playedFrom : Settings → List ℕ → ℕ → Place → ℕ → List Float
-unfolding placeFrom
-playedFrom g s n p zero = []
-playedFrom g s n p (suc k) = playedFrom g s n p k ++ (sampleOf g (begunFrom s (n + k) (placeFrom g s n p k) .state) ∷ [])
+playedFrom g s n p k = seen (afterPlayed g s) (playedAt g s) n p k
 
 -- every sample of a lent part, and the place after the last
 pub record Played (g : Settings) (s : List ℕ) (n : ℕ) (p : Place) (before after : List Float) (r : Place) : Type 0 where

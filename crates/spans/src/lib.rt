@@ -75,7 +75,7 @@ fn play_short(
     let mut at = place;
     let mut i = 0;
     while i < part.len() {
-        let begun = begin(score, at, position, i);
+        let begun = begin(settings, score, at, position, i);
         let next = begun.next;
         let end = span_end(score, next, position, i, part.len());
         let state = sound(settings, begun.state, &mut part[i..end]);
@@ -99,7 +99,7 @@ fn play_long(
     let mut at = place;
     let mut i = 0;
     while i < part.len() {
-        let begun = begin(score, at, position, i);
+        let begun = begin(settings, score, at, position, i);
         let next = begun.next;
         let end = span_end(score, next, position, i, part.len());
         let state = sound_in(&wave, settings, begun.state, &mut part[i..end]);
@@ -110,11 +110,11 @@ fn play_long(
 }
 
 // The phase reduced where a span begins, and the records acted that stand here.
-fn begin(score: &[u8], place: Place, position: u64, offset: usize) -> Place
-    ensures { λ r. ⌜ r ≡ begunFrom (now (score .entry)) (position + offset) place ⌝ }
+fn begin(settings: Settings, score: &[u8], place: Place, position: u64, offset: usize) -> Place
+    ensures { λ r. ⌜ r ≡ begunFrom settings (now (score .entry)) (position + offset) place ⌝ }
 {
     let due = begins_at(score, place.next, position, offset);
-    act_from(score, settled(place, due), position, offset)
+    act_from(settings, score, settled(place, due), position, offset)
 }
 
 fn begins_at(score: &[u8], next: usize, position: u64, offset: usize) -> bool
@@ -137,8 +137,8 @@ fn settled(place: Place, due: bool) -> Place
 }
 
 // The next records act, one after the other, as long as they stand here.
-fn act_from(score: &[u8], place: Place, position: u64, offset: usize) -> Place
-    ensures { λ r. ⌜ r ≡ actFrom (now (score .entry)) (position + offset) (countOf (now (score .entry)) - place .next) place ⌝ }
+fn act_from(settings: Settings, score: &[u8], place: Place, position: u64, offset: usize) -> Place
+    ensures { λ r. ⌜ r ≡ actFrom settings (now (score .entry)) (position + offset) (countOf (now (score .entry)) - place .next) place ⌝ }
 {
     let n = score::count(score);
     let mut state = place.state;
@@ -147,7 +147,8 @@ fn act_from(score: &[u8], place: Place, position: u64, offset: usize) -> Place
         if !stands_at(score, next, position, offset) {
             return Place { state, next };
         }
-        state = state::act(state, state::event_of(score::record_at(score, next)));
+        let event = state::event_of(settings, score::record_at(score, next));
+        state = state::act(settings, state, event);
         next += 1;
     }
     Place { state, next }
@@ -235,7 +236,6 @@ fn struck(settings: Settings, state: State, phase: Radians, part: &mut [f64]) ->
     ensures { λ r. ⌜ Sounded settings state (now (part .entry)) (now (part .exit)) r ⌝ }
 {
     let adsr = settings.adsr;
-    let keys = state.keys;
     let envelope = shape(
         envelope::clamped(adsr),
         envelope::sample_time(settings.rate),
@@ -243,14 +243,10 @@ fn struck(settings: Settings, state: State, phase: Radians, part: &mut [f64]) ->
         state.velocity,
         part,
     );
-    State {
-        phase,
-        envelope,
-        frequency: state.frequency,
-        velocity: state.velocity,
-        keys,
-        acted: state.acted,
-    }
+    let mut next = state;
+    next.phase = phase;
+    next.envelope = envelope;
+    next
 }
 
 // Each value of a part times the envelope's level times the velocity: a run of a stage, the sample that ends it, the next.

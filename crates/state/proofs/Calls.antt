@@ -26,6 +26,7 @@ use Rattle.envelope.specs.Calls.{judgedOf, handedOf, changedOf}
 use Rattle.envelope.specs.Calls as envelope
 use Rattle.envelope.specs.declared.Envelope.{Envelope}
 use Rattle.envelope.specs.declared.EnvelopeBlock.{EnvelopeBlock}
+use Rattle.state.specs.declared.Settings.{Settings}
 use Rattle.state.specs.declared.State.{State}
 use Rattle.state.specs.declared.Event.{Event}
 use Rattle.state.specs.declared.Event.the-variants as event
@@ -69,7 +70,7 @@ same-one : one ≡ lit1 binary32
 same-one = lit1-is binary64 ∙ sym (lit1-is binary32)
 
 -- ---- the events
-module _ (v : State) (w : VoiceState) (b : EnvelopeBlock) (a : Alike v w b) where
+module _ (g : Settings) (v : State) (w : VoiceState) (b : EnvelopeBlock) (a : Alike v w b) where
   -- a key was lifted and these keys are left: the block c is b, released where the voice is
   left-alike : (keys : Keys) (off : NoteOff) (c : EnvelopeBlock) → c .envelope ≡ cond (isReleased off) (releasedOf (b .envelope)) (b .envelope) → Alike (liftedBy v keys off) (heardOf w keys off) c
   left-alike keys Released c e = record { keys = refl; frequency = a .frequency; velocity = a .velocity; envelope = ap releasedOf (a .envelope) ∙ sym e }
@@ -82,19 +83,19 @@ module _ (v : State) (w : VoiceState) (b : EnvelopeBlock) (a : Alike v w b) wher
   off-block false d = refl
 
   -- both lift the same keys
-  lift-is : (note : ℕ) → actOf v (event.Lift note) ≡ liftedBy v (liftedOf (w .keys) note .keys) (liftedOf (w .keys) note .off)
+  lift-is : (note : ℕ) → actOf g v (event.Lift note) ≡ liftedBy v (liftedOf (w .keys) note .keys) (liftedOf (w .keys) note .off)
   unfolding actOf
   lift-is note = ap (λ (keys : Keys). liftedBy v (liftedOf keys note .keys) (liftedOf keys note .off)) (a .keys)
 
   lift-alike : (note : ℕ) → voiceCall w (event.Lift note) .answer ≡ Done 0 → envelopeCall w b (event.Lift note) .answer ≡ Done 0
-      → Alike (actOf v (event.Lift note)) (voiceCall w (event.Lift note) .voice) (envelopeCall w b (event.Lift note) .block)
+      → Alike (actOf g v (event.Lift note)) (voiceCall w (event.Lift note) .voice) (envelopeCall w b (event.Lift note) .block)
   lift-alike note d f =
       let l = liftedOf (w .keys) note in
       let o = off-left (isVoice w && isMidi note) (isReleased (l .off)) w (heardOf w (l .keys) (l .off)) d in
       rw (lift-is note, o .0) (left-alike (l .keys) (l .off) (envelopeCall w b (event.Lift note) .block) (off-block (voice.noteOffOf w note .released) f ∙ rw (o .1) refl))
 
   -- where both calls are done, they leave what the event does
-  pub calls-act : (e : Event) → voiceCall w e .answer ≡ Done 0 → envelopeCall w b e .answer ≡ Done 0 → Alike (actOf v e) (voiceCall w e .voice) (envelopeCall w b e .block)
+  pub calls-act : (e : Event) → voiceCall w e .answer ≡ Done 0 → envelopeCall w b e .answer ≡ Done 0 → Alike (actOf g v e) (voiceCall w e .voice) (envelopeCall w b e .block)
   unfolding actOf
   calls-act (event.Strike note velocity) d f =
       let after = struck (pressedOf (w .keys) note velocity) note velocity in
@@ -109,7 +110,7 @@ module _ (v : State) (w : VoiceState) (b : EnvelopeBlock) (a : Alike v w b) wher
   calls-act event.Reset d f = let left = voice-left (isVoice w) w voice.newOf d in record { keys = rw left refl; frequency = rw left same-pitch; velocity = rw left same-naught; envelope = rw (block-left b stages.freshOf f) refl }
 
   -- whether the envelope is released is what the voice's note_off returned
-  pub released-decides : (note : ℕ) → voice.noteOffOf w note .answer ≡ Done 0 → actOf v (event.Lift note) .envelope ≡ cond (voice.noteOffOf w note .released) (releasedOf (v .envelope)) (v .envelope)
+  pub released-decides : (note : ℕ) → voice.noteOffOf w note .answer ≡ Done 0 → actOf g v (event.Lift note) .envelope ≡ cond (voice.noteOffOf w note .released) (releasedOf (v .envelope)) (v .envelope)
   released-decides note d =
       let l = liftedOf (w .keys) note in
       rw (lift-is note, off-left (isVoice w && isMidi note) (isReleased (l .off)) w (heardOf w (l .keys) (l .off)) d .1) (go (l .keys) (l .off))
@@ -120,16 +121,16 @@ module _ (v : State) (w : VoiceState) (b : EnvelopeBlock) (a : Alike v w b) wher
       go keys NoChange = refl
 
 -- the phase
-pub phase-then : (v : State) (e : Event) → actOf v e .phase ≡ phaseThen (v .phase) e
+pub phase-then : (g : Settings) (v : State) (e : Event) → actOf g v e .phase ≡ phaseThen (v .phase) e
 unfolding actOf
-phase-then v (event.Strike note velocity) = refl
-phase-then v (event.Lift note) = go (liftedOf (v .keys) note .keys) (liftedOf (v .keys) note .off)
+phase-then g v (event.Strike note velocity) = refl
+phase-then g v (event.Lift note) = go (liftedOf (v .keys) note .keys) (liftedOf (v .keys) note .off)
   where
     go : (keys : Keys) (off : NoteOff) → liftedBy v keys off .phase ≡ v .phase
     go keys Released = refl
     go keys (FellBack note velocity) = refl
     go keys NoChange = refl
-phase-then v event.Reset = refl
+phase-then g v event.Reset = refl
 
 -- a fresh state, a new voice and a new block
 pub fresh-alike : (acted : ℕ) (attack decay sustain release : Float) → Alike (freshOf acted) voice.newOf (envelope.newOf attack decay sustain release)

@@ -63,11 +63,11 @@ lifted-fits v k Released f = record { phase-fits = f .phase-fits; frequency-fits
 lifted-fits v k (FellBack n l) f = record { phase-fits = f .phase-fits; frequency-fits = pitch-fits n; velocity-fits = loudness-fits l; envelope-held = f .envelope-held }
 lifted-fits v k NoChange f = record { phase-fits = f .phase-fits; frequency-fits = f .frequency-fits; velocity-fits = f .velocity-fits; envelope-held = f .envelope-held }
 
-act-fits : (v : State) (e : Event) → Fitting v → Fitting (actOf v e)
+act-fits : (g : Settings) (v : State) (e : Event) → Fitting v → Fitting (actOf g v e)
 unfolding actOf
-act-fits v (event.Strike n l) f = record { phase-fits = f .phase-fits; frequency-fits = pitch-fits n; velocity-fits = loudness-fits l; envelope-held = triggered-holds (v .envelope) (f .envelope-held) }
-act-fits v (event.Lift n) f = let l = liftedOf (v .keys) n in lifted-fits v (l .keys) (l .off) f
-act-fits v event.Reset f = fresh-fits _
+act-fits g v (event.Strike n l) f = record { phase-fits = f .phase-fits; frequency-fits = pitch-fits n; velocity-fits = loudness-fits l; envelope-held = triggered-holds (v .envelope) (f .envelope-held) }
+act-fits g v (event.Lift n) f = let l = liftedOf (v .keys) n in lifted-fits v (l .keys) (l .off) f
+act-fits g v event.Reset f = fresh-fits _
 
 advance-fits : (g : Settings) → T (fits binary64 (g .adsr .sustain)) → (v : State) → Fitting v → Fitting (advanceOf g v)
 unfolding advanceOf
@@ -81,4 +81,4 @@ advance-fits g w v f =
 
 -- ---- any number of samples
 pub state-fits : (g : Settings) (s : List ℕ) (n : ℕ) (v : State) → T (fits binary64 (g .adsr .sustain)) → Fitting v → (k : ℕ) → Fitting (stateFrom g s n v k)
-state-fits g s n v w = every-state g s Fitting reduced-fits act-fits (advance-fits g w) n v
+state-fits g s n v w = every-state g s Fitting reduced-fits (act-fits g) (advance-fits g w) n v

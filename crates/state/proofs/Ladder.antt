@@ -15,6 +15,7 @@ use lib.Ieee.Fits.{and-l, and-r}
 use lib.Ieee.Order.{round-mono}
 use lib.Ieee.Scale.{finite}
 use lib.Ieee.Positive.{positive}
+use Rattle.runs.specs.Runs.{run}
 use Rattle.floats.specs.Range.{ge0, nonneg}
 use Rattle.floats.specs.Double.{_⊕_, _⊗_, _⊘_, naught}
 use Rattle.floats.proofs.Literals.{lit0-is}
@@ -47,7 +48,7 @@ rung-nonneg j = rung-near j .p-nonneg
 
 -- a rung further up is not below
 pub rungs-rise : (i j : ℕ) → i ≤ j → T (le (ladder i) (ladder j))
-unfolding phaseFrom
+unfolding run phaseFrom
 rungs-rise i zero h = let z : i ≡ 0 = omega arith in rw z (unfold ofBits in unfold le in tt)
 rungs-rise i (suc j) h =
     ⊎-elim (λ e. rw e (fle-refl (ladder (suc j)) (nonneg→finite (ladder (suc j)) (rung-nonneg (suc j)))))
@@ -55,7 +56,7 @@ rungs-rise i (suc j) h =
 
 -- the uppermost that is needed
 last-below : T (lt (ladder 64) thousand)
-unfolding phaseFrom ofBits add lt
+unfolding run phaseFrom ofBits add lt
 last-below = tt
 
 -- x ≤ y < z
@@ -68,11 +69,11 @@ rung-below j x h k l = le-lt x (ladder 64) thousand k (unfold ofBits in tt) (fle
 
 -- TAU is on every rung, and 0
 tau-on : (j : ℕ) → T (le tau (ladder j))
-unfolding phaseFrom
+unfolding run phaseFrom
 tau-on j = fle-trans tau ten (ladder j) (unfold ofBits in unfold le in tt) (rungs-rise 0 j (omega arith))
 
 pub naught-on : (j : ℕ) → T (le naught (ladder j))
-unfolding phaseFrom
+unfolding run phaseFrom
 naught-on j = fle-trans naught ten (ladder j) (unfold ofBits in unfold le in tt) (rungs-rise 0 j (omega arith))
 
 -- ---- a reduction
@@ -151,7 +152,7 @@ module _ (frequency : Float) (rate : ℕ) (f : T (isPitch frequency)) (r : T (is
 -- one sample is one rung
 module _ (j : ℕ) (p step : Float) (h : T (nonneg p)) (l : T (le p (ladder j))) (s : T (nonneg step)) (t : T (le step ten)) where
   pub next-rung : T (le (p ⊕ step) (ladder (suc j)))
-  unfolding phaseFrom
+  unfolding run phaseFrom
   next-rung = add-mono binary64 p (ladder j) step ten h (rung-nonneg j) s ten-nonneg l t
 
   pub next-nonneg : T (nonneg (p ⊕ step))

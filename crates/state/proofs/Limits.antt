@@ -35,6 +35,7 @@ use Rattle.score.specs.declared.Verdict.the-variants.{Accepted}
 use Rattle.score.specs.Record.{countOf, byteAt, recordAt}
 use Rattle.score.specs.Score.{mostOf, verdictOf}
 use Rattle.score.proofs.Verdicts.{accepted-all}
+use Rattle.state.specs.declared.Settings.{Settings}
 use Rattle.state.specs.declared.State.{State}
 use Rattle.state.specs.declared.Event.{Event}
 use Rattle.state.specs.declared.Event.the-variants as event
@@ -205,24 +206,24 @@ most-in b = go (eqb b 3)
     go false = omega arith
 
 -- every record of an accepted score is such an event
-abbrev pub EventsIn : List ℕ → Type 0
-EventsIn s = (i : ℕ) → i < countOf s → EventIn (eventOf (recordAt s i))
+abbrev pub EventsIn : Settings → List ℕ → Type 0
+EventsIn g s = (i : ℕ) → i < countOf s → EventIn (eventOf g (recordAt s i))
 
-pub accepted-events : (s : List ℕ) (m : ℕ) → verdictOf s ≡ Accepted m → EventsIn s
-accepted-events s m a i h =
+pub accepted-events : (g : Settings) (s : List ℕ) (m : ℕ) → verdictOf s ≡ Accepted m → EventsIn g s
+accepted-events g s m a i h =
     let all = accepted-all s m a in
     let size : length s ≡ m * 10 = all .size in
     let r = all .fine i (omega arith) .right in
     event-in (recordAt s i .kind) (byteAt s i 7) (byteAt s i 8) (omega (arith, r .note-right, most-in (byteAt s i 6))) (omega (arith, r .velocity-right, most-in (byteAt s i 6)))
 
 -- an event keeps the limits, and what holds of the phase if it holds of 0
-module _ (P : Float → Type 0) (p : P naught) (v : State) (k : Kept P v) where
+module _ (g : Settings) (P : Float → Type 0) (p : P naught) (v : State) (k : Kept P v) where
   lift-keeps : (l : Keys) (off : NoteOff) → T (isKeys l) → BackRanged off → Kept P (liftedBy v l off)
   lift-keeps l Released h b = record { phase-in = k .phase-in; envelope-in = released-keeps (v .envelope) (k .envelope-in); pitch-in = k .pitch-in; velocity-in = k .velocity-in; keys-in = h }
   lift-keeps l (FellBack n w) h b = record { phase-in = k .phase-in; envelope-in = k .envelope-in; pitch-in = pitch-in-limits n (b .0); velocity-in = loudness-in w (b .1); keys-in = h }
   lift-keeps l NoChange h b = record { phase-in = k .phase-in; envelope-in = k .envelope-in; pitch-in = k .pitch-in; velocity-in = k .velocity-in; keys-in = h }
 
-  pub act-keeps : (e : Event) → EventIn e → Kept P (actOf v e)
+  pub act-keeps : (e : Event) → EventIn e → Kept P (actOf g v e)
   unfolding actOf
   act-keeps (event.Strike n w) h =
       record {
@@ -236,5 +237,5 @@ module _ (P : Float → Type 0) (p : P naught) (v : State) (k : Kept P v) where
   act-keeps event.Reset h = fresh-keeps P p _
 
 -- so it keeps the limits of a state
-pub act-in : (v : State) (e : Event) → EventIn e → inLimits v ≡ true → inLimits (actOf v e) ≡ true
-act-in v e h i = kept-in (actOf v e) (act-keeps PhaseIn naught-phase v (in-kept v i) e h)
+pub act-in : (g : Settings) (v : State) (e : Event) → EventIn e → inLimits v ≡ true → inLimits (actOf g v e) ≡ true
+act-in g v e h i = kept-in (actOf g v e) (act-keeps g PhaseIn naught-phase v (in-kept v i) e h)

@@ -102,6 +102,6 @@ module _ (g : Settings) (ok : settingsOk g ≡ true) (w : T (fits binary64 (g .a
   plays-silent e = rw e (times-naught loudness loudness-finite)
 
 -- a key struck with velocity 0
-pub struck-with-none : (v : State) (note : ℕ) → struckOf v note 0 .velocity ≡ naught
+pub struck-with-none : (g : Settings) (v : State) (note : ℕ) → struckOf g v note 0 .velocity ≡ naught
 unfolding velocityOf
-struck-with-none v note = unfold ofBits in unfold ofInt in unfold round in unfold div in refl
+struck-with-none g v note = unfold ofBits in unfold ofInt in unfold round in unfold div in refl

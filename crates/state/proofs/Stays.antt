@@ -11,6 +11,7 @@ use borrow.Author.Tests.{eqb-false}
 use lib.Dec.{T}
 use lib.Ieee.{Float, binary64, ofBits, add, lt, le, fits}
 use lib.Ieee.Fits.{and-i, and-r}
+use Rattle.runs.specs.Runs.{run}
 use Rattle.floats.specs.Range.{nonneg}
 use Rattle.floats.specs.Double.{_⊕_, naught}
 use Rattle.floats.proofs.Literals.{lit0-is}
@@ -95,7 +96,7 @@ drifts : Carried Anywhere Anywhere
 drifts =
     record {
       zeroed = λ m. record { not-negative = unfold ofBits in tt; not-far = unfold ofBits in unfold le in tt };
-      reduced = λ m x o. record { not-negative = reduced-nonneg x (o .not-negative); not-far = fle-trans (reduceOf x) (ladder 0) far (reduced-on x (o .not-negative) 0) (unfold phaseFrom in unfold ofBits in unfold le in tt) };
+      reduced = λ m x o. record { not-negative = reduced-nonneg x (o .not-negative); not-far = fle-trans (reduceOf x) (ladder 0) far (reduced-on x (o .not-negative) 0) (unfold run in unfold phaseFrom in unfold ofBits in unfold le in tt) };
       left = λ m x e o. o;
       grown = λ m x step s t o. further x step s t o;
     }
@@ -118,9 +119,9 @@ module _ (g : Settings) (ok : settingsOk g ≡ true) (w : T (fits binary64 (g .a
     limits-kept k = let u = stateFrom g s n v k in kept-in u (weaken (Before (n + k)) PhaseIn u (λ b. b .phase) (run-keeps Before Since climbs g ok w s m a n v start k))
 
     -- and the state that makes the sample
-    pub begun-kept : (k : ℕ) → inLimits (begun s (n + k) (stateFrom g s n v k)) ≡ true
+    pub begun-kept : (k : ℕ) → inLimits (begun g s (n + k) (stateFrom g s n v k)) ≡ true
     begun-kept k =
-        let u = begun s (n + k) (stateFrom g s n v k) in
+        let u = begun g s (n + k) (stateFrom g s n v k) in
         kept-in u (weaken (Since (n + k)) PhaseIn u (on-phase ((n + k) % 64) (u .phase .0) (omega arith)) (run-begins Before Since climbs g ok w s m a n v start k))
 
   -- from a mark
@@ -131,7 +132,7 @@ module _ (g : Settings) (ok : settingsOk g ≡ true) (w : T (fits binary64 (g .a
   pub fresh-kept : (k : ℕ) → inLimits (stateFrom g s 0 (freshOf 0) k) ≡ true
   fresh-kept k = limits-kept 0 refl (freshOf 0) (fresh-in 0) k
 
-  pub fresh-begun-kept : (k : ℕ) → inLimits (begun s k (stateFrom g s 0 (freshOf 0) k)) ≡ true
+  pub fresh-begun-kept : (k : ℕ) → inLimits (begun g s k (stateFrom g s 0 (freshOf 0) k)) ≡ true
   fresh-begun-kept k = rw zero-add at (begun-kept 0 refl (freshOf 0) (fresh-in 0) k)
 
   -- from any state within the limits, at any position
@@ -142,7 +143,7 @@ module _ (g : Settings) (ok : settingsOk g ≡ true) (w : T (fits binary64 (g .a
     pub others-kept : (k : ℕ) → Kept Far (stateFrom g s n v k)
     others-kept k = run-keeps Anywhere Anywhere drifts g ok w s m a n v begins k
 
-    pub others-begun : (k : ℕ) → Kept Far (begun s (n + k) (stateFrom g s n v k))
+    pub others-begun : (k : ℕ) → Kept Far (begun g s (n + k) (stateFrom g s n v k))
     others-begun k = run-begins Anywhere Anywhere drifts g ok w s m a n v begins k
 
     -- so nothing becomes a NaN or an infinity

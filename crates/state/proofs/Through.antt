@@ -64,7 +64,7 @@ module _ (P Q : ℕ → Float → Type 0) (c : Carried P Q) (g : Settings) (ok :
       record {
         reduced = λ i v k. reduced-keeps (P i) (Q i) v (c .reduced i (v .phase .0)) k;
         left = λ i v e k. weaken (P i) (Q i) v (c .left i (v .phase .0) e) k;
-        acted = λ i j v h k. act-keeps (Q i) (c .zeroed i) v k (eventOf (recordAt s j)) (accepted-events s m a j h);
+        acted = λ i j v h k. act-keeps g (Q i) (c .zeroed i) v k (eventOf g (recordAt s j)) (accepted-events g s m a j h);
         advanced = λ i v k. advance-keeps g ok w (Q i) (P (suc i)) v (c .grown i (v .phase .0)) k;
       }
 
@@ -72,5 +72,5 @@ module _ (P Q : ℕ → Float → Type 0) (c : Carried P Q) (g : Settings) (ok :
     pub run-keeps : (j : ℕ) → Kept (P (n + j)) (stateFrom g s n v j)
     run-keeps = state-lasts g s _ _ carries n v k
 
-    pub run-begins : (j : ℕ) → Kept (Q (n + j)) (begun s (n + j) (stateFrom g s n v j))
+    pub run-begins : (j : ℕ) → Kept (Q (n + j)) (begun g s (n + j) (stateFrom g s n v j))
     run-begins = sample-lasts g s _ _ carries n v k

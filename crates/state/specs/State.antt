@@ -1,7 +1,7 @@
 -- The state, and the four steps of a sample. 01, "Making sample n": "phase is reduced by TAU. Then the records at n act. On: voice and envelope `note_on`. Off: voice `note_off`, and the envelope's where it
 -- returned true. Reset: voice, envelope and phase to their fresh state. Then the sample is oscillator value * envelope level * velocity, left to right, and both advance. Frequency is always the voice's own
 -- (440 when fresh)." A reset goes on counting the records acted, itself included. Definitions only.
-use mathlib.Core.Bool.{cond}
+use mathlib.Core.Bool.{Bool, true, cond}
 use Prim.Native.Nat.{ℕ, _+_}
 use lib.Dec.{ltb}
 use lib.Ieee.{Float, binary64, ofBits}
@@ -38,35 +38,54 @@ counted acted = cond (ltb acted 18446744073709551615) (acted + 1) acted
 abbrev pub freshOf : ℕ → State
 freshOf acted = record { phase = radians naught; envelope = envelope.freshOf; frequency = concert; velocity = naught; keys = freshKeys; acted = acted }
 
+-- ---- the state with a part of it changed: a field more is named here and above, and nowhere below
+abbrev pub withPhase : State → Float → State
+withPhase v p = record { phase = radians p; envelope = v .envelope; frequency = v .frequency; velocity = v .velocity; keys = v .keys; acted = v .acted }
+
+abbrev pub withEnvelope : State → Envelope → State
+withEnvelope v e = record { phase = v .phase; envelope = e; frequency = v .frequency; velocity = v .velocity; keys = v .keys; acted = v .acted }
+
+-- the note sounds, with this velocity
+abbrev pub soundedOf : State → ℕ → ℕ → State
+soundedOf v note velocity = record { phase = v .phase; envelope = v .envelope; frequency = frequencyOf note; velocity = velocityOf velocity; keys = v .keys; acted = v .acted }
+
+-- these keys are held, and one record more has acted
+abbrev pub heldOf : State → Keys → State
+heldOf v keys = record { phase = v .phase; envelope = v .envelope; frequency = v .frequency; velocity = v .velocity; keys = keys; acted = counted (v .acted) }
+
 -- ---- reduce
 abbrev pub reducedOf : State → State
-reducedOf v = record { phase = radians (reduceOf (v .phase .0)); envelope = v .envelope; frequency = v .frequency; velocity = v .velocity; keys = v .keys; acted = v .acted }
+reducedOf v = withPhase v (reduceOf (v .phase .0))
 
 -- ---- act
--- what a record does: an on strikes a key (note, velocity), an off lifts a key (note), a reset resets; a lift releases only where the voice says so
+-- what a record does: an on strikes a key (note, velocity), an off lifts a key (note), a reset resets; a lift releases only where the voice says so. No setting changes that today
 abbrev pub eventFor : Kind → ℕ → ℕ → Event
 eventFor On note velocity = event.Strike note velocity
 eventFor Off note velocity = event.Lift note
 eventFor Reset note velocity = event.Reset
 
-abbrev pub eventOf : Record → Event
-eventOf r = eventFor (r .kind) (r .note) (r .velocity)
+abbrev pub eventOf : Settings → Record → Event
+eventOf g r = eventFor (r .kind) (r .note) (r .velocity)
 
--- the note sounds, struck with this velocity; the envelope is triggered
-abbrev pub struckOf : State → ℕ → ℕ → State
-struckOf v note velocity =
-    record { phase = v .phase; envelope = triggeredOf (v .envelope); frequency = frequencyOf note; velocity = velocityOf velocity; keys = pressedOf (v .keys) note velocity; acted = counted (v .acted) }
+-- whether a key that goes down in this state triggers the envelope: today every one does
+abbrev pub triggers : Settings → State → Bool
+triggers g v = true
+
+-- the note sounds, struck with this velocity
+abbrev pub struckOf : Settings → State → ℕ → ℕ → State
+struckOf g v note velocity =
+    withEnvelope (soundedOf (heldOf v (pressedOf (v .keys) note velocity)) note velocity) (cond (triggers g v) (triggeredOf (v .envelope)) (v .envelope))
 
 -- a key went up, and these keys are left: the voice is released, and with it the envelope; or it falls back to a held note, or goes on as it was
 abbrev pub liftedBy : State → Keys → NoteOff → State
-liftedBy v keys Released = record { phase = v .phase; envelope = releasedOf (v .envelope); frequency = v .frequency; velocity = v .velocity; keys = keys; acted = counted (v .acted) }
-liftedBy v keys (FellBack note velocity) = record { phase = v .phase; envelope = v .envelope; frequency = frequencyOf note; velocity = velocityOf velocity; keys = keys; acted = counted (v .acted) }
-liftedBy v keys NoChange = record { phase = v .phase; envelope = v .envelope; frequency = v .frequency; velocity = v .velocity; keys = keys; acted = counted (v .acted) }
+liftedBy v keys Released = withEnvelope (heldOf v keys) (releasedOf (v .envelope))
+liftedBy v keys (FellBack note velocity) = soundedOf (heldOf v keys) note velocity
+liftedBy v keys NoChange = heldOf v keys
 
-unfoldable pub actOf : State → Event → State
-actOf v (event.Strike note velocity) = struckOf v note velocity
-actOf v (event.Lift note) = let l = liftedOf (v .keys) note in liftedBy v (l .keys) (l .off)
-actOf v event.Reset = freshOf (counted (v .acted))
+unfoldable pub actOf : Settings → State → Event → State
+actOf g v (event.Strike note velocity) = struckOf g v note velocity
+actOf g v (event.Lift note) = let l = liftedOf (v .keys) note in liftedBy v (l .keys) (l .off)
+actOf g v event.Reset = freshOf (counted (v .acted))
 
 -- ---- the sample, and the advance
 -- the envelope one sample on; its level is the sample's
@@ -81,4 +100,4 @@ unfoldable pub sampleOf : Settings → State → Float
 sampleOf g v = valueAt (g .waveform) (paceOf g v) (v .phase .0) ⊗ steppedOf g v .level ⊗ v .velocity
 
 unfoldable pub advanceOf : Settings → State → State
-advanceOf g v = record { phase = radians (v .phase .0 ⊕ paceOf g v); envelope = steppedOf g v; frequency = v .frequency; velocity = v .velocity; keys = v .keys; acted = v .acted }
+advanceOf g v = withEnvelope (withPhase v (v .phase .0 ⊕ paceOf g v)) (steppedOf g v)

@@ -5,7 +5,7 @@ ghost use mathlib.Core.Path.{_≡_};
 ghost use Rattle.voice.specs.Keys.{liftedOf};
 ghost use Rattle.state.specs.Limits.{inLimits, isState};
 ghost use Rattle.state.specs.Settings.{settingsOk};
-ghost use Rattle.state.specs.State.{counted, freshOf, reducedOf, eventOf, actOf, struckOf, liftedBy, steppedOf, sampleOf, advanceOf};
+ghost use Rattle.state.specs.State.{counted, freshOf, soundedOf, heldOf, reducedOf, eventOf, actOf, struckOf, liftedBy, steppedOf, sampleOf, advanceOf};
 use envelope::Adsr;
 use envelope::Envelope;
 use score::Kind;
@@ -70,22 +70,15 @@ pub fn fresh() -> State
 pub fn reduce(state: State) -> State
     ensures { λ r. ⌜ r ≡ reducedOf state ⌝ }
 {
-    let envelope = state.envelope;
-    let keys = state.keys;
     let phase = waveform::reduced(state.phase);
-    State {
-        phase,
-        envelope,
-        frequency: state.frequency,
-        velocity: state.velocity,
-        keys,
-        acted: state.acted,
-    }
+    let mut next = state;
+    next.phase = phase;
+    next
 }
 
-// What a record of a score does: an on strikes its note's key, an off lifts it, a reset resets.
-pub fn event_of(given: Record) -> Event
-    ensures { λ r. ⌜ r ≡ eventOf given ⌝ }
+// What a record of a score does: an on strikes its note's key, an off lifts it, a reset resets. No setting changes that today.
+pub fn event_of(settings: Settings, given: Record) -> Event
+    ensures { λ r. ⌜ r ≡ eventOf settings given ⌝ }
 {
     let kind = given.kind;
     match kind {
@@ -96,11 +89,11 @@ pub fn event_of(given: Record) -> Event
 }
 
 // A record acts, and is counted.
-pub fn act(state: State, event: Event) -> State
-    ensures { λ r. ⌜ r ≡ actOf state event ⌝ }
+pub fn act(settings: Settings, state: State, event: Event) -> State
+    ensures { λ r. ⌜ r ≡ actOf settings state event ⌝ }
 {
     match event {
-        Event::Strike(note, velocity) => strike(state, note, velocity),
+        Event::Strike(note, velocity) => strike(settings, state, note, velocity),
         Event::Lift(note) => lift(state, note),
         Event::Reset => at_rest(one_more(state.acted)),
     }
@@ -122,15 +115,12 @@ pub fn advance(settings: Settings, state: State) -> State
     ensures { λ r. ⌜ r ≡ advanceOf settings state ⌝ }
 {
     let step = waveform::increment(state.frequency, settings.rate);
-    let keys = state.keys;
-    State {
-        phase: Radians(state.phase.0 + step.0),
-        envelope: stepped(settings, state),
-        frequency: state.frequency,
-        velocity: state.velocity,
-        keys,
-        acted: state.acted,
-    }
+    let phase = Radians(state.phase.0 + step.0);
+    let envelope = stepped(settings, state);
+    let mut next = state;
+    next.phase = phase;
+    next.envelope = envelope;
+    next
 }
 
 // Whether what sounds is within its limits.
@@ -162,18 +152,14 @@ fn at_rest(acted: u64) -> State
     }
 }
 
-fn strike(state: State, note: u8, velocity: u8) -> State
-    ensures { λ r. ⌜ r ≡ struckOf state note velocity ⌝ }
+fn strike(settings: Settings, state: State, note: u8, velocity: u8) -> State
+    ensures { λ r. ⌜ r ≡ struckOf settings state note velocity ⌝ }
 {
-    let phase = state.phase;
-    State {
-        phase,
-        envelope: envelope::triggered(state.envelope),
-        frequency: pitch::frequency_of_f64(note),
-        velocity: voice::velocity_of_f64(velocity),
-        keys: keys::pressed(state.keys, note, velocity),
-        acted: one_more(state.acted),
-    }
+    let keys = keys::pressed(state.keys, note, velocity);
+    let envelope = envelope::triggered(state.envelope);
+    let mut next = sounded(held(state, keys), note, velocity);
+    next.envelope = envelope;
+    next
 }
 
 fn lift(state: State, note: u8) -> State
@@ -189,35 +175,36 @@ fn lift(state: State, note: u8) -> State
 fn left(state: State, keys: Keys, off: NoteOff) -> State
     ensures { λ r. ⌜ r ≡ liftedBy state keys off ⌝ }
 {
-    let phase = state.phase;
-    let envelope = state.envelope;
-    let acted = one_more(state.acted);
+    let mut next = held(state, keys);
     match off {
-        NoteOff::Released => State {
-            phase,
-            envelope: envelope::released(envelope),
-            frequency: state.frequency,
-            velocity: state.velocity,
-            keys,
-            acted,
-        },
-        NoteOff::FellBack(note, velocity) => State {
-            phase,
-            envelope,
-            frequency: pitch::frequency_of_f64(note),
-            velocity: voice::velocity_of_f64(velocity),
-            keys,
-            acted,
-        },
-        NoteOff::NoChange => State {
-            phase,
-            envelope,
-            frequency: state.frequency,
-            velocity: state.velocity,
-            keys,
-            acted,
-        },
+        NoteOff::Released => {
+            let envelope = envelope::released(state.envelope);
+            next.envelope = envelope;
+            next
+        }
+        NoteOff::FellBack(note, velocity) => sounded(next, note, velocity),
+        NoteOff::NoChange => next,
     }
+}
+
+// The note sounds, with this velocity.
+fn sounded(state: State, note: u8, velocity: u8) -> State
+    ensures { λ r. ⌜ r ≡ soundedOf state note velocity ⌝ }
+{
+    let mut next = state;
+    next.frequency = pitch::frequency_of_f64(note);
+    next.velocity = voice::velocity_of_f64(velocity);
+    next
+}
+
+// These keys are held, and one record more has acted.
+fn held(state: State, keys: Keys) -> State
+    ensures { λ r. ⌜ r ≡ heldOf state keys ⌝ }
+{
+    let mut next = state;
+    next.keys = keys;
+    next.acted = one_more(state.acted);
+    next
 }
 
 // The envelope one sample on.

@@ -1,6 +1,6 @@
 -- What the inner loops share, whatever the value at a phase: how far one has come, that it begins, goes on and ends so. Assumes nothing.
 use mathlib.Core.Path.{_≡_, refl, sym, subst, ap, _∙_}
-use mathlib.Core.List.{List, [], _∷_, _++_}
+use mathlib.Core.List.{List}
 use mathlib.Core.Bool.{true, _&&_}
 use Prim.Native.Nat.{ℕ, _+_, _≤_, _<_}
 use native.Mathlib.Nat as nat
@@ -11,22 +11,17 @@ use lib.Seq.{take-suc-set, take-all}
 use lib.Dec.{T}
 use lib.Ieee.{Float, binary64, lt, le, fits}
 use lib.Ieee.Fits.{and-l, and-r, add-fits}
+use Rattle.runs.specs.Runs.{run, listed}
 use Rattle.floats.specs.Double.{_⊕_, _⊗_}
-use Rattle.waveform.specs.declared.Waveform.{Waveform}
 use Rattle.waveform.specs.Waveform.{radians}
-use Rattle.waveform.specs.Filled.{phaseFrom, valueAt, samplesBy, Filled, FilledBy}
+use Rattle.waveform.specs.Filled.{phaseFrom, samplesBy, FilledBy}
 use Rattle.waveform.specs.declared.Stretch.{Stretch}
 use Rattle.waveform.specs.Lines.{lineOf, partOf, Straight, Upto, Onward}
-use Rattle.waveform.proofs.Steps.{phase-more}
-use Rattle.waveform.proofs.Lent.{filled}
+use Rattle.waveform.proofs.Steps.{phase-more, samples-more}
 
 module _ (value : Float → Float) (step scale p₀ : Float) (before : List Float) where
-  more : (k : ℕ) → samplesBy value step scale p₀ (k + 1) ≡ samplesBy value step scale p₀ k ++ (value (phaseFrom step p₀ k) ⊗ scale ∷ [])
-  unfolding samplesBy
-  more k = rw (add-one k) refl
-
   pub begins : Upto value step scale p₀ before before p₀ 0
-  unfolding phaseFrom samplesBy
+  unfolding run listed phaseFrom samplesBy
   begins = record { size = refl; within = omega arith; phase = refl; samples = refl }
 
   pub goes-on : (out : List Float) (p v : Float) (i : ℕ) → Upto value step scale p₀ before out p i → i < length out → v ≡ value p → Upto value step scale p₀ before (set out i (v ⊗ scale)) (p ⊕ step) (i + 1)
@@ -35,7 +30,7 @@ module _ (value : Float → Float) (step scale p₀ : Float) (before : List Floa
         size = simp length-set (u .size);
         within = simp length-set (omega arith);
         phase = ap (λ (x : Float). x ⊕ step) (u .phase) ∙ sym (phase-more step p₀ i);
-        samples = rw (more i, add-one i, take-suc-set, u .samples, e, u .phase) refl;
+        samples = rw (samples-more value step scale p₀ i, add-one i, take-suc-set, u .samples, e, u .phase) refl;
       }
 
   -- four of them
@@ -56,17 +51,13 @@ module _ (value : Float → Float) (step scale p₀ : Float) (before : List Floa
       at-count : {ys : List Float} {q : Float} {j k : ℕ} → j ≡ k → Upto value step scale p₀ before ys q j → Upto value step scale p₀ before ys q k
       at-count {ys} {q} e = subst (λ (n : ℕ). Upto value step scale p₀ before ys q n) e
 
-  pub ends-by : (out : List Float) (p : Float) (i : ℕ) → Upto value step scale p₀ before out p i → length out ≤ i → FilledBy value p₀ step scale before out (radians p)
-  ends-by out p i u h =
+  pub ends : (out : List Float) (p : Float) (i : ℕ) → Upto value step scale p₀ before out p i → length out ≤ i → FilledBy value p₀ step scale before out (radians p)
+  ends out p i u h =
       let e : i ≡ length out = omega (arith, u .within) in
       record {
         samples = rw (← u .size, ← e) (sym (take-all i out h) ∙ u .samples);
         phase = rw (← u .size, ← e) (ap radians (u .phase));
       }
-
--- with a waveform's own value
-pub ends : (w : Waveform) (step scale p₀ : Float) (before out : List Float) (p : Float) (i : ℕ) → Upto (valueAt w step) step scale p₀ before out p i → length out ≤ i → Filled w p₀ step scale before out (radians p)
-ends w step scale p₀ before out p i u h = filled (valueAt w step) w p₀ step scale before out (radians p) (λ (q : Float). refl) (ends-by (valueAt w step) step scale p₀ before out p i u h)
 
 -- ---- over a stretch: a loop has come on from the phase p and sample i to the phase q and sample j
 abbrev pub Running : Stretch → Float → Float → List Float → Float → ℕ → List Float → Float → ℕ → Type 0

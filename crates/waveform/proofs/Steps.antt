@@ -1,37 +1,45 @@
--- One sample more of a block, and a block run on. Assumes nothing.
-use mathlib.Core.Path.{_≡_, refl, sym, ap, _∙_}
-use mathlib.Core.List.{List, [], _∷_, _++_, append-assoc, append-nil}
-use Prim.Native.Nat.{ℕ, zero, suc, _+_}
-use native.Mathlib.Nat.{add-zero, add-suc}
-use native.Mathlib.Numerals.{add-one}
-use lib.ListN.{length, length-append}
-use lib.Ieee.{Float}
+-- One sample more of a block, sample i of it, and a block run on. Assumes nothing.
+use mathlib.Core.Path.{_≡_, refl, ap, _∙_}
+use mathlib.Core.List.{[], _∷_, _++_}
+use Prim.Native.Nat.{ℕ, _+_, _<_}
+use lib.ListN.{length, getD}
+use lib.Ieee.{Float, nan}
+use Rattle.runs.proofs.Listed.{listed-more, listed-length, listed-at, listed-on, listed-same}
+use Rattle.runs.proofs.Laws.{repeated-more, repeated-on}
 use Rattle.floats.specs.Double.{_⊕_, _⊗_}
-use Rattle.waveform.specs.declared.Waveform.{Waveform}
-use Rattle.waveform.specs.Filled.{phaseFrom, valueAt, samplesFrom}
+use Rattle.waveform.specs.Filled.{phaseFrom, samplesBy}
 
--- the phase of one turn more
-pub phase-more : (step p : Float) (k : ℕ) → phaseFrom step p (k + 1) ≡ phaseFrom step p k ⊕ step
-unfolding phaseFrom
-phase-more step p k = rw (add-one k) refl
+module _ (step p : Float) where
+  -- the phase of one turn more
+  pub phase-more : (k : ℕ) → phaseFrom step p (k + 1) ≡ phaseFrom step p k ⊕ step
+  unfolding phaseFrom
+  phase-more = repeated-more (λ (q : Float). q ⊕ step) p
 
--- as many as were asked for
-pub samples-length : (w : Waveform) (step scale p : Float) (k : ℕ) → length (samplesFrom w step scale p k) ≡ k
-unfolding samplesFrom
-samples-length w step scale p zero = refl
-samples-length w step scale p (suc k) = rw (length-append (samplesFrom w step scale p k) (valueAt w step (phaseFrom step p k) ⊗ scale ∷ []), samples-length w step scale p k) (add-one k)
+  -- j samples and then k from the phase there are j + k samples: the inner loop may be cut anywhere
+  pub phase-on : (j k : ℕ) → phaseFrom step p (j + k) ≡ phaseFrom step (phaseFrom step p j) k
+  unfolding phaseFrom
+  phase-on = repeated-on (λ (q : Float). q ⊕ step) p
 
--- j samples and then k from the phase there are j + k samples: the inner loop may be cut anywhere
-pub phase-on : (step p : Float) (j k : ℕ) → phaseFrom step p (j + k) ≡ phaseFrom step (phaseFrom step p j) k
-unfolding phaseFrom
-phase-on step p j zero = rw (add-zero j) refl
-phase-on step p j (suc k) = rw (add-suc j k) (ap (λ (x : Float). x ⊕ step) (phase-on step p j k))
+module _ (value : Float → Float) (step scale p : Float) where
+  pub samples-more : (k : ℕ) → samplesBy value step scale p (k + 1) ≡ samplesBy value step scale p k ++ (value (phaseFrom step p k) ⊗ scale ∷ [])
+  unfolding samplesBy
+  samples-more = listed-more _
 
-pub samples-on : (w : Waveform) (step scale p : Float) (j k : ℕ) → samplesFrom w step scale p (j + k) ≡ samplesFrom w step scale p j ++ samplesFrom w step scale (phaseFrom step p j) k
-unfolding samplesFrom
-samples-on w step scale p j zero = rw (add-zero j) (sym (append-nil (samplesFrom w step scale p j)))
-samples-on w step scale p j (suc k) =
-    rw (add-suc j k)
-    (ap (λ (l : List Float). l ++ (valueAt w step (phaseFrom step p (j + k)) ⊗ scale ∷ [])) (samples-on w step scale p j k)
-    ∙ append-assoc (samplesFrom w step scale p j) (samplesFrom w step scale (phaseFrom step p j) k) (valueAt w step (phaseFrom step p (j + k)) ⊗ scale ∷ [])
-    ∙ ap (λ (q : Float). samplesFrom w step scale p j ++ (samplesFrom w step scale (phaseFrom step p j) k ++ (valueAt w step q ⊗ scale ∷ []))) (phase-on step p j k))
+  -- as many as were asked for
+  pub samples-length : (k : ℕ) → length (samplesBy value step scale p k) ≡ k
+  unfolding samplesBy
+  samples-length = listed-length _
+
+  -- sample i of n
+  pub sample-at : (i n : ℕ) → i < n → getD (samplesBy value step scale p n) i nan ≡ value (phaseFrom step p i) ⊗ scale
+  unfolding samplesBy
+  sample-at i n = listed-at _ n i nan
+
+  pub samples-on : (j k : ℕ) → samplesBy value step scale p (j + k) ≡ samplesBy value step scale p j ++ samplesBy value step scale (phaseFrom step p j) k
+  unfolding samplesBy
+  samples-on j k = listed-on _ j k ∙ ap (_++_ (samplesBy value step scale p j)) (listed-same _ _ k (λ i l. rw (phase-on step p j i) refl))
+
+-- the same values give the same samples
+pub samples-same : (value other : Float → Float) (step scale p : Float) → ((q : Float) → value q ≡ other q) → (k : ℕ) → samplesBy value step scale p k ≡ samplesBy other step scale p k
+unfolding samplesBy
+samples-same value other step scale p e k = listed-same _ _ k (λ i l. ap (λ (x : Float). x ⊗ scale) (e (phaseFrom step p i)))

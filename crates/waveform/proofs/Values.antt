@@ -1,17 +1,14 @@
 -- Every sample of a block is finite, however long the block is: the phase grows to 2^60 at most, where a step no longer moves it, so each value is taken in its domain. And a value is an f64. Assumes nothing.
-use mathlib.Core.Path.{_≡_, refl, subst, sym, _∙_}
-use mathlib.Core.Logic.{⊎-elim}
+use mathlib.Core.Path.{_≡_, refl, subst, sym}
 use mathlib.Core.Bool.{Bool, true, false, not}
-use mathlib.Core.List.{[], _∷_}
-use Prim.Native.Nat.{ℕ, zero, suc, _<_}
-use native.Mathlib.Nat.{eq-or-lt-of-le, le-of-suc-le-suc, not-suc-le-zero}
+use Prim.Native.Nat.{ℕ, _<_}
 use lib.IntN.{pos}
 use lib.Dec.{T, eqb}
-use lib.ListN.{getD, List·getD-append}
-use lib.Seq.{getD-at}
+use lib.ListN.{getD}
 use lib.Ieee.{Float, nan, binary64, ofBits, add, le, fits}
 use lib.Ieee.Fits.{and-i, and-l, and-r, cond-fits, add-fits, sub-fits, mul-fits, div-fits}
 use lib.Ieee.Scale.{finite}
+use Rattle.runs.proofs.Laws.{repeated-keeps}
 use Rattle.floats.specs.Range.{nought, unity, nonneg, within}
 use Rattle.floats.specs.Double.{_⊕_, _⊖_, _⊗_, naught, one, four}
 use Rattle.floats.proofs.Literals.{lit0-is, lit1-is}
@@ -29,7 +26,7 @@ use Rattle.waveform.specs.declared.Waveform.the-variants.{Sine, Square, 
 use Rattle.waveform.specs.Waveform.{invTau, isWaveform, valueOf, normalOf}
 use Rattle.waveform.specs.Filled.{phaseFrom, valueAt, samplesFrom}
 use Rattle.waveform.proofs.Normal.{normal-in}
-use Rattle.waveform.proofs.Steps.{samples-length}
+use Rattle.waveform.proofs.Steps.{sample-at}
 
 -- ---- a value is an f64, of any phase and step
 point-fits : (p : Float) → T (fits binary64 (pointOf quarter p))
@@ -89,15 +86,10 @@ module _ (step p : Float) (s : T (nonneg step)) (l : T (le step sixteen)) (h : N
 
   pub phase-near : (k : ℕ) → Near (phaseFrom step p k)
   unfolding phaseFrom
-  phase-near zero = h
-  phase-near (suc k) =
-      let q = phaseFrom step p k in
-      let n = phase-near k in
-      record {
-        p-fits = add-fits binary64 q step;
-        p-nonneg = under (q ⊕ step) far (add-ge0 binary64 q step (n .p-nonneg) s) (unfold ofBits in tt) (grown-le q n);
-        p-le = grown-le q n;
-      }
+  phase-near = repeated-keeps (λ (q : Float). q ⊕ step) p Near grown h
+    where
+      grown : (q : Float) → Near q → Near (q ⊕ step)
+      grown q n = record { p-fits = add-fits binary64 q step; p-nonneg = under (q ⊕ step) far (add-ge0 binary64 q step (n .p-nonneg) s) (unfold ofBits in tt) (grown-le q n); p-le = grown-le q n }
 
 -- ---- samples
 -- x * t for t from 0 to 1
@@ -124,18 +116,9 @@ scaled-finite x t w k h = go (le nought x) refl
         let r = scale-down-in binary64 x t w k t-nonneg t-le (not-le-le nought x tt k (subst (λ (b : Bool). T (not b)) (sym e) tt)) in
         between-finite x (x ⊗ t) nought k tt (and-l (le x (x ⊗ t)) (le (x ⊗ t) nought) r) (and-r (le x (x ⊗ t)) (le (x ⊗ t) nought) r)
 
--- sample i of n
-pub sample-at : (w : Waveform) (step scale p : Float) (i n : ℕ) → i < n → getD (samplesFrom w step scale p n) i nan ≡ valueAt w step (phaseFrom step p i) ⊗ scale
-unfolding samplesFrom
-sample-at w step scale p i zero h = absurd (not-suc-le-zero h)
-sample-at w step scale p i (suc n) h =
-    ⊎-elim (λ q. rw q (getD-at (samplesFrom w step scale p n) (valueAt w step (phaseFrom step p n) ⊗ scale) [] nan n (samples-length w step scale p n)))
-    (λ l. List·getD-append (samplesFrom w step scale p n) (valueAt w step (phaseFrom step p n) ⊗ scale ∷ []) nan i (rw (samples-length w step scale p n) l) ∙ sample-at w step scale p i n l)
-    (eq-or-lt-of-le (le-of-suc-le-suc h))
-
 module _ (w : Waveform) (step scale p : Float) (c : T (isWaveform w)) (s : T (nonneg step)) (l : T (le step sixteen)) (d : T (within naught four (step ⊗ invTau))) (t : T (within naught one scale)) (h : Near p) where
   pub samples-finite : (i n : ℕ) → i < n → T (finite (getD (samplesFrom w step scale p n) i nan))
   samples-finite i n lt =
       let q = phaseFrom step p i in
       let near = phase-near step p s l h i in
-      rw (sample-at w step scale p i n lt) (scaled-finite (valueAt w step q) scale (value-fits w (normalOf q) (step ⊗ invTau)) (value-at-finite w step q c (near .p-fits) (near .p-nonneg) d) t)
+      rw (sample-at (valueAt w step) step scale p i n lt) (scaled-finite (valueAt w step q) scale (value-fits w (normalOf q) (step ⊗ invTau)) (value-at-finite w step q c (near .p-fits) (near .p-nonneg) d) t)

@@ -1,9 +1,10 @@
 -- A block, sample by sample. 01: "For each sample the value is taken from (phase % TAU) * INV_TAU with dt = increment * INV_TAU, times depth in the LFO, then phase grows by the increment." Definitions only.
 use mathlib.Core.Path.{_≡_}
-use mathlib.Core.List.{List, [], _∷_, _++_}
-use Prim.Native.Nat.{ℕ, zero, suc}
+use mathlib.Core.List.{List}
+use Prim.Native.Nat.{ℕ}
 use lib.ListN.{length}
 use lib.Ieee.{Float}
+use Rattle.runs.specs.Runs.{repeated, listed}
 use Rattle.floats.specs.Double.{_⊕_, _⊗_}
 use Rattle.sine.specs.Whole.{wholeReading}
 use Rattle.waveform.specs.declared.Radians.{Radians}
@@ -13,38 +14,36 @@ use Rattle.waveform.specs.Waveform.{valueOf, normalOf, invTau, radians}
 
 -- the phase before sample k, from p before sample 0
 unfoldable pub phaseFrom : Float → Float → ℕ → Float
-phaseFrom step p zero = p
-phaseFrom step p (suc k) = phaseFrom step p k ⊕ step
+phaseFrom step p k = repeated (λ (q : Float). q ⊕ step) p k
 
 -- the value at a phase of p radians
 abbrev pub valueAt : Waveform → Float → Float → Float
 valueAt w step p = valueOf w (normalOf p) (step ⊗ invTau)
 
--- the first k samples
-unfoldable pub samplesFrom : Waveform → Float → Float → Float → ℕ → List Float
-unfolding phaseFrom
-samplesFrom w step scale p zero = []
-samplesFrom w step scale p (suc k) = samplesFrom w step scale p k ++ (valueAt w step (phaseFrom step p k) ⊗ scale ∷ [])
+-- the value times a scale: what a block writes
+abbrev pub scaledAt : (Float → Float) → Float → Float → Float
+scaledAt value scale p = value p ⊗ scale
+
+-- the first k samples, of any values
+unfoldable pub samplesBy : (Float → Float) → Float → Float → Float → ℕ → List Float
+samplesBy value step scale p k = listed (λ (i : ℕ). scaledAt value scale (phaseFrom step p i)) k
+
+-- of a waveform's own
+abbrev pub samplesFrom : Waveform → Float → Float → Float → ℕ → List Float
+samplesFrom w step scale p k = samplesBy (valueAt w step) step scale p k
 
 -- every sample written, and the phase after the last
-pub record Filled (w : Waveform) (p step scale : Float) (before after : List Float) (r : Radians) : Type 0 where
-  pub samples : after ≡ samplesFrom w step scale p (length before)
+pub record FilledBy (value : Float → Float) (p step scale : Float) (before after : List Float) (r : Radians) : Type 0 where
+  pub samples : after ≡ samplesBy value step scale p (length before)
   pub phase : r ≡ radians (phaseFrom step p (length before))
 
--- ---- the same of any values: a sine may be read from a lent table W, and every other waveform has its own value
+abbrev pub Filled : Waveform → Float → Float → Float → List Float → List Float → Radians → Type 0
+Filled w p step scale before after r = FilledBy (valueAt w step) p step scale before after r
+
+-- ---- a sine may be read from a lent table W, and every other waveform has its own value
 unfoldable pub valueIn : List Float → Waveform → Float → Float → Float
 valueIn W Sine step p = wholeReading W (normalOf p)
 valueIn W Square step p = valueAt Square step p
 valueIn W Sawtooth step p = valueAt Sawtooth step p
 valueIn W Triangle step p = valueAt Triangle step p
 valueIn W (Pulse duty) step p = valueAt (Pulse duty) step p
-
--- the first k samples, of the value at each phase
-unfoldable pub samplesBy : (Float → Float) → Float → Float → Float → ℕ → List Float
-unfolding phaseFrom
-samplesBy value step scale p zero = []
-samplesBy value step scale p (suc k) = samplesBy value step scale p k ++ (value (phaseFrom step p k) ⊗ scale ∷ [])
-
-pub record FilledBy (value : Float → Float) (p step scale : Float) (before after : List Float) (r : Radians) : Type 0 where
-  pub samples : after ≡ samplesBy value step scale p (length before)
-  pub phase : r ≡ radians (phaseFrom step p (length before))

@@ -1,29 +1,37 @@
 -- `desk::choice_of` meets its contract. Assumes nothing.
 use mathlib.Core.Path.{refl}
-use borrow.Author.Tests.{ne-eqb}
+use borrow.Author.Needs.{needs}
+use Rattle.desk.specs.Desk.{choiceOf}
 use Rattle.desk.proofs.choice_of.Statement.{statement}
 use Rattle.desk.proofs.choice_of.Tie as tie
 
+shape-of-requires : tie.Need-shape-of-requires
+shape-of-requires c κs = search needs
+
+enum-known-shape : tie.Need-enum-known-shape
+enum-known-shape c = search needs
+
+settings-of-requires : tie.Need-settings-of-requires
+settings-of-requires c κs = search needs
+
+enum-told : tie.Need-enum-told
+enum-told c = search needs
+
 returns : tie.Need-returns
-returns c = rw (c .match .keys1) refl
+unfolding choiceOf
+returns c = let told = c .before .before in rw (c .settings-of .ensures, ← told .before .before .shape-of .ensures, told .shape .given .1) refl
 
 returns-2 : tie.Need-returns-2
-returns-2 c = rw (c .match .keys2) refl
-
-returns-3 : tie.Need-returns-3
-returns-3 c = rw (c .match .keys3) refl
-
-returns-4 : tie.Need-returns-4
-returns-4 c = rw (c .match .keys4) refl
-
-returns-5 : tie.Need-returns-5
-returns-5 c = rw (c .match .keys5) refl
-
-returns-6 : tie.Need-returns-6
-returns-6 c =
-    let code = c .before .args .code in
-    let n = c .match .rest in
-    rw (ne-eqb code 0 (n .0 .0 .0 .0 .1), ne-eqb code 1 (n .0 .0 .0 .1), ne-eqb code 2 (n .0 .0 .1), ne-eqb code 3 (n .0 .1), ne-eqb code 4 (n .1)) refl
+unfolding choiceOf
+returns-2 c = rw (← c .before .before .shape-of .ensures, c .enum-told .given .1) refl
 
 pub choice-of-spec : {M : Type 1} → statement M
-choice-of-spec = tie.close (tie.spec returns returns-2 returns-3 returns-4 returns-5 returns-6)
+choice-of-spec =
+    tie.close
+    (tie.spec
+    shape-of-requires
+    enum-known-shape
+    settings-of-requires
+    enum-told
+    returns
+    returns-2)

@@ -20,10 +20,7 @@ packed-requires c κs = search needs
 returns : tie.Need-returns
 returns c =
     let told = c .before in
-    continue-unknown _ _ _ _ _ _ _ (sym (told .before .before .choice-of .ensures) ∙ told .enum-told .given .1) _ (c .packed .ensures)
-
-settings-of-requires : tie.Need-settings-of-requires
-settings-of-requires c κs = search needs
+    continue-unknown _ (sym (told .before .before .choice-of .ensures) ∙ told .enum-told .given .1) _ (c .packed .ensures) _ _ _ _
 
 continue-in-requires : tie.Need-continue-in-requires
 continue-in-requires c κs = search needs
@@ -37,9 +34,8 @@ same-length-2 c = search needs
 returns-2 : tie.Need-returns-2
 returns-2 c =
     let made = c .before .before .before .before in
-    let set = made .before .before .before in
-    let told = set .before .before in
-    continue-known _ _ _ _ _ _ _ _ (sym (told .before .before .choice-of .ensures) ∙ told .choice .given .1) _ (set .settings-of .ensures) _ (made .continue-in .ensures)
+    let told = made .before .before .before .before in
+    continue-known _ _ (sym (told .before .before .choice-of .ensures) ∙ told .choice .given .1) _ _ _ _ _ (made .continue-in .ensures)
 
 pub gav-continue-spec : {M : Type 1} → statement M
 gav-continue-spec =
@@ -50,7 +46,6 @@ gav-continue-spec =
     enum-told
     packed-requires
     returns
-    settings-of-requires
     continue-in-requires
     same-length
     same-length-2

@@ -5,11 +5,11 @@ use borrow.Author.Needs.{needs}
 use Rattle.desk.proofs.single.Statement.{statement}
 use Rattle.desk.proofs.single.Tie as tie
 
-choice-of-requires : tie.Need-choice-of-requires
-choice-of-requires c κs = search needs
+shape-of-requires : tie.Need-shape-of-requires
+shape-of-requires c κs = search needs
 
-enum-known-choice : tie.Need-enum-known-choice
-enum-known-choice c = search needs
+enum-known-shape : tie.Need-enum-known-shape
+enum-known-shape c = search needs
 
 sample-requires : tie.Need-sample-requires
 sample-requires c κs = search needs
@@ -23,19 +23,19 @@ value-if-requires c κs = search needs
 returns : tie.Need-returns
 returns c =
     let told = c .before .before in
-    c .sample .ensures ∙ single-known _ _ _ (sym (told .before .before .choice-of .ensures) ∙ told .choice .given .1)
+    c .sample .ensures ∙ single-known _ _ _ (sym (told .before .before .shape-of .ensures) ∙ told .shape .given .1)
 
 returns-2 : tie.Need-returns-2
 returns-2 c =
     let told = c .before in
-    c .value-if .ensures ∙ single-unknown _ _ _ (sym (told .before .before .choice-of .ensures) ∙ told .enum-told .given .1)
+    c .value-if .ensures ∙ single-unknown _ _ _ (sym (told .before .before .shape-of .ensures) ∙ told .enum-told .given .1)
 
 pub single-spec : {M : Type 1} → statement M
 single-spec =
     tie.close
     (tie.spec
-    choice-of-requires
-    enum-known-choice
+    shape-of-requires
+    enum-known-shape
     sample-requires
     enum-told
     value-if-requires

@@ -7,6 +7,7 @@ use native.Mathlib.Numerals.{add-one}
 use native.Mathlib.Omega.{arith}
 use lib.ListN.{length, take, length-set}
 use lib.Seq.{take-suc-set, take-all}
+use Rattle.runs.specs.Runs.{run, listed}
 use Rattle.envelope.specs.Stages.{stepOf}
 use Rattle.envelope.specs.Running.{envelopeFrom, levelsFrom}
 use Rattle.envelope.specs.declared.Envelope.{Envelope}
@@ -21,7 +22,7 @@ abbrev μ-loop : tie.MeasureT-loop
 μ-loop adsr sample-time out₀ after₀ i₀ out after i = length out₀ - i
 
 loop-holds : tie.Need-loop-holds Inv-loop μ-loop
-unfolding envelopeFrom levelsFrom
+unfolding run listed envelopeFrom levelsFrom
 loop-holds c = (refl, omega arith, refl, refl)
 
 step-requires : tie.Need-step-requires Inv-loop μ-loop
@@ -40,7 +41,7 @@ loop-less : tie.Need-loop-less Inv-loop μ-loop
 loop-less c = omega arith
 
 loop-again : tie.Need-loop-again Inv-loop μ-loop
-unfolding envelopeFrom levelsFrom
+unfolding run listed envelopeFrom levelsFrom
 loop-again c =
     let at = c .before .before in
     let a = at .before .before .args in

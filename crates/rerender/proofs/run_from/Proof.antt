@@ -4,6 +4,7 @@ use mathlib.Core.Bool.{_&&_}
 use Prim.Native.Nat.{_+_, _-_, _*_}
 use native.Mathlib.Omega.{arith}
 use borrow.Author.Tests.{not-true, not-false}
+use Rattle.shelf.specs.Shelf.{entryWords}
 use Rattle.rerender.proofs.Cases.{from-refused, from-made}
 use borrow.Author.Needs.{needs}
 use Rattle.rerender.proofs.run_from.Statement.{statement}
@@ -45,13 +46,13 @@ same-length c = search needs
 returns : tie.Need-returns
 returns c =
     let x = c .before .before in
-    let start = x .before .before .before .before .before .before .before .before in
-    let w = start .args .mark * 12 in
-    let d : w + 12 - w ≡ 12 = omega arith in
+    let start = x .before .before .before .before .before .before .before .before .before in
+    let w = start .args .mark * entryWords in
+    let d : w + entryWords - w ≡ entryWords = omega arith in
     let entry = rw d at (x .before .before .decode .ensures) in
     let held = x .before .before .decode .result in
     let test = held .holds && x .parts-at .result in
-    from-refused _ _ _ _ _ (start .pre .0) (rw (x .parts-at .ensures, entry) at (not-true test (c .if1 .taken)))
+    from-refused _ _ _ _ _ _ (start .pre .0) (rw (x .parts-at .ensures, entry) at (not-true test (c .if1 .taken)))
 
 play-on-requires : tie.Need-play-on-requires
 play-on-requires c κs = search needs
@@ -66,13 +67,13 @@ returns-2 : tie.Need-returns-2
 returns-2 c =
     let made = c .before .before .before .before in
     let x = made .before .before .before .before .before in
-    let start = x .before .before .before .before .before .before .before .before in
-    let w = start .args .mark * 12 in
-    let d : w + 12 - w ≡ 12 = omega arith in
+    let start = x .before .before .before .before .before .before .before .before .before in
+    let w = start .args .mark * entryWords in
+    let d : w + entryWords - w ≡ entryWords = omega arith in
     let entry = rw d at (x .before .before .decode .ensures) in
     let held = x .before .before .decode .result in
     let test = held .holds && x .parts-at .result in
-    from-made _ _ _ _ _ (start .pre .0) (start .pre .1 .0) (rw (x .parts-at .ensures, entry) at (not-false test (made .before .before .before .if1 .left))) _ _ _ (rw entry at (made .play-on .ensures))
+    from-made _ _ _ _ _ _ (start .pre .0) (start .pre .1 .0) (rw (x .parts-at .ensures, entry) at (not-false test (made .before .before .before .if1 .left))) _ _ _ (rw entry at (made .play-on .ensures))
 
 pub run-from-spec : {M : Type 1} → statement M
 run-from-spec =

@@ -4,6 +4,7 @@ use mathlib.Core.Path.{_≡_}
 use Prim.Native.Nat.{_<_, _-_, _+_, _*_}
 use native.Mathlib.Omega.{arith}
 use lib.ListN.{length}
+use Rattle.shelf.specs.Shelf.{entryWords}
 use Rattle.sections.proofs.Turns.{Walked, walk-first, room, walk-on, walk-last}
 use Rattle.sections.proofs.from_mark.Statement.{statement}
 use Rattle.sections.proofs.from_mark.Tie as tie
@@ -77,7 +78,7 @@ loop-again c =
     let at = c .before .before .before .before .before .before .before .before .before .before in
     let pre = at .before .before .before .before .pre in
     let k = at .loop .k in
-    let d : k * 12 + 12 - k * 12 ≡ 12 = omega arith in
+    let d : k * entryWords + entryWords - k * entryWords ≡ entryWords = omega arith in
     rw d (walk-on _ _ _ _ _ _ (pre .0) (pre .1) _ _ _ _ _ (at .loop .inv) (c .before .before .before .before .before .before .before .before .before .loop-test .taken) _ (c .before .before .before .before .section-end .ensures) _ _ (c .before .before .play .ensures) _ (c .before .before .before .before .before .before .before .keep .ensures))
 
 same-length : tie.Need-same-length Inv-loop μ-loop

@@ -7,21 +7,22 @@ use native.Mathlib.Numerals.{add-one}
 use native.Mathlib.Omega.{arith}
 use lib.ListN.{length, take, getD, length-set}
 use lib.Seq.{take-suc-set, take-suc, take-all}
+use Rattle.shelf.specs.Shelf.{entryWords}
 use Rattle.shelf.proofs.There.{entry-length}
 use Rattle.shelf.proofs.keep.Statement.{statement}
 use Rattle.shelf.proofs.keep.Tie as tie
 
 abbrev Inv-loop : tie.InvT-loop
-Inv-loop words₀ entry i₀ words i = (length words ≡ 12) × (length entry ≡ 12) × (i ≤ 12) × (take i words ≡ take i entry)
+Inv-loop words₀ entry i₀ words i = (length words ≡ entryWords) × (length entry ≡ entryWords) × (i ≤ entryWords) × (take i words ≡ take i entry)
 
 abbrev μ-loop : tie.MeasureT-loop
-μ-loop words₀ entry i₀ words i = 12 - i
+μ-loop words₀ entry i₀ words i = entryWords - i
 
 encode-requires : tie.Need-encode-requires Inv-loop μ-loop
 encode-requires c κs = search needs
 
 returns : tie.Need-returns Inv-loop μ-loop
-returns c = rw (ne-eqb _ 12 (c .if1 .taken)) refl
+returns c = rw (ne-eqb _ entryWords (c .if1 .taken)) refl
 
 loop-holds : tie.Need-loop-holds Inv-loop μ-loop
 loop-holds c = (c .if1 .left, ap length (c .before .encode .ensures) ∙ entry-length _, omega arith, refl)
@@ -64,8 +65,8 @@ returns-2 : tie.Need-returns-2 Inv-loop μ-loop
 returns-2 c =
     let at = c .before in
     let made = at .before .before in
-    let e : at .loop .i ≡ 12 = omega (arith, at .loop .inv .0, at .loop .inv .2) in
-    rw (eq-eqb _ 12 (at .before .if1 .left)) (sym (take-all (at .loop .i) (at .loop .words) (omega (arith, at .loop .inv .0))) ∙ at .loop .inv .3 ∙ take-all (at .loop .i) (made .encode .result) (omega (arith, at .loop .inv .1)) ∙ made .encode .ensures)
+    let e : at .loop .i ≡ entryWords = omega (arith, at .loop .inv .0, at .loop .inv .2) in
+    rw (eq-eqb _ entryWords (at .before .if1 .left)) (sym (take-all (at .loop .i) (at .loop .words) (omega (arith, at .loop .inv .0))) ∙ at .loop .inv .3 ∙ take-all (at .loop .i) (made .encode .result) (omega (arith, at .loop .inv .1)) ∙ made .encode .ensures)
 
 pub keep-spec : {M : Type 1} → statement M
 keep-spec =

@@ -11,10 +11,10 @@ use Rattle.spans.proofs.act_from.Statement.{statement}
 use Rattle.spans.proofs.act_from.Tie as tie
 
 abbrev Inv-loop : tie.InvT-loop
-Inv-loop score position offset n state₀ next₀ state next = (n ≡ countOf score) × (actFrom score (position + offset) (n - next₀) (placeOf state₀ next₀) ≡ actFrom score (position + offset) (n - next) (placeOf state next))
+Inv-loop settings score position offset n state₀ next₀ state next = (n ≡ countOf score) × (actFrom settings score (position + offset) (n - next₀) (placeOf state₀ next₀) ≡ actFrom settings score (position + offset) (n - next) (placeOf state next))
 
 abbrev μ-loop : tie.MeasureT-loop
-μ-loop score position offset n state₀ next₀ state next = n - next
+μ-loop settings score position offset n state₀ next₀ state next = n - next
 
 count-requires : tie.Need-count-requires Inv-loop μ-loop
 count-requires c κs = search needs
@@ -30,7 +30,7 @@ returns c =
     let at = c .before .before .before in
     let a = at .before .before .before .before .args in
     let f = sym (c .before .stands-at .ensures) ∙ not-true _ (c .if1 .taken) in
-    sym (rw (← at .loop .inv .0) (at .loop .inv .1 ∙ act-stop (a .score .now) (a .position + a .offset) _ (placeOf (at .loop .state) (at .loop .next)) f))
+    sym (rw (← at .loop .inv .0) (at .loop .inv .1 ∙ act-stop (a .settings) (a .score .now) (a .position + a .offset) _ (placeOf (at .loop .state) (at .loop .next)) f))
 
 record-at-requires : tie.Need-record-at-requires Inv-loop μ-loop
 record-at-requires c κs = search needs
@@ -53,7 +53,7 @@ loop-again c =
     let a = at .before .before .before .before .args in
     let t = sym (c .before .before .before .before .stands-at .ensures) ∙ not-false _ (c .before .before .before .if1 .left) in (
       at .loop .inv .0,
-      at .loop .inv .1 ∙ act-on (a .score .now) (a .position + a .offset) _ (at .loop .next) (at .loop .state) (c .before .before .before .before .before .loop-test .taken) t
+      at .loop .inv .1 ∙ act-on (a .settings) (a .score .now) (a .position + a .offset) _ (at .loop .next) (at .loop .state) (c .before .before .before .before .before .loop-test .taken) t
           ∙ rw (c .act .ensures, c .before .event-of .ensures, c .before .before .record-at .ensures) refl,
     )
 
@@ -61,7 +61,7 @@ returns-2 : tie.Need-returns-2 Inv-loop μ-loop
 returns-2 c =
     let at = c .before in
     let a = at .before .before .before .before .args in
-    sym (rw (← at .loop .inv .0) (at .loop .inv .1 ∙ act-end (a .score .now) (a .position + a .offset) _ (at .loop .next) (at .loop .state) (c .loop-test .left)))
+    sym (rw (← at .loop .inv .0) (at .loop .inv .1 ∙ act-end (a .settings) (a .score .now) (a .position + a .offset) _ (at .loop .next) (at .loop .state) (c .loop-test .left)))
 
 pub act-from-spec : {M : Type 1} → statement M
 act-from-spec =

@@ -17,7 +17,7 @@ act-from-requires c κs = search needs
 returns : tie.Need-returns
 returns c =
     let a = c .before .before .before .before .args in
-    rw (c .act-from .ensures, c .before .settled .ensures, c .before .before .begins-at .ensures) (begun-by (a .score .now) (a .position + a .offset) (a .place))
+    rw (c .act-from .ensures, c .before .settled .ensures, c .before .before .begins-at .ensures) (begun-by (a .settings) (a .score .now) (a .position + a .offset) (a .place))
 
 pub begin-spec : {M : Type 1} → statement M
 begin-spec = tie.close (tie.spec begins-at-requires settled-requires act-from-requires returns)

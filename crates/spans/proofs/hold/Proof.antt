@@ -5,6 +5,7 @@ use Prim.Native.Nat.{ℕ, _<_, _-_, suc}
 use native.Mathlib.Numerals.{add-one}
 use native.Mathlib.Omega.{arith}
 use lib.ListN.{length, length-set}
+use Rattle.runs.specs.Runs.{run}
 use Rattle.envelope.specs.Running.{envelopeFrom}
 use Rattle.envelope.specs.declared.Adsr.{Adsr}
 use Rattle.envelope.specs.declared.Envelope.{Envelope}
@@ -25,7 +26,7 @@ step-requires : tie.Need-step-requires Inv-loop μ-loop
 step-requires c κs = search needs
 
 loop-holds : tie.Need-loop-holds Inv-loop μ-loop
-unfolding envelopeFrom
+unfolding envelopeFrom run
 loop-holds c = (refl, λ k e f. reached-none k _ e _ _)
 
 mul-part : tie.Need-mul-part Inv-loop μ-loop
@@ -47,7 +48,7 @@ loop-less : tie.Need-loop-less Inv-loop μ-loop
 loop-less c = omega arith
 
 loop-again : tie.Need-loop-again Inv-loop μ-loop
-unfolding envelopeFrom
+unfolding envelopeFrom run
 loop-again c =
     let at = c .before .before in (
       simp length-set (at .loop .inv .0),

@@ -18,7 +18,7 @@ same-length c = search needs
 
 returns : tie.Need-returns
 returns c =
-    let start = c .before .before .before .before .before .before .before .before .before in
+    let start = c .before .before .before .before .before .before .before .before in
     sounding (start .args .settings) (start .args .state) _ _ _ _ _ _ (c .before .before .before .before .before .clamped .ensures) (c .before .before .before .before .sample-time .ensures) (start .pre) (c .before .before .shape .ensures)
 
 pub struck-spec : {M : Type 1} → statement M

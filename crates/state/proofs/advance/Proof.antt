@@ -13,7 +13,7 @@ stepped-requires c κs = search needs
 
 returns : tie.Need-returns
 unfolding advanceOf
-returns c = rw (c .stepped .ensures, c .before .before .before .before .increment .ensures) refl
+returns c = rw (c .stepped .ensures, c .before .before .before .increment .ensures) refl
 
 pub advance-spec : {M : Type 1} → statement M
 advance-spec = tie.close (tie.spec increment-requires stepped-requires returns)

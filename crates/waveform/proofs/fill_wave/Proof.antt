@@ -7,7 +7,7 @@ use lib.ListN.{length}
 use Rattle.waveform.specs.declared.Waveform.the-variants.{Sine}
 use Rattle.waveform.specs.Filled.{valueIn}
 use Rattle.waveform.specs.Lines.{Upto}
-use Rattle.waveform.proofs.Loops.{begins, goes-on, ends-by}
+use Rattle.waveform.proofs.Loops.{begins, goes-on, ends}
 use Rattle.waveform.proofs.fill_wave.Statement.{statement}
 use Rattle.waveform.proofs.fill_wave.Tie as tie
 
@@ -49,7 +49,7 @@ same-length : tie.Need-same-length Inv-loop μ-loop
 same-length c = c .before .loop .inv .size
 
 returns : tie.Need-returns Inv-loop μ-loop
-returns c = ends-by _ _ _ _ _ _ _ _ (c .before .loop .inv) (omega arith)
+returns c = ends _ _ _ _ _ _ _ _ (c .before .loop .inv) (omega arith)
 
 pub fill-wave-spec : {M : Type 1} → statement M
 fill-wave-spec =

@@ -5,10 +5,10 @@ use Rattle.mission.proofs.play.acted.Statement.{statement}
 use Rattle.mission.proofs.play.acted.Tie as tie
 
 abbrev Inv-loop : tie.InvT-loop
-Inv-loop n sheet state₀ i₀ state i = Unit
+Inv-loop settings n sheet state₀ i₀ state i = Unit
 
 abbrev μ-loop : tie.MeasureT-loop
-μ-loop n sheet state₀ i₀ state i = 24 - i
+μ-loop settings n sheet state₀ i₀ state i = 24 - i
 
 loop-holds : tie.Need-loop-holds Inv-loop μ-loop
 loop-holds c = search needs
