@@ -198,16 +198,16 @@ def in_memory():
 
 
 def try_all(programs):
-    """Tries the programs, two at a time, those of large crates first; what became of each."""
+    """Tries the programs, two at a time, those of crates that stand on many first; what became of each."""
     if not programs:
         return
     crates = sorted({program.crate for program in programs})
     current(crates)
     with tempfile.TemporaryDirectory(prefix="wrong-", dir=in_memory()) as room, ThreadPoolExecutor(AT_A_TIME) as pool:
         checker = Checker(room)
-        size = {crate: sum(1 for _ in checker.seed_of(crate).glob("*")) for crate in crates}
-        checker.learn_seeds(min(crates, key=lambda crate: (size[crate] == 0, size[crate])))
+        weight = {crate: len(checker.needs[crate]) for crate in crates}
+        checker.learn_seeds(min(crates, key=weight.get))
         try:
-            yield from pool.map(checker.tried, sorted(programs, key=lambda program: -size[program.crate]))
+            yield from pool.map(checker.tried, sorted(programs, key=lambda program: -weight[program.crate]))
         finally:
             pool.shutdown(cancel_futures=True)
