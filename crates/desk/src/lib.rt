@@ -3,9 +3,10 @@
 // pointer and a length in C; desk/gavberin.h declares every function here, with the caller's duties, which nothing here can
 // test. Left out: the ported calls of phase, voice, envelope, oscillator and LFO, and the end state of a render.
 ghost use mathlib.Core.Path.{_≡_};
+ghost use Rattle.sections.specs.Outcome.{leaves};
 ghost use Rattle.shelf.specs.Shelf.{isEntry};
 ghost use Rattle.desk.specs.Packed.{packedOf};
-ghost use Rattle.desk.specs.Desk.{leaves, fills, shapeOf, asks, settingsOf, choiceOf, checkOf, singleOf, renderFor, rerenderFor, continueIn, continueFor, freshFor, listFor};
+ghost use Rattle.desk.specs.Desk.{fills, shapeOf, asks, settingsOf, choiceOf, checkOf, singleOf, renderFor, rerenderFor, continueIn, continueFor, freshFor, listFor};
 use answers::Answer;
 use answers::Refusal;
 use answers::Value;
