@@ -18,10 +18,9 @@ use Rattle.render.specs.Calls.{PartOutcome, isStretch, isGiven, continueOf}
 use Rattle.render.proofs.Judging.{passed, all-passed}
 use Rattle.demands.specs.Chain.{Step}
 use Rattle.demands.proofs.Link.{answer-is, call-leaves, after, onward}
-use Rattle.desk.specs.declared.Asked.{Asked}
 use Rattle.desk.specs.declared.Choice.the-variants.{Known}
 use Rattle.desk.specs.Packed.{packedOf, numbersIn}
-use Rattle.desk.specs.Desk.{choiceOf, continued, continueFor}
+use Rattle.desk.specs.Desk.{Asked, choiceOf, continued, continueFor}
 use Rattle.boundary.specs.WordsChain.{andThen, wordsChainFrom}
 use Rattle.boundary.proofs.Zero.{zero-done}
 

@@ -24,11 +24,10 @@ use Rattle.render.proofs.Judging.{all-passed, roomy}
 use Rattle.demands.specs.Chain.{Step, samplesOf, lastOf, doneAll, Grows, AllAccepted, NoneAddedBelow}
 use Rattle.demands.proofs.Honest.{render-says}
 use Rattle.demands.proofs.Chain.{chain, chain-done}
-use Rattle.desk.specs.declared.Asked.{Asked}
 use Rattle.desk.specs.declared.Choice.{Choice}
 use Rattle.desk.specs.declared.Choice.the-variants.{Known}
 use Rattle.desk.specs.Packed.{packedOf}
-use Rattle.desk.specs.Desk.{choiceOf, renderFor, continueFor, freshFor}
+use Rattle.desk.specs.Desk.{Asked, choiceOf, renderFor, continueFor, freshFor}
 use Rattle.boundary.specs.WordsChain.{wordsChainFrom, endWords, AllZero}
 use Rattle.boundary.proofs.Zero.{refused-not-zero, zero-done, done-zero}
 use Rattle.boundary.proofs.Codes.{IsKnown, is-known, sustain-fits}

@@ -26,12 +26,11 @@ use Rattle.demands.specs.Edits.{editsFrom, lastScore, answersFrom, allCounted}
 use Rattle.demands.proofs.Honest.{render-says}
 use Rattle.demands.proofs.Demand3.{soundOf, shelvedOf, Taken, Lent, rendered}
 use Rattle.demands.proofs.Edits.{Whole, AllTaken, last-taken, all-edits, all-answers}
-use Rattle.desk.specs.declared.Asked.{Asked}
 use Rattle.desk.specs.declared.Choice.{Choice}
 use Rattle.desk.specs.declared.Choice.the-variants.{Known}
 use Rattle.desk.specs.Packed.{packedOf}
 use Rattle.desk.specs.Desk as desk
-use Rattle.desk.specs.Desk.{choiceOf, renderFor, rerendered}
+use Rattle.desk.specs.Desk.{Asked, choiceOf, renderFor, rerendered}
 use Rattle.boundary.specs.WordsChain.{AllZero}
 use Rattle.boundary.specs.WordsEdits.{andOver, wordsEditsFrom, wordsEdits}
 use Rattle.boundary.proofs.Zero.{refused-not-zero, zero-done, done-zero}

@@ -14,9 +14,8 @@ use Rattle.shelf.specs.Shelf.{entryWords}
 use Rattle.floats.specs.Double.{half}
 use Rattle.demands.proofs.ChainExamples.{plain, plain-ok, begins, begins-accepted, endsAt, played, on-time}
 use Rattle.demands.proofs.Demand3.{Taken}
-use Rattle.desk.specs.declared.Asked.{Asked}
 use Rattle.desk.specs.declared.Choice.the-variants.{Known}
-use Rattle.desk.specs.Desk.{asks, choiceOf, freshFor}
+use Rattle.desk.specs.Desk.{Asked, asks, choiceOf, freshFor}
 use Rattle.boundary.specs.WordsChain.{wordsChainFrom, AllZero}
 use Rattle.boundary.specs.WordsEdits.{wordsEdits}
 use Rattle.boundary.proofs.DeskChain.{OneDeskRender, desk-chain, desk-chain-done}

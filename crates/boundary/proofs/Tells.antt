@@ -23,9 +23,8 @@ use Rattle.render.specs.Calls.{continueOf}
 use Rattle.demands.specs.Chain.{Step, ChainOutcome, chainFrom, doneAll, AllDone, Grows, NoneBelow}
 use Rattle.demands.proofs.Honest.{fresh-fitting, honest}
 use Rattle.demands.proofs.Link.{PassedCall, call-passed, Reached, acted-is, none-below, goes-on, after, onward, chain-step, first-done, rest-done, all-done}
-use Rattle.desk.specs.declared.Asked.{Asked}
 use Rattle.desk.specs.declared.Choice.the-variants.{Known}
-use Rattle.desk.specs.Desk.{choiceOf}
+use Rattle.desk.specs.Desk.{Asked, choiceOf}
 use Rattle.desk.specs.Packed.{packedOf}
 use Rattle.boundary.specs.WordsChain.{wordsChainFrom, AllZero}
 use Rattle.boundary.proofs.Call.{Read, zero-whole, words-step}

@@ -10,10 +10,9 @@ use Rattle.shelf.specs.Shelf.{entryOf}
 use Rattle.render.specs.Calls.{renderOf}
 use Rattle.demands.specs.Chain.{Step}
 use Rattle.desk.specs.Packed.{numbersIn}
-use Rattle.desk.specs.declared.Asked.{Asked}
 use Rattle.desk.specs.declared.Choice.{Choice}
 use Rattle.desk.specs.declared.Choice.the-variants.{Known, Unknown}
-use Rattle.desk.specs.Desk.{choiceOf, continueFor}
+use Rattle.desk.specs.Desk.{Asked, choiceOf, continueFor}
 
 -- a call, and the rest after it: the word that each answered, the parts one after the other, and the words that are stored last
 abbrev pub andThen : Outcome ℕ → Outcome (List ℕ) → Outcome (List ℕ)

@@ -4,8 +4,7 @@ use mathlib.Core.List.{List, [], _∷_}
 use Prim.Native.Nat.{ℕ}
 use lib.Ieee.{Float}
 use Rattle.sections.specs.Outcome.{Outcome, leaves}
-use Rattle.desk.specs.declared.Asked.{Asked}
-use Rattle.desk.specs.Desk.{choiceOf, renderFor, rerenderFor}
+use Rattle.desk.specs.Desk.{Asked, choiceOf, renderFor, rerenderFor}
 
 -- a call, and the rest after it: what the rest leaves stands in the same buffers
 abbrev pub andOver : Outcome ℕ → Outcome (List ℕ) → Outcome (List ℕ)

@@ -5,9 +5,8 @@ use Prim.Native.Nat.{ℕ}
 use lib.Ieee.{Float}
 use Rattle.sections.specs.Outcome.{leaves}
 use Rattle.sections.proofs.Unique.{same-left}
-use Rattle.desk.specs.declared.Asked.{Asked}
 use Rattle.desk.specs.Packed.{packedOf}
-use Rattle.desk.specs.Desk.{Filled, fills, choiceOf, checkOf, singleOf, renderFor, rerenderFor, continueFor, freshFor, listFor}
+use Rattle.desk.specs.Desk.{Asked, Filled, fills, choiceOf, checkOf, singleOf, renderFor, rerenderFor, continueFor, freshFor, listFor}
 
 pub gav-check-score-unique : (s : List ℕ) (r t : ℕ) → r ≡ checkOf s → t ≡ checkOf s → r ≡ t
 gav-check-score-unique s r t p q = p ∙ sym q

@@ -28,7 +28,6 @@ use Rattle.state.specs.State.{freshOf}
 use Rattle.waveform.specs.declared.Waveform.{Waveform}
 use Rattle.waveform.specs.declared.Waveform.the-variants.{Sine, Square, Sawtooth, Triangle, Pulse}
 use Rattle.waveform.specs.Waveform.{sampleOf}
-use Rattle.desk.specs.declared.Asked.{Asked}
 use Rattle.desk.specs.declared.Shape.{Shape}
 use Rattle.desk.specs.declared.Shape.the-variants as shape
 use Rattle.desk.specs.declared.Choice.{Choice}
@@ -54,7 +53,16 @@ shapeOf code duty =
     (cond (eqb code 3) (shape.Known Triangle)
     (cond (eqb code 4) (shape.Known (Pulse duty)) shape.Unknown))))
 
--- what a host asks, number by number
+-- what a host asks, in its own numbers
+pub record Asked : Type 0 where
+  pub rate : ℕ
+  pub code : ℕ
+  pub duty : Float
+  pub attack : Float
+  pub decay : Float
+  pub sustain : Float
+  pub release : Float
+
 abbrev pub asks : ℕ → ℕ → Float → Float → Float → Float → Float → Asked
 asks rate code duty attack decay sustain release = record { rate = rate; code = code; duty = duty; attack = attack; decay = decay; sustain = sustain; release = release }
 
