@@ -5,6 +5,7 @@ use mathlib.Core.List.{List, _∷_}
 use Prim.Native.Nat.{ℕ}
 use lib.ListN.{length}
 use lib.Ieee.{Float}
+use Rattle.sections.specs.Outcome.{Outcome, leaves}
 use Rattle.answers.specs.declared.Answer.the-variants.{Done}
 use Rattle.answers.specs.declared.Refusal.the-variants.{GivenState}
 use Rattle.shelf.specs.declared.Entry.{Entry}
@@ -17,10 +18,9 @@ use Rattle.render.specs.Calls.{PartOutcome, isStretch, isGiven, continueOf}
 use Rattle.render.proofs.Judging.{passed, all-passed}
 use Rattle.demands.specs.Chain.{Step}
 use Rattle.demands.proofs.Link.{answer-is, call-leaves, after, onward}
-use Rattle.desk.specs.declared.Asked.{Asked}
 use Rattle.desk.specs.declared.Choice.the-variants.{Known}
 use Rattle.desk.specs.Packed.{packedOf, numbersIn}
-use Rattle.desk.specs.Desk.{Outcome, leaves, choiceOf, continued, continueFor}
+use Rattle.desk.specs.Desk.{Asked, choiceOf, continued, continueFor}
 use Rattle.boundary.specs.WordsChain.{andThen, wordsChainFrom}
 use Rattle.boundary.proofs.Zero.{zero-done}
 
@@ -35,7 +35,7 @@ module _ (a : Asked) (g : Settings) (is : choiceOf a ≡ Known g) (v : State) (r
       let e : stateOf (entryOf v) ≡ v = ap (λ (e : Entry). e .state) read in
       rw (is, h, e) refl
 
-  pub zero-whole : (s : List ℕ) (part : List Float) → numbersIn (continueFor (choiceOf a) s (entryOf v) p part .said) .number ≡ 0 → continueOf g s v p part .result .answer ≡ Done (length part)
+  pub zero-whole : (s : List ℕ) (part : List Float) → numbersIn (continueFor (choiceOf a) s (entryOf v) p part .result) .number ≡ 0 → continueOf g s v p part .result .answer ≡ Done (length part)
   zero-whole s part z =
       let n = length part in
       let d = zero-done (continueOf g s v p part .result .answer) (rw (in-words s part) at z) in
@@ -48,5 +48,5 @@ module _ (a : Asked) (g : Settings) (is : choiceOf a ≡ Known g) (v : State) (r
       ≡ andThen (leaves (packedOf (Done (length (x .part)))) (samplesFrom g (x .score) p v (length (x .part))) (entryOf (after g v p x xs))) (wordsChainFrom a (entryOf (after g v p x xs)) (onward g v p x xs) xs)
   unfolding wordsChainFrom
   words-step x xs e =
-      ap (λ (o : Outcome). andThen o (wordsChainFrom a (o .stored) (onward g v p x xs) xs))
+      ap (λ (o : Outcome ℕ). andThen o (wordsChainFrom a (o .stored) (onward g v p x xs) xs))
       (in-words (x .score) (x .part) ∙ ap (λ (c : PartOutcome). continued c (entryOf v)) (call-leaves g (x .score) v p (x .part) e))

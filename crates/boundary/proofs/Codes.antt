@@ -3,12 +3,11 @@ use mathlib.Core.Path.{_≡_, refl, subst, ap}
 use lib.Dec.{T}
 use lib.Ieee.{Float, binary64, fits}
 use Rattle.state.specs.declared.Settings.{Settings}
-use Rattle.desk.specs.declared.Asked.{Asked}
 use Rattle.desk.specs.declared.Shape.{Shape}
 use Rattle.desk.specs.declared.Shape.the-variants as shape
 use Rattle.desk.specs.declared.Choice.{Choice}
 use Rattle.desk.specs.declared.Choice.the-variants.{Known, Unknown}
-use Rattle.desk.specs.Desk.{shapeOf, settingsOf, choiceFor, choiceOf}
+use Rattle.desk.specs.Desk.{Asked, shapeOf, settingsOf, choiceFor, choiceOf}
 use Rattle.score.proofs.Parted.{clash}
 
 pub record IsKnown (a : Asked) : Type 0 where

@@ -11,6 +11,7 @@ use borrow.Author.Tests.{eq-eqb}
 use lib.Dec.{T}
 use lib.ListN.{length, replicate, length-replicate}
 use lib.Ieee.{Float, binary64, fits}
+use Rattle.sections.specs.Outcome.{Outcome}
 use Rattle.answers.specs.declared.Answer.the-variants.{Done}
 use Rattle.answers.specs.declared.Refusal.the-variants.{Setting}
 use Rattle.shelf.specs.Shelf.{entryWords, wordsFor, entryOf}
@@ -23,12 +24,11 @@ use Rattle.render.proofs.Judging.{all-passed, roomy}
 use Rattle.demands.specs.Chain.{Step, samplesOf, lastOf, doneAll, Grows, AllAccepted, NoneAddedBelow}
 use Rattle.demands.proofs.Honest.{render-says}
 use Rattle.demands.proofs.Chain.{chain, chain-done}
-use Rattle.desk.specs.declared.Asked.{Asked}
 use Rattle.desk.specs.declared.Choice.{Choice}
 use Rattle.desk.specs.declared.Choice.the-variants.{Known}
 use Rattle.desk.specs.Packed.{packedOf}
-use Rattle.desk.specs.Desk.{Outcome, choiceOf, renderFor, continueFor, freshFor}
-use Rattle.boundary.specs.WordsChain.{WordsOutcome, wordsChainFrom, endWords, AllZero}
+use Rattle.desk.specs.Desk.{Asked, choiceOf, renderFor, continueFor, freshFor}
+use Rattle.boundary.specs.WordsChain.{wordsChainFrom, endWords, AllZero}
 use Rattle.boundary.proofs.Zero.{refused-not-zero, zero-done, done-zero}
 use Rattle.boundary.proofs.Codes.{IsKnown, is-known, sustain-fits}
 use Rattle.boundary.proofs.Tells.{zero-all, tells, stands-fresh}
@@ -44,26 +44,26 @@ done-zeros (x ∷ xs) = (done-zero (length (x .part)), done-zeros xs)
 
 -- ---- the theorem
 -- each call counts its part, and together they leave what one render of the last score leaves, which is done
-pub record OneDeskRender (a : Asked) (xs : List Step) (out : List Float) (shelf : List ℕ) (o : WordsOutcome) : Type 0 where
-  pub said : o .said ≡ map packedOf (doneAll xs)
-  pub done : renderFor (choiceOf a) (lastOf [] xs) out shelf .said ≡ packedOf (Done (samplesOf xs))
+pub record OneDeskRender (a : Asked) (xs : List Step) (out : List Float) (shelf : List ℕ) (o : Outcome (List ℕ)) : Type 0 where
+  pub result : o .result ≡ map packedOf (doneAll xs)
+  pub done : renderFor (choiceOf a) (lastOf [] xs) out shelf .result ≡ packedOf (Done (samplesOf xs))
   pub heard : o .heard ≡ renderFor (choiceOf a) (lastOf [] xs) out shelf .heard
   pub stored : o .stored ≡ endWords (choiceOf a) (lastOf [] xs) out shelf
 
 module _ (a : Asked) (sus : T (fits binary64 (a .sustain))) (room : List ℕ) (twelve : length room ≡ entryWords) where
   -- the calls of a chain, from what gav_fresh leaves
-  abbrev pub calls : List Step → WordsOutcome
+  abbrev pub calls : List Step → Outcome (List ℕ)
   calls xs = wordsChainFrom a (freshFor room .left) 0 xs
 
   from-fresh : (xs : List Step) → calls xs ≡ wordsChainFrom a (entryOf (freshOf 0)) 0 xs
   from-fresh xs = ap (λ (ws : List ℕ). wordsChainFrom a ws 0 xs) (fresh-left room twelve)
 
   -- unknown settings are refused at once
-  settings-known : (x : Step) (xs : List Step) → AllZero (calls (x ∷ xs) .said) → IsKnown a
+  settings-known : (x : Step) (xs : List Step) → AllZero (calls (x ∷ xs) .result) → IsKnown a
   unfolding wordsChainFrom
   settings-known x xs z = is-known a (λ e. refused-not-zero Setting (rw e at (z .0)))
 
-  pub desk-chain : (x : Step) (xs : List Step) → Grows [] (x ∷ xs) → AllZero (calls (x ∷ xs) .said)
+  pub desk-chain : (x : Step) (xs : List Step) → Grows [] (x ∷ xs) → AllZero (calls (x ∷ xs) .result)
       → (out : List Float) (shelf : List ℕ) → length out ≡ samplesOf (x ∷ xs) → length shelf ≡ wordsFor (length out) → OneDeskRender a (x ∷ xs) out shelf (calls (x ∷ xs))
   desk-chain x xs grow z out shelf e l =
       let q = settings-known x xs z in
@@ -71,23 +71,23 @@ module _ (a : Asked) (sus : T (fits binary64 (a .sustain))) (room : List ℕ) (t
       let is = q .known in
       let fit = sustain-fits a sus g is in
       let h = stands-fresh a g is fit in
-      let d = zero-all a g is fit (x ∷ xs) [] 0 (freshOf 0) h grow (subst (λ (o : WordsOutcome). AllZero (o .said)) (from-fresh (x ∷ xs)) z) in
+      let d = zero-all a g is fit (x ∷ xs) [] 0 (freshOf 0) h grow (subst (λ (o : Outcome (List ℕ)). AllZero (o .result)) (from-fresh (x ∷ xs)) z) in
       let t = tells a g is fit (x ∷ xs) [] 0 (freshOf 0) h grow d in
       let c = chain g x xs grow d out shelf e l in
       let r = ap (λ (c : Choice). renderFor c (lastOf [] (x ∷ xs)) out shelf) is in
       subst (OneDeskRender a (x ∷ xs) out shelf) (sym (from-fresh (x ∷ xs)))
       (record {
-        said = t .said;
-        done = ap (λ (o : Outcome). o .said) r ∙ ap packedOf (c .done);
-        heard = t .heard ∙ c .heard ∙ sym (ap (λ (o : Outcome). o .heard) r);
+        result = t .result;
+        done = ap (λ (o : Outcome ℕ). o .result) r ∙ ap packedOf (c .done);
+        heard = t .heard ∙ c .heard ∙ sym (ap (λ (o : Outcome ℕ). o .heard) r);
         stored = rw is (t .stored ∙ ap entryOf (c .state));
       })
 
   -- ---- the lemma
   -- every number is 0 exactly when no record was added below the position already reached
   pub record ZeroExactly (xs : List Step) : Type 0 where
-    pub zero-only-if : AllZero (calls xs .said) → NoneAddedBelow [] 0 xs
-    pub zero-if : NoneAddedBelow [] 0 xs → AllZero (calls xs .said)
+    pub zero-only-if : AllZero (calls xs .result) → NoneAddedBelow [] 0 xs
+    pub zero-if : NoneAddedBelow [] 0 xs → AllZero (calls xs .result)
 
   pub desk-chain-done : (g : Settings) → choiceOf a ≡ Known g → settingsOk g ≡ true → (xs : List Step) → AllAccepted xs → Grows [] xs → samplesOf xs ≤ most → ZeroExactly xs
   desk-chain-done g is ok xs b grow l =
@@ -95,13 +95,13 @@ module _ (a : Asked) (sus : T (fits binary64 (a .sustain))) (room : List ℕ) (t
       let h = stands-fresh a g is fit in
       let c = chain-done g ok fit xs b grow l in
       record {
-        zero-only-if = λ z. c .done-only-if (zero-all a g is fit xs [] 0 (freshOf 0) h grow (subst (λ (o : WordsOutcome). AllZero (o .said)) (from-fresh xs) z));
-        zero-if = λ f. rw (from-fresh xs, tells a g is fit xs [] 0 (freshOf 0) h grow (c .done-if f) .said) (done-zeros xs);
+        zero-only-if = λ z. c .done-only-if (zero-all a g is fit xs [] 0 (freshOf 0) h grow (subst (λ (o : Outcome (List ℕ)). AllZero (o .result)) (from-fresh xs) z));
+        zero-if = λ f. rw (from-fresh xs, tells a g is fit xs [] 0 (freshOf 0) h grow (c .done-if f) .result) (done-zeros xs);
       }
 
   -- ---- one call
   -- gav_render tells no end state: the words left last are those that one gav_continue of the last score over the whole output leaves
-  pub one-call : (x : Step) (xs : List Step) → Grows [] (x ∷ xs) → AllZero (calls (x ∷ xs) .said) → (out : List Float) → length out ≡ samplesOf (x ∷ xs)
+  pub one-call : (x : Step) (xs : List Step) → Grows [] (x ∷ xs) → AllZero (calls (x ∷ xs) .result) → (out : List Float) → length out ≡ samplesOf (x ∷ xs)
       → calls (x ∷ xs) .stored ≡ continueFor (choiceOf a) (lastOf [] (x ∷ xs)) (freshFor room .left) 0 out .stored
   unfolding wordsChainFrom
   one-call x xs grow z out e =
@@ -112,7 +112,7 @@ module _ (a : Asked) (sus : T (fits binary64 (a .sustain))) (room : List ℕ) (t
       let shelf : List ℕ = replicate (wordsFor n) 0 in
       let fit : length shelf ≡ wordsFor n = length-replicate (wordsFor n) 0 in
       let many = desk-chain x xs grow z out shelf e fit in
-      let said : packedOf (renderOf g s out shelf .result .answer) ≡ packedOf (Done (samplesOf (x ∷ xs))) = sym (ap (λ (c : Choice). renderFor c s out shelf .said) (q .known)) ∙ many .done in
+      let said : packedOf (renderOf g s out shelf .result .answer) ≡ packedOf (Done (samplesOf (x ∷ xs))) = sym (ap (λ (c : Choice). renderFor c s out shelf .result) (q .known)) ∙ many .done in
       let d = zero-done (renderOf g s out shelf .result .answer) (rw said (done-zero (samplesOf (x ∷ xs)))) in
       let p = all-passed g (isRoom n (length shelf)) s (Done n) (d .0) (sym (render-says g s out shelf) ∙ d .1) in
       let short : n ≤ most = roomy n (length shelf) (p .sized) .short in

@@ -9,14 +9,14 @@ use lib.Dec.{T}
 use lib.ListN.{replicate}
 use lib.Ieee.{binary64, fits}
 use lib.Ieee.Bits.{ofBits-fits}
+use Rattle.sections.specs.Outcome.{Outcome}
 use Rattle.shelf.specs.Shelf.{entryWords}
 use Rattle.floats.specs.Double.{half}
 use Rattle.demands.proofs.ChainExamples.{plain, plain-ok, begins, begins-accepted, endsAt, played, on-time}
 use Rattle.demands.proofs.Demand3.{Taken}
-use Rattle.desk.specs.declared.Asked.{Asked}
 use Rattle.desk.specs.declared.Choice.the-variants.{Known}
-use Rattle.desk.specs.Desk.{asks, choiceOf, freshFor}
-use Rattle.boundary.specs.WordsChain.{WordsOutcome, wordsChainFrom, AllZero}
+use Rattle.desk.specs.Desk.{Asked, asks, choiceOf, freshFor}
+use Rattle.boundary.specs.WordsChain.{wordsChainFrom, AllZero}
 use Rattle.boundary.specs.WordsEdits.{wordsEdits}
 use Rattle.boundary.proofs.DeskChain.{OneDeskRender, desk-chain, desk-chain-done}
 use Rattle.boundary.proofs.DeskEdits.{LastDeskRender, desk-edits, desk-edits-done}
@@ -34,17 +34,17 @@ known = refl
 abbrev pub rubbish : List ℕ
 rubbish = replicate entryWords 7
 
-abbrev pub played-in-words : WordsOutcome
+abbrev pub played-in-words : Outcome (List ℕ)
 played-in-words = wordsChainFrom square (freshFor rubbish .left) 0 (played 100)
 
 pub record OnTimeInWords : Type 0 where
-  pub zeros : AllZero (played-in-words .said)
+  pub zeros : AllZero (played-in-words .result)
   pub one-render : OneDeskRender square (played 100) (replicate 128 half) (replicate entryWords 0) played-in-words
 
 sustain-fits : T (fits binary64 (plain .adsr .sustain))
 sustain-fits = ofBits-fits binary64 0x3fe0_0000_0000_0000
 
-all-zero : AllZero (played-in-words .said)
+all-zero : AllZero (played-in-words .result)
 all-zero = desk-chain-done square sustain-fits rubbish refl plain known plain-ok (played 100) (on-time .accepted) (on-time .growing) (omega arith) .zero-if (on-time .none-below)
 
 pub on-time-in-words : OnTimeInWords
@@ -52,14 +52,14 @@ on-time-in-words =
     record { zeros = all-zero; one-render = desk-chain square sustain-fits rubbish refl _ _ (on-time .growing) all-zero (replicate 128 half) (replicate entryWords 0) refl refl }
 
 -- ---- an off added, and taken away again
-abbrev pub edited-in-words : WordsOutcome
+abbrev pub edited-in-words : Outcome (List ℕ)
 edited-in-words = wordsEdits square begins ((begins ++ endsAt 100) ∷ begins ∷ []) (replicate 128 half) (replicate entryWords 0)
 
 pub record EditedInWords : Type 0 where
-  pub zeros : AllZero (edited-in-words .said)
+  pub zeros : AllZero (edited-in-words .result)
   pub last-render : LastDeskRender square begins ((begins ++ endsAt 100) ∷ begins ∷ []) 128 (replicate 128 half) (replicate entryWords 0) edited-in-words
 
-edits-zero : AllZero (edited-in-words .said)
+edits-zero : AllZero (edited-in-words .result)
 edits-zero =
     let one : Taken begins = record { records = 1; accepted = begins-accepted } in
     let two : Taken (begins ++ endsAt 100) = record { records = on-time .accepted .1 .0 .0; accepted = on-time .accepted .1 .0 .1 } in

@@ -6,6 +6,7 @@ use Prim.Native.Nat.{ℕ, _+_}
 use lib.Dec.{T}
 use lib.ListN.{length}
 use lib.Ieee.{Float, binary64, fits}
+use Rattle.sections.specs.Outcome.{Outcome}
 use Rattle.runs.specs.Runs.{run}
 use Rattle.answers.specs.declared.Answer.the-variants.{Done}
 use Rattle.score.specs.declared.Verdict.the-variants.{Accepted}
@@ -22,15 +23,14 @@ use Rattle.render.specs.Calls.{continueOf}
 use Rattle.demands.specs.Chain.{Step, ChainOutcome, chainFrom, doneAll, AllDone, Grows, NoneBelow}
 use Rattle.demands.proofs.Honest.{fresh-fitting, honest}
 use Rattle.demands.proofs.Link.{PassedCall, call-passed, Reached, acted-is, none-below, goes-on, after, onward, chain-step, first-done, rest-done, all-done}
-use Rattle.desk.specs.declared.Asked.{Asked}
 use Rattle.desk.specs.declared.Choice.the-variants.{Known}
-use Rattle.desk.specs.Desk.{choiceOf}
+use Rattle.desk.specs.Desk.{Asked, choiceOf}
 use Rattle.desk.specs.Packed.{packedOf}
-use Rattle.boundary.specs.WordsChain.{WordsOutcome, wordsChainFrom, AllZero}
+use Rattle.boundary.specs.WordsChain.{wordsChainFrom, AllZero}
 use Rattle.boundary.proofs.Call.{Read, zero-whole, words-step}
 
 module _ (a : Asked) (g : Settings) (is : choiceOf a ≡ Known g) (sus : T (fits binary64 (g .adsr .sustain))) where
-  abbrev inWords : State → ℕ → List Step → WordsOutcome
+  abbrev inWords : State → ℕ → List Step → Outcome (List ℕ)
   inWords v p xs = wordsChainFrom a (entryOf v) p xs
 
   -- what stands at v
@@ -54,23 +54,23 @@ module _ (a : Asked) (g : Settings) (is : choiceOf a ≡ Known g) (sus : T (fits
       record { records = q .records; accepted = b; reached = r; read = subst Read (sym r) (honest g (q .settings) sus t (q .records) b (p + n)) }
 
   -- number 0 in every word is 0 from every call on the states
-  pub zero-all : (xs : List Step) (s : List ℕ) (p : ℕ) (v : State) → Stands s p v → Grows s xs → AllZero (inWords v p xs .said) → AllDone g v p xs
+  pub zero-all : (xs : List Step) (s : List ℕ) (p : ℕ) (v : State) → Stands s p v → Grows s xs → AllZero (inWords v p xs .result) → AllDone g v p xs
   unfolding chainFrom wordsChainFrom
   zero-all [] s p v h grow z = refl
   zero-all (x ∷ xs) s p v h grow z =
       let e = zero-whole a g is v (h .read) p (x .score) (x .part) (z .0) in
-      let y : AllZero (inWords (after g v p x xs) (onward g v p x xs) xs .said) = subst (λ (o : WordsOutcome). AllZero (o .said)) (words-step a g is v (h .read) p x xs e) z .1 in
+      let y : AllZero (inWords (after g v p x xs) (onward g v p x xs) xs .result) = subst (λ (o : Outcome (List ℕ)). AllZero (o .result)) (words-step a g is v (h .read) p x xs e) z .1 in
       all-done g v p x xs e (zero-all xs (x .score) (onward g v p x xs) (after g v p x xs) (stands-on s p v x xs h grow e) (grow .1) y)
 
   -- and then the words tell what the chain on the states leaves
-  pub record Tells (xs : List Step) (c : ChainOutcome) (o : WordsOutcome) : Type 0 where
-    pub said : o .said ≡ map packedOf (doneAll xs)
+  pub record Tells (xs : List Step) (c : ChainOutcome) (o : Outcome (List ℕ)) : Type 0 where
+    pub result : o .result ≡ map packedOf (doneAll xs)
     pub heard : o .heard ≡ c .heard
     pub stored : o .stored ≡ entryOf (c .state)
 
   pub tells : (xs : List Step) (s : List ℕ) (p : ℕ) (v : State) → Stands s p v → Grows s xs → AllDone g v p xs → Tells xs (chainFrom g v p xs) (inWords v p xs)
   unfolding chainFrom wordsChainFrom
-  tells [] s p v h grow d = record { said = refl; heard = refl; stored = refl }
+  tells [] s p v h grow d = record { result = refl; heard = refl; stored = refl }
   tells (x ∷ xs) s p v h grow d =
       let n = length (x .part) in
       let e = first-done g v p x xs d in
@@ -78,9 +78,9 @@ module _ (a : Asked) (g : Settings) (is : choiceOf a ≡ Known g) (sus : T (fits
       let w = words-step a g is v (h .read) p x xs e in
       let b = chain-step g v p x xs e in
       record {
-        said = ap (λ (o : WordsOutcome). o .said) w ∙ ap (λ (l : List ℕ). packedOf (Done n) ∷ l) (rest .said);
-        heard = ap (λ (o : WordsOutcome). o .heard) w ∙ ap (λ (l : List Float). samplesFrom g (x .score) p v n ++ l) (rest .heard) ∙ sym (ap (λ (o : ChainOutcome). o .heard) b);
-        stored = ap (λ (o : WordsOutcome). o .stored) w ∙ rest .stored ∙ sym (ap (λ (o : ChainOutcome). entryOf (o .state)) b);
+        result = ap (λ (o : Outcome (List ℕ)). o .result) w ∙ ap (λ (l : List ℕ). packedOf (Done n) ∷ l) (rest .result);
+        heard = ap (λ (o : Outcome (List ℕ)). o .heard) w ∙ ap (λ (l : List Float). samplesFrom g (x .score) p v n ++ l) (rest .heard) ∙ sym (ap (λ (o : ChainOutcome). o .heard) b);
+        stored = ap (λ (o : Outcome (List ℕ)). o .stored) w ∙ rest .stored ∙ sym (ap (λ (o : ChainOutcome). entryOf (o .state)) b);
       }
 
   -- before the first score there is none, and the fresh state

@@ -5,28 +5,22 @@ use mathlib.Core.List.{List, [], _∷_, _++_}
 use Prim.Native.Nat.{ℕ, _+_}
 use lib.ListN.{length}
 use lib.Ieee.{Float}
+use Rattle.sections.specs.Outcome.{Outcome, leaves}
 use Rattle.shelf.specs.Shelf.{entryOf}
 use Rattle.render.specs.Calls.{renderOf}
 use Rattle.demands.specs.Chain.{Step}
 use Rattle.desk.specs.Packed.{numbersIn}
-use Rattle.desk.specs.declared.Asked.{Asked}
 use Rattle.desk.specs.declared.Choice.{Choice}
 use Rattle.desk.specs.declared.Choice.the-variants.{Known, Unknown}
-use Rattle.desk.specs.Desk.{Outcome, choiceOf, continueFor}
+use Rattle.desk.specs.Desk.{Asked, choiceOf, continueFor}
 
--- what several calls leave: the word that each answered, what is heard, and the words that are stored last
-pub record WordsOutcome : Type 0 where
-  pub said : List ℕ
-  pub heard : List Float
-  pub stored : List ℕ
-
--- a call, and the rest after it: the parts one after the other
-abbrev pub andThen : Outcome → WordsOutcome → WordsOutcome
-andThen c rest = record { said = c .said ∷ rest .said; heard = c .heard ++ rest .heard; stored = rest .stored }
+-- a call, and the rest after it: the word that each answered, the parts one after the other, and the words that are stored last
+abbrev pub andThen : Outcome ℕ → Outcome (List ℕ) → Outcome (List ℕ)
+andThen c rest = leaves (c .result ∷ rest .result) (c .heard ++ rest .heard) (rest .stored)
 
 -- from the words ws at position p: a call on its part, then the rest from the words that it left, at the end of that part
-unfoldable pub wordsChainFrom : Asked → List ℕ → ℕ → List Step → WordsOutcome
-wordsChainFrom a ws p [] = record { said = []; heard = []; stored = ws }
+unfoldable pub wordsChainFrom : Asked → List ℕ → ℕ → List Step → Outcome (List ℕ)
+wordsChainFrom a ws p [] = leaves [] [] ws
 wordsChainFrom a ws p (x ∷ xs) = let c = continueFor (choiceOf a) (x .score) ws p (x .part) in andThen c (wordsChainFrom a (c .stored) (p + length (x .part)) xs)
 
 -- the words of the state that a render ends in; none where the settings are unknown

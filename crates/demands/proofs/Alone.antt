@@ -9,6 +9,8 @@ use lib.Dec.{eqb}
 use lib.ListN.{length, take, drop}
 use lib.Seq.{take-at, drop-append-seam, length-take-le}
 use lib.Ieee.{Float}
+use Rattle.sections.specs.Outcome.{Outcome, leaves}
+use Rattle.answers.specs.declared.Answer.{Answer}
 use Rattle.answers.specs.declared.Answer.the-variants.{Done, Refused}
 use Rattle.answers.specs.declared.Refusal.the-variants.{StartEntry}
 use Rattle.runs.specs.Runs.{run}
@@ -24,7 +26,7 @@ use Rattle.state.proofs.Entries.{entries-length, entry-at}
 use Rattle.score.proofs.Parted.{clash}
 use Rattle.score.proofs.Codec.{both}
 use Rattle.rerender.proofs.Cases.{made-is}
-use Rattle.rerender.specs.Rerender.{Outcome, leaves, entryAt, startOf, isStart, madeFrom, fromOf}
+use Rattle.rerender.specs.Rerender.{entryAt, startOf, isStart, madeFrom, fromOf}
 
 front : {A : Type 0} (k : ℕ) (xs ys : List A) → k ≤ length xs → take k (take k xs ++ ys) ≡ take k xs
 front k xs ys h = take-at (take k xs) ys k (length-take-le k xs h)
@@ -39,7 +41,7 @@ none-yet g s m v = refl
 
 -- ---- what stays
 module _ (g : Settings) (old new : List ℕ) (m : ℕ) (out : List Float) (shelf : List ℕ) where
-  abbrev made : Outcome
+  abbrev made : Outcome Answer
   made = madeFrom g old new m out shelf
 
   pub samples-stay : m * mark ≤ length out → take (m * mark) (fromOf g old new m out shelf .heard) ≡ take (m * mark) out
@@ -67,7 +69,7 @@ module _ (g : Settings) (old new : List ℕ) (m : ℕ) (out : List Float) (shelf
       go true e =
           let v = startOf shelf m in
           let is = both (isEntry (entryAt shelf m)) (eqb (v .acted) (countBelow new (m * mark))) e in
-          ap (λ (o : Outcome). entryAt (o .stored) m) (made-is g old new m out shelf f)
+          ap (λ (o : Outcome Answer). entryAt (o .stored) m) (made-is g old new m out shelf f)
           ∙ ap (take entryWords) (back (m * entryWords) shelf (shelfOf (entriesFrom g new m v (entriesFor (length out) - m))) (omega (arith, f)))
           ∙ entry-words (entriesFrom g new m v (entriesFor (length out) - m)) 0 v (rw (entries-length g new m v (entriesFor (length out) - m)) (omega arith))
           ∙ ap entryOf (entry-at g new m v (entriesFor (length out) - m) 0 v (omega arith) ∙ none-yet g new m v)
@@ -79,12 +81,12 @@ module _ (g : Settings) (old new : List ℕ) (m : ℕ) (out out₂ : List Float)
   start-alone : isStart new m shelf ≡ isStart new m shelf₂
   start-alone = ap (λ (ws : List ℕ). isEntry ws && eqb (stateOf ws .acted) (countBelow new (m * mark))) same
 
-  pub answer-alone : fromOf g old new m out shelf .answer ≡ fromOf g old new m out₂ shelf₂ .answer
+  pub answer-alone : fromOf g old new m out shelf .result ≡ fromOf g old new m out₂ shelf₂ .result
   unfolding fromOf
   answer-alone = go (isStart new m shelf) (isStart new m shelf₂) start-alone
     where
       go : (t u : Bool) → t ≡ u
-          → cond t (madeFrom g old new m out shelf) (leaves (Refused StartEntry) out shelf) .answer ≡ cond u (madeFrom g old new m out₂ shelf₂) (leaves (Refused StartEntry) out₂ shelf₂) .answer
+          → cond t (madeFrom g old new m out shelf) (leaves (Refused StartEntry) out shelf) .result ≡ cond u (madeFrom g old new m out₂ shelf₂) (leaves (Refused StartEntry) out₂ shelf₂) .result
       go true true e = ap (λ (n : ℕ). Done (n - m * mark)) long
       go false false e = refl
       go true false e = absurd (clash (cc))
@@ -96,16 +98,16 @@ module _ (g : Settings) (old new : List ℕ) (m : ℕ) (out out₂ : List Float)
     unfolding fromOf
     samples-alone =
         rw (ok, ← start-alone, ok)
-        (ap (λ (o : Outcome). drop (m * mark) (o .heard)) (made-is g old new m out shelf fit) ∙ back (m * mark) out (samplesFrom g new (m * mark) (startOf shelf m) (length out - m * mark)) (omega arith)
+        (ap (λ (o : Outcome Answer). drop (m * mark) (o .heard)) (made-is g old new m out shelf fit) ∙ back (m * mark) out (samplesFrom g new (m * mark) (startOf shelf m) (length out - m * mark)) (omega arith)
         ∙ ap (λ (n : ℕ). samplesFrom g new (m * mark) (startOf shelf m) (n - m * mark)) long ∙ ap (λ (ws : List ℕ). samplesFrom g new (m * mark) (stateOf ws) (length out₂ - m * mark)) same
         ∙ sym (back (m * mark) out₂ (samplesFrom g new (m * mark) (startOf shelf₂ m) (length out₂ - m * mark)) (omega (arith, long)))
-        ∙ sym (ap (λ (o : Outcome). drop (m * mark) (o .heard)) (made-is g old new m out₂ shelf₂ fit₂)))
+        ∙ sym (ap (λ (o : Outcome Answer). drop (m * mark) (o .heard)) (made-is g old new m out₂ shelf₂ fit₂)))
 
     pub entries-alone : drop (m * entryWords) (fromOf g old new m out shelf .stored) ≡ drop (m * entryWords) (fromOf g old new m out₂ shelf₂ .stored)
     unfolding fromOf
     entries-alone =
         rw (ok, ← start-alone, ok)
-        (ap (λ (o : Outcome). drop (m * entryWords) (o .stored)) (made-is g old new m out shelf fit) ∙ back (m * entryWords) shelf (shelfOf (entriesFrom g new m (startOf shelf m) (entriesFor (length out) - m))) (omega arith)
+        (ap (λ (o : Outcome Answer). drop (m * entryWords) (o .stored)) (made-is g old new m out shelf fit) ∙ back (m * entryWords) shelf (shelfOf (entriesFrom g new m (startOf shelf m) (entriesFor (length out) - m))) (omega arith)
         ∙ ap (λ (n : ℕ). shelfOf (entriesFrom g new m (startOf shelf m) (entriesFor n - m))) long ∙ ap (λ (ws : List ℕ). shelfOf (entriesFrom g new m (stateOf ws) (entriesFor (length out₂) - m))) same
         ∙ sym (back (m * entryWords) shelf₂ (shelfOf (entriesFrom g new m (startOf shelf₂ m) (entriesFor (length out₂) - m))) (omega (arith, long)))
-        ∙ sym (ap (λ (o : Outcome). drop (m * entryWords) (o .stored)) (made-is g old new m out₂ shelf₂ fit₂)))
+        ∙ sym (ap (λ (o : Outcome Answer). drop (m * entryWords) (o .stored)) (made-is g old new m out₂ shelf₂ fit₂)))

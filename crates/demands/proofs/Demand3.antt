@@ -13,6 +13,8 @@ use lib.Dec.{T}
 use lib.ListN.{length, take, drop}
 use lib.Seq.{drop-append-seam}
 use lib.Ieee.{Float, binary64, fits}
+use Rattle.sections.specs.Outcome.{Outcome, leaves}
+use Rattle.render.specs.declared.Rendered.{Rendered}
 use Rattle.answers.specs.declared.Answer.the-variants.{Done}
 use Rattle.score.specs.declared.Difference.the-variants.{At}
 use Rattle.score.specs.declared.Verdict.the-variants.{Accepted}
@@ -39,7 +41,7 @@ use Rattle.render.specs.Calls as render
 use Rattle.render.specs.Calls.{renderOf}
 use Rattle.demands.proofs.Honest.{honest}
 use Rattle.rerender.specs.declared.Plan.the-variants.{Nothing}
-use Rattle.rerender.specs.Rerender.{Outcome, leaves, checkedOf, planOf, entryAt, startOf, isStart, fromOf, rerenderOf}
+use Rattle.rerender.specs.Rerender.{checkedOf, planOf, entryAt, startOf, isStart, fromOf, rerenderOf}
 use Rattle.rerender.proofs.Cases.{made-is, plan-equal, plan-late, plan-from}
 
 -- what a render of s leaves, of n samples
@@ -78,7 +80,7 @@ entry-left g s n i h =
 
 -- a render of an accepted score is done, and leaves these
 pub rendered : (g : Settings) → settingsOk g ≡ true → (s : List ℕ) → Taken s → (out : List Float) (shelf : List ℕ) → Lent out shelf
-    → renderOf g s out shelf ≡ render.leaves (render.says (Done (length out)) (stateFrom g s 0 (freshOf 0) (length out))) (soundOf g s (length out)) (shelvedOf g s (length out))
+    → renderOf g s out shelf ≡ leaves (render.says (Done (length out)) (stateFrom g s 0 (freshOf 0) (length out))) (soundOf g s (length out)) (shelvedOf g s (length out))
 unfolding renderOf judgedOf
 rendered g ok s a out shelf z = rw (ok, le-leb (length out) 16777216 (z .short), eq-eqb (length shelf) (wordsFor (length out)) (z .fits), a .accepted) refl
 
@@ -178,8 +180,8 @@ module _ (g : Settings) (old new : List ℕ) (x : Edit g old new) (p : ℕ) (dif
           (take (m * entryWords) shelf ++ drop (m * entryWords) (renderOf g new out₂ shelf₂ .stored))
       demand-3-of-renders =
           let there : m < entriesFor (length out) = start-there (length out) p heard in
-          let first : renderOf g old out₁ shelf₁ .stored ≡ shelvedOf g old (length out) = ap (λ (o : render.Outcome). o .stored) (rendered g (x .settings) old (x .old-taken) out₁ shelf₁ z₁) ∙ ap (shelvedOf g old) long₁ in
+          let first : renderOf g old out₁ shelf₁ .stored ≡ shelvedOf g old (length out) = ap (λ (o : Outcome Rendered). o .stored) (rendered g (x .settings) old (x .old-taken) out₁ shelf₁ z₁) ∙ ap (shelvedOf g old) long₁ in
           let second = rendered g (x .settings) new (x .new-taken) out₂ shelf₂ z₂ in
-          let a : renderOf g new out₂ shelf₂ .heard ≡ soundOf g new (length out) = ap (λ (o : render.Outcome). o .heard) second ∙ ap (soundOf g new) long₂ in
-          let b : renderOf g new out₂ shelf₂ .stored ≡ shelvedOf g new (length out) = ap (λ (o : render.Outcome). o .stored) second ∙ ap (shelvedOf g new) long₂ in
+          let a : renderOf g new out₂ shelf₂ .heard ≡ soundOf g new (length out) = ap (λ (o : Outcome Rendered). o .heard) second ∙ ap (soundOf g new) long₂ in
+          let b : renderOf g new out₂ shelf₂ .stored ≡ shelvedOf g new (length out) = ap (λ (o : Outcome Rendered). o .stored) second ∙ ap (shelvedOf g new) long₂ in
           rw (a, b) (demand-3 (left ∙ ap (λ (ws : List ℕ). entryAt ws m) first ∙ entry-left g old (length out) m there))

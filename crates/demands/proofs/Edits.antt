@@ -10,6 +10,8 @@ use lib.Dec.{T}
 use lib.ListN.{length, take, take-append-drop}
 use lib.Seq.{take-at}
 use lib.Ieee.{Float, binary64, fits}
+use Rattle.sections.specs.Outcome.{Outcome, leaves}
+use Rattle.render.specs.declared.Rendered.{Rendered}
 use Rattle.answers.specs.declared.Answer.{Answer}
 use Rattle.answers.specs.declared.Answer.the-variants.{Done}
 use Rattle.score.specs.declared.Difference.{Difference}
@@ -29,16 +31,15 @@ use Rattle.state.specs.Heart.{stateFrom, samplesFrom, entriesFrom}
 use Rattle.state.proofs.RunsOn.{samples-on, samples-length}
 use Rattle.state.proofs.Entries.{entries-on, entries-length}
 use Rattle.state.proofs.Depends.{Shared, samples-shared, entries-shared, differing-shared}
-use Rattle.render.specs.Calls as render
 use Rattle.render.specs.Calls.{renderOf}
 use Rattle.rerender.specs.declared.Plan.the-variants.{Nothing}
-use Rattle.rerender.specs.Rerender.{Outcome, leaves, planOf, countFor, rerenderOf}
+use Rattle.rerender.specs.Rerender.{planOf, countFor, rerenderOf}
 use Rattle.demands.specs.Edits.{editsFrom, lastScore, answersFrom, allCounted}
 use Rattle.rerender.proofs.Cases.{plan-equal, plan-late, plan-from}
 use Rattle.demands.proofs.Demand3.{soundOf, shelvedOf, atMark, Taken, Edit, Lent, entry-left, rendered, checked, demand-3}
 
 abbrev Rendering : Type 0
-Rendering = render.Outcome
+Rendering = Outcome Rendered
 
 -- ---- the front of a render
 module _ (g : Settings) (s : List ℕ) (n : ℕ) where
@@ -63,7 +64,7 @@ module _ (g : Settings) (s : List ℕ) (n : ℕ) where
 
 -- ---- one edit of a whole render
 -- the output and the shelf hold what a render of s leaves, of n samples
-pub record Whole (g : Settings) (s : List ℕ) (n : ℕ) (o : Outcome) : Type 0 where
+pub record Whole (g : Settings) (s : List ℕ) (n : ℕ) (o : Outcome Answer) : Type 0 where
   pub heard-is : o .heard ≡ soundOf g s n
   pub stored-is : o .stored ≡ shelvedOf g s n
 
@@ -85,9 +86,9 @@ module _ (g : Settings) (old new : List ℕ) (x : Edit g old new) (n : ℕ) (sho
       }
 
   -- it is done with the samples of its plan, and holds what a render of the new score leaves
-  pub record Edited (o : Outcome) : Type 0 where
+  pub record Edited (o : Outcome Answer) : Type 0 where
     pub whole : Whole g new n o
-    pub counted : o .answer ≡ Done (countFor g old new (planOf old new n) n)
+    pub counted : o .result ≡ Done (countFor g old new (planOf old new n) n)
 
   -- where nothing is made, nothing that is heard has changed
   unchanged : Nothing ≡ planOf old new (length out) → soundOf g old n ≡ soundOf g new n → shelvedOf g old n ≡ shelvedOf g new n → Edited (rerenderOf g old new out shelf)
@@ -116,10 +117,10 @@ module _ (g : Settings) (old new : List ℕ) (x : Edit g old new) (n : ℕ) (sho
       let d = demand-3 g old new x p e out shelf lent (omega (arith, long)) (entry-left g old n m there) in
       record {
         whole = record {
-          heard-is = ap (λ (o : Outcome). o .heard) d ∙ rw (long, front) (take-append-drop (m * mark) (soundOf g new n));
-          stored-is = ap (λ (o : Outcome). o .stored) d ∙ rw (long, front-shelf) (take-append-drop (m * entryWords) (shelvedOf g new n));
+          heard-is = ap (λ (o : Outcome Answer). o .heard) d ∙ rw (long, front) (take-append-drop (m * mark) (soundOf g new n));
+          stored-is = ap (λ (o : Outcome Answer). o .stored) d ∙ rw (long, front-shelf) (take-append-drop (m * entryWords) (shelvedOf g new n));
         };
-        counted = ap (λ (o : Outcome). o .answer) d ∙ rw (long, ← plan-from old new n p e h) refl;
+        counted = ap (λ (o : Outcome Answer). o .result) d ∙ rw (long, ← plan-from old new n p e h) refl;
       }
 
   pub one-edit : Edited (rerenderOf g old new out shelf)
@@ -143,7 +144,7 @@ last-taken old [] a b = a
 last-taken old (new ∷ rest) a b = last-taken new rest (b .0) (b .1)
 
 module _ (g : Settings) (ok : settingsOk g ≡ true) (w : T (fits binary64 (g .adsr .sustain))) (n : ℕ) (short : n ≤ 16777216) where
-  pub all-edits : (old : List ℕ) (news : List (List ℕ)) → Taken old → AllTaken news → (o : Outcome) → Whole g old n o → Whole g (lastScore old news) n (editsFrom g old news o)
+  pub all-edits : (old : List ℕ) (news : List (List ℕ)) → Taken old → AllTaken news → (o : Outcome Answer) → Whole g old n o → Whole g (lastScore old news) n (editsFrom g old news o)
   unfolding editsFrom lastScore
   all-edits old [] a b o h = h
   all-edits old (new ∷ rest) a b o h =
@@ -152,7 +153,7 @@ module _ (g : Settings) (ok : settingsOk g ≡ true) (w : T (fits binary64 (g .a
       all-edits new rest (b .0) (b .1) (rerenderOf g old new (o .heard) (o .stored)) e
 
   -- every call is done, with the samples of its plan
-  pub all-answers : (old : List ℕ) (news : List (List ℕ)) → Taken old → AllTaken news → (o : Outcome) → Whole g old n o → answersFrom g old news o ≡ allCounted g old news n
+  pub all-answers : (old : List ℕ) (news : List (List ℕ)) → Taken old → AllTaken news → (o : Outcome Answer) → Whole g old n o → answersFrom g old news o ≡ allCounted g old news n
   unfolding answersFrom allCounted
   all-answers old [] a b o h = refl
   all-answers old (new ∷ rest) a b o h =

@@ -18,7 +18,8 @@ use Rattle.score.specs.Apart.{sameTo, firstFrom, differenceOf}
 use Rattle.shelf.specs.Shelf.{entryWords, wordsFor, entryOf}
 use Rattle.shelf.proofs.There.{entry-length}
 use Rattle.demands.proofs.ChainExamples.{plain, plain-ok, begins, begins-accepted}
-use Rattle.rerender.specs.Rerender.{leaves, entryAt, rerenderOf}
+use Rattle.sections.specs.Outcome.{leaves}
+use Rattle.rerender.specs.Rerender.{entryAt, rerenderOf}
 use Rattle.demands.proofs.Demand3.{soundOf, shelvedOf, atMark, Edit, Lent, demand-3}
 
 -- the off at 5,000

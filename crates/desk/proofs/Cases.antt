@@ -8,6 +8,7 @@ use borrow.Author.Tests.{eq-eqb, ne-eqb, not-true, not-false}
 use lib.Dec.{ltb}
 use lib.ListN.{length, drop}
 use lib.Ieee.{Float}
+use Rattle.sections.specs.Outcome.{Outcome, leaves}
 use Rattle.answers.specs.declared.Answer.{Answer}
 use Rattle.answers.specs.declared.Answer.the-variants.{Done, Refused}
 use Rattle.answers.specs.declared.Refusal.{Refusal}
@@ -17,10 +18,8 @@ use Rattle.floats.specs.Double.{naught}
 use Rattle.listing.specs.Listing.{listingOf}
 use Rattle.listing.specs.Outcome.{Listed}
 use Rattle.render.specs.declared.Rendered.{Rendered}
-use Rattle.render.specs.Calls as render
 use Rattle.render.specs.Calls.{renderOf, leavesPart, isStretch, continueOf}
 use Rattle.render.specs.Order.{judgedOf}
-use Rattle.rerender.specs.Rerender as rerender
 use Rattle.rerender.specs.Rerender.{rerenderOf}
 use Rattle.shelf.specs.declared.Entry.{Entry}
 use Rattle.shelf.specs.Shelf.{entryWords, keptIn, stateOf, isEntry, decodedOf}
@@ -37,7 +36,7 @@ use Rattle.desk.specs.declared.Choice.{Choice}
 use Rattle.desk.specs.declared.Choice.the-variants.{Known, Unknown}
 use Rattle.desk.specs.Packed.{packedOf}
 use Rattle.desk.proofs.Lines.{listing-starts}
-use Rattle.desk.specs.Desk.{Outcome, leaves, fills, singleFor, renderFor, rendered, rerenderFor, rerendered, continueIn, continueFor, freshFor, listRoom, listFor}
+use Rattle.desk.specs.Desk.{fills, singleFor, renderFor, rendered, rerenderFor, rerendered, continueIn, continueFor, freshFor, listRoom, listFor}
 
 -- ---- a single sample
 pub single-known : (x : Shape) (phase dt : Float) {w : Waveform} → x ≡ shape.Known w → sampleOf w phase dt ≡ singleFor x phase dt
@@ -48,15 +47,15 @@ single-unknown x phase dt e = rw e refl
 
 -- ---- render, re-render and continue
 module _ (choice : Choice) (g : Settings) (e : choice ≡ Known g) where
-  pub render-known : (s : List ℕ) (out : List Float) (shelf : List ℕ) (r : Rendered) (ys : List Float) (ws : List ℕ) → render.leaves r ys ws ≡ renderOf g s out shelf
+  pub render-known : (s : List ℕ) (out : List Float) (shelf : List ℕ) (r : Rendered) (ys : List Float) (ws : List ℕ) → leaves r ys ws ≡ renderOf g s out shelf
       → (word : ℕ) → word ≡ packedOf (r .answer) → leaves word ys ws ≡ renderFor choice s out shelf
   render-known s out shelf r ys ws x word p = rw (e, p) (ap rendered x)
 
-  pub rerender-known : (old new : List ℕ) (out : List Float) (shelf : List ℕ) (a : Answer) (ys : List Float) (ws : List ℕ) → rerender.leaves a ys ws ≡ rerenderOf g old new out shelf
+  pub rerender-known : (old new : List ℕ) (out : List Float) (shelf : List ℕ) (a : Answer) (ys : List Float) (ws : List ℕ) → leaves a ys ws ≡ rerenderOf g old new out shelf
       → (word : ℕ) → word ≡ packedOf a → leaves word ys ws ≡ rerenderFor choice old new out shelf
   rerender-known old new out shelf a ys ws x word p = rw (e, p) (ap rerendered x)
 
-  pub continue-known : (s ws : List ℕ) (p : ℕ) (part : List Float) (o : Outcome) → o ≡ continueIn (isEntry ws) g s ws p part → o ≡ continueFor choice s ws p part
+  pub continue-known : (s ws : List ℕ) (p : ℕ) (part : List Float) (o : Outcome ℕ) → o ≡ continueIn (isEntry ws) g s ws p part → o ≡ continueFor choice s ws p part
   continue-known s ws p part o x = rw e x
 
 module _ (choice : Choice) (e : choice ≡ Unknown) (word : ℕ) (q : word ≡ packedOf (Refused Setting)) where

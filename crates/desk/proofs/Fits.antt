@@ -8,6 +8,7 @@ use lib.Dec.{leb, eqb}
 use lib.ListN.{length}
 use lib.Ieee.{Float}
 use borrow.Author.Tests.{leb-true}
+use Rattle.sections.specs.Outcome.{Outcome, leaves}
 use Rattle.answers.specs.declared.Answer.{Answer}
 use Rattle.answers.specs.declared.Answer.the-variants.{Done, Refused}
 use Rattle.answers.specs.declared.Refusal.{Refusal}
@@ -25,7 +26,7 @@ use Rattle.render.specs.Order.{most, scored, judgedOf, isRoom}
 use Rattle.render.proofs.Judging.{roomy}
 use Rattle.rerender.specs.declared.Plan.{Plan}
 use Rattle.rerender.specs.declared.Plan.the-variants.{Nothing, From}
-use Rattle.rerender.specs.Rerender.{Outcome, leaves, newScored, checkedOf, planOf, isStart, madeFrom, fromOf, runOf, afterChecks, rerenderOf}
+use Rattle.rerender.specs.Rerender.{newScored, checkedOf, planOf, isStart, madeFrom, fromOf, runOf, afterChecks, rerenderOf}
 use Rattle.rerender.proofs.Cases.{all-checked}
 use Rattle.score.specs.declared.Verdict.{Verdict}
 use Rattle.score.specs.declared.Verdict.the-variants.{Accepted, Faulty}
@@ -166,18 +167,18 @@ continue-fits g s v p part =
     go (Done n) f = f
     go (Refused why) f = f
 
-pub rerender-fits : (g : Settings) (old new : List ℕ) (out : List Float) (shelf : List ℕ) → Fits (rerenderOf g old new out shelf .answer)
+pub rerender-fits : (g : Settings) (old new : List ℕ) (out : List Float) (shelf : List ℕ) → Fits (rerenderOf g old new out shelf .result)
 unfolding rerenderOf fromOf
 rerender-fits g old new out shelf = go (checkedOf g old new (length out) (length shelf)) refl
   where
-    from : (m : ℕ) → length out ≤ most → (t : Bool) → Fits (cond {A = Outcome} t (madeFrom g old new m out shelf) (leaves (Refused StartEntry) out shelf) .answer)
+    from : (m : ℕ) → length out ≤ most → (t : Bool) → Fits (cond {A = Outcome Answer} t (madeFrom g old new m out shelf) (leaves (Refused StartEntry) out shelf) .result)
     from m h true = done-fits (length out - m * 4096) (omega arith)
     from m h false = refused-fits StartEntry (omega arith)
 
-    run : (plan : Plan) → length out ≤ most → Fits (runOf g old new plan out shelf .answer)
+    run : (plan : Plan) → length out ≤ most → Fits (runOf g old new plan out shelf .result)
     run Nothing h = done-fits 0 (omega arith)
     run (From m) h = from m h (isStart new m shelf)
 
-    go : (a : Answer) → checkedOf g old new (length out) (length shelf) ≡ a → Fits (afterChecks a g old new (planOf old new (length out)) out shelf .answer)
+    go : (a : Answer) → checkedOf g old new (length out) (length shelf) ≡ a → Fits (afterChecks a g old new (planOf old new (length out)) out shelf .result)
     go (Done n) e = run (planOf old new (length out)) (all-checked g old new (length out) (length shelf) n e .room .short)
     go (Refused why) e = rw e at (judged-fits g (isRoom (length out) (length shelf)) old (newScored (verdictOf new) (Done 0)) (λ h. newly-fits new))

@@ -59,17 +59,17 @@ pub unknown-reads : numbersIn (packedOf (Refused Setting)) ≡ numbersOf (Refuse
 unknown-reads = read-back (Refused Setting) (refused-fits Setting (omega arith))
 
 module _ (g : Settings) where
-  pub render-reads : (s : List ℕ) (out : List Float) (shelf : List ℕ) → numbersIn (rendered (renderOf g s out shelf) .said) ≡ numbersOf (renderOf g s out shelf .result .answer)
+  pub render-reads : (s : List ℕ) (out : List Float) (shelf : List ℕ) → numbersIn (rendered (renderOf g s out shelf) .result) ≡ numbersOf (renderOf g s out shelf .result .answer)
   render-reads s out shelf = read-back (renderOf g s out shelf .result .answer) (render-fits g s out shelf)
 
-  pub rerender-reads : (old new : List ℕ) (out : List Float) (shelf : List ℕ) → numbersIn (rerendered (rerenderOf g old new out shelf) .said) ≡ numbersOf (rerenderOf g old new out shelf .answer)
-  rerender-reads old new out shelf = read-back (rerenderOf g old new out shelf .answer) (rerender-fits g old new out shelf)
+  pub rerender-reads : (old new : List ℕ) (out : List Float) (shelf : List ℕ) → numbersIn (rerendered (rerenderOf g old new out shelf) .result) ≡ numbersOf (rerenderOf g old new out shelf .result)
+  rerender-reads old new out shelf = read-back (rerenderOf g old new out shelf .result) (rerender-fits g old new out shelf)
 
-  pub continue-reads : (s ws : List ℕ) (p : ℕ) (part : List Float) → numbersIn (continued (continueOf g s (stateOf ws) p part) ws .said) ≡ numbersOf (continueOf g s (stateOf ws) p part .result .answer)
+  pub continue-reads : (s ws : List ℕ) (p : ℕ) (part : List Float) → numbersIn (continued (continueOf g s (stateOf ws) p part) ws .result) ≡ numbersOf (continueOf g s (stateOf ws) p part .result .answer)
   continue-reads s ws p part = read-back (continueOf g s (stateOf ws) p part .result .answer) (continue-fits g s (stateOf ws) p part)
 
   -- from words that are no state
-  pub continue-none-reads : (s ws : List ℕ) (p : ℕ) (part : List Float) → numbersIn (continueIn false g s ws p part .said) ≡ numbersOf (judgedOf g (isStretch p (length part)) s (Refused GivenState))
+  pub continue-none-reads : (s ws : List ℕ) (p : ℕ) (part : List Float) → numbersIn (continueIn false g s ws p part .result) ≡ numbersOf (judgedOf g (isStretch p (length part)) s (Refused GivenState))
   continue-none-reads s ws p part = read-back (judgedOf g (isStretch p (length part)) s (Refused GivenState)) (judged-fits g (isStretch p (length part)) s (Refused GivenState) (λ h. refused-fits GivenState (omega arith)))
 
 pub fresh-reads : (numbersIn (packedOf (Done 0)) ≡ numbersOf (Done 0)) × (numbersIn (packedOf (Refused Argument)) ≡ numbersOf (Refused Argument))

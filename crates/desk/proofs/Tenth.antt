@@ -28,10 +28,10 @@ continue-answers g s v p part = go (continueAnswer g s v p (length part))
     go (Refused why) = refl
 
 pub ten-in-its-place : (g : Settings) (s ws : List ℕ) (p : ℕ) (part : List Float)
-    → continueIn (isEntry ws) g s ws p part .said
+    → continueIn (isEntry ws) g s ws p part .result
     ≡ packedOf (judgedOf g (isStretch p (length part)) s (unless (isEntry ws && eqb (stateOf ws .acted) (countBelow s p)) GivenState (Done (length part))))
 ten-in-its-place g s ws p part = go (isEntry ws) refl
   where
-    go : (t : Bool) → isEntry ws ≡ t → continueIn t g s ws p part .said ≡ packedOf (judgedOf g (isStretch p (length part)) s (unless (t && eqb (stateOf ws .acted) (countBelow s p)) GivenState (Done (length part))))
+    go : (t : Bool) → isEntry ws ≡ t → continueIn t g s ws p part .result ≡ packedOf (judgedOf g (isStretch p (length part)) s (unless (t && eqb (stateOf ws .acted) (countBelow s p)) GivenState (Done (length part))))
     go true e = rw (continue-answers g s (stateOf ws) p part, entry-is-state ws e) refl
     go false e = refl

@@ -3,10 +3,11 @@ use mathlib.Core.Path.{_≡_, sym, ap, _∙_}
 use mathlib.Core.List.{List}
 use Prim.Native.Nat.{ℕ}
 use lib.Ieee.{Float}
-use Rattle.desk.specs.declared.Asked.{Asked}
+use Rattle.sections.specs.Outcome.{leaves}
+use Rattle.sections.proofs.Unique.{same-left}
 use Rattle.desk.specs.Packed.{packedOf}
 use Rattle.desk.specs.Version.{version}
-use Rattle.desk.specs.Desk.{Outcome, leaves, Filled, fills, choiceOf, checkOf, singleOf, renderFor, rerenderFor, continueFor, freshFor, listFor}
+use Rattle.desk.specs.Desk.{Asked, Filled, fills, choiceOf, checkOf, singleOf, renderFor, rerenderFor, continueFor, freshFor, listFor}
 
 pub gav-version-unique : (r t : ℕ) → r ≡ version → t ≡ version → r ≡ t
 gav-version-unique r t p q = p ∙ sym q
@@ -21,15 +22,10 @@ pub gav-sample-says-unique : (code : ℕ) (phase dt duty : Float) (r t : ℕ) �
 gav-sample-says-unique code phase dt duty r t p q = p ∙ sym q
 
 -- ---- calls that are lent buffers: the word, and every number in them
-same-left : (o : Outcome) (r t : ℕ) (a b : List Float) (c d : List ℕ) → leaves r a c ≡ o → leaves t b d ≡ o → (r ≡ t) × (a ≡ b) × (c ≡ d)
-same-left o r t a b c d x y =
-    let e : leaves r a c ≡ leaves t b d = x ∙ sym y in
-    (ap (λ (l : Outcome). l .said) e, ap (λ (l : Outcome). l .heard) e, ap (λ (l : Outcome). l .stored) e)
-
 same-filled : (o : Filled) (r t : ℕ) (a b : List ℕ) → fills r a ≡ o → fills t b ≡ o → (r ≡ t) × (a ≡ b)
 same-filled o r t a b x y =
     let e : fills r a ≡ fills t b = x ∙ sym y in
-    (ap (λ (l : Filled). l .said) e, ap (λ (l : Filled). l .left) e)
+    (ap (λ (l : Filled). l .result) e, ap (λ (l : Filled). l .left) e)
 
 pub gav-render-unique : (a : Asked) (s : List ℕ) (out : List Float) (shelf : List ℕ) (r t : ℕ) (ys zs : List Float) (c d : List ℕ)
     → leaves r ys c ≡ renderFor (choiceOf a) s out shelf → leaves t zs d ≡ renderFor (choiceOf a) s out shelf → (r ≡ t) × (ys ≡ zs) × (c ≡ d)

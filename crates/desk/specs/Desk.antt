@@ -7,6 +7,8 @@ use Prim.Native.Nat.{ℕ}
 use lib.Dec.{eqb, ltb}
 use lib.ListN.{length, drop}
 use lib.Ieee.{Float}
+use Rattle.sections.specs.Outcome.{Outcome, leaves}
+use Rattle.render.specs.declared.Rendered.{Rendered}
 use Rattle.answers.specs.declared.Answer.{Answer}
 use Rattle.answers.specs.declared.Answer.the-variants.{Done, Refused}
 use Rattle.answers.specs.declared.Refusal.the-variants.{Setting, Size, Argument, GivenState}
@@ -17,7 +19,6 @@ use Rattle.listing.specs.Listing.{listingOf}
 use Rattle.render.specs.Calls as render
 use Rattle.render.specs.Calls.{renderOf, isStretch, continueOf}
 use Rattle.render.specs.Order.{judgedOf}
-use Rattle.rerender.specs.Rerender as rerender
 use Rattle.rerender.specs.Rerender.{rerenderOf}
 use Rattle.score.specs.Score.{verdictOf, answerOf}
 use Rattle.shelf.specs.Shelf.{entryWords, entryOf, stateOf, isEntry}
@@ -27,7 +28,6 @@ use Rattle.state.specs.State.{freshOf}
 use Rattle.waveform.specs.declared.Waveform.{Waveform}
 use Rattle.waveform.specs.declared.Waveform.the-variants.{Sine, Square, Sawtooth, Triangle, Pulse}
 use Rattle.waveform.specs.Waveform.{sampleOf}
-use Rattle.desk.specs.declared.Asked.{Asked}
 use Rattle.desk.specs.declared.Shape.{Shape}
 use Rattle.desk.specs.declared.Shape.the-variants as shape
 use Rattle.desk.specs.declared.Choice.{Choice}
@@ -35,22 +35,13 @@ use Rattle.desk.specs.declared.Choice.the-variants.{Known, Unknown}
 use Rattle.desk.specs.Packed.{packedOf}
 
 -- ---- what is left by a call: the word that it answers, and what was lent
--- a call that is lent samples and words: a shelf's or a state's
-pub record Outcome : Type 0 where
-  pub said : ℕ
-  pub heard : List Float
-  pub stored : List ℕ
-
-abbrev pub leaves : ℕ → List Float → List ℕ → Outcome
-leaves said heard stored = record { said = said; heard = heard; stored = stored }
-
 -- a call that is lent words or bytes alone
 pub record Filled : Type 0 where
-  pub said : ℕ
+  pub result : ℕ
   pub left : List ℕ
 
 abbrev pub fills : ℕ → List ℕ → Filled
-fills said left = record { said = said; left = left }
+fills result left = record { result = result; left = left }
 
 -- ---- the settings
 -- codes 0 to 4 in the Rust's order; the duty is Pulse's alone
@@ -62,7 +53,16 @@ shapeOf code duty =
     (cond (eqb code 3) (shape.Known Triangle)
     (cond (eqb code 4) (shape.Known (Pulse duty)) shape.Unknown))))
 
--- what a host asks, number by number
+-- what a host asks, in its own numbers
+pub record Asked : Type 0 where
+  pub rate : ℕ
+  pub code : ℕ
+  pub duty : Float
+  pub attack : Float
+  pub decay : Float
+  pub sustain : Float
+  pub release : Float
+
 abbrev pub asks : ℕ → ℕ → Float → Float → Float → Float → Float → Asked
 asks rate code duty attack decay sustain release = record { rate = rate; code = code; duty = duty; attack = attack; decay = decay; sustain = sustain; release = release }
 
@@ -90,18 +90,18 @@ abbrev pub singleOf : ℕ → Float → Float → Float → Value
 singleOf code phase dt duty = singleFor (shapeOf code duty) phase dt
 
 -- ---- render: a code above 4 is 6, which comes before all else
-abbrev pub rendered : render.Outcome → Outcome
+abbrev pub rendered : Outcome Rendered → Outcome ℕ
 rendered o = leaves (packedOf (o .result .answer)) (o .heard) (o .stored)
 
-abbrev pub renderFor : Choice → List ℕ → List Float → List ℕ → Outcome
+abbrev pub renderFor : Choice → List ℕ → List Float → List ℕ → Outcome ℕ
 renderFor (Known g) s out shelf = rendered (renderOf g s out shelf)
 renderFor Unknown s out shelf = leaves (packedOf (Refused Setting)) out shelf
 
 -- ---- re-render
-abbrev pub rerendered : rerender.Outcome → Outcome
-rerendered o = leaves (packedOf (o .answer)) (o .heard) (o .stored)
+abbrev pub rerendered : Outcome Answer → Outcome ℕ
+rerendered o = leaves (packedOf (o .result)) (o .heard) (o .stored)
 
-abbrev pub rerenderFor : Choice → List ℕ → List ℕ → List Float → List ℕ → Outcome
+abbrev pub rerenderFor : Choice → List ℕ → List ℕ → List Float → List ℕ → Outcome ℕ
 rerenderFor (Known g) old new out shelf = rerendered (rerenderOf g old new out shelf)
 rerenderFor Unknown old new out shelf = leaves (packedOf (Refused Setting)) out shelf
 
@@ -111,15 +111,15 @@ abbrev pub wordsAfter : Answer → State → List ℕ → List ℕ
 wordsAfter (Done n) v ws = entryOf v
 wordsAfter (Refused why) v ws = ws
 
-abbrev pub continued : render.PartOutcome → List ℕ → Outcome
+abbrev pub continued : render.PartOutcome → List ℕ → Outcome ℕ
 continued o ws = leaves (packedOf (o .result .answer)) (o .heard) (wordsAfter (o .result .answer) (o .result .state) ws)
 
 -- from words that are a state; words that are none, another number of them too, are 10 in its place in the order
-abbrev pub continueIn : Bool → Settings → List ℕ → List ℕ → ℕ → List Float → Outcome
+abbrev pub continueIn : Bool → Settings → List ℕ → List ℕ → ℕ → List Float → Outcome ℕ
 continueIn true g s ws p part = continued (continueOf g s (stateOf ws) p part) ws
 continueIn false g s ws p part = leaves (packedOf (judgedOf g (isStretch p (length part)) s (Refused GivenState))) part ws
 
-abbrev pub continueFor : Choice → List ℕ → List ℕ → ℕ → List Float → Outcome
+abbrev pub continueFor : Choice → List ℕ → List ℕ → ℕ → List Float → Outcome ℕ
 continueFor (Known g) s ws p part = continueIn (isEntry ws) g s ws p part
 continueFor Unknown s ws p part = leaves (packedOf (Refused Setting)) part ws
 

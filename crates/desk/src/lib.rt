@@ -3,10 +3,11 @@
 // pointer and a length in C; include/gavberin.h declares every function here, with the caller's duties, which nothing here can
 // test. Left out: the ported calls of phase, voice, envelope, oscillator and LFO, and the end state of a render.
 ghost use mathlib.Core.Path.{_≡_};
+ghost use Rattle.sections.specs.Outcome.{leaves};
 ghost use Rattle.shelf.specs.Shelf.{isEntry};
 ghost use Rattle.desk.specs.Packed.{packedOf};
 ghost use Rattle.desk.specs.Version.{version};
-ghost use Rattle.desk.specs.Desk.{leaves, fills, shapeOf, asks, settingsOf, choiceOf, checkOf, singleOf, renderFor, rerenderFor, continueIn, continueFor, freshFor, listFor};
+ghost use Rattle.desk.specs.Desk.{fills, shapeOf, asks, choiceOf, checkOf, singleOf, renderFor, rerenderFor, continueIn, continueFor, freshFor, listFor};
 use answers::Answer;
 use answers::Refusal;
 use answers::Value;
@@ -17,17 +18,6 @@ use waveform::Waveform;
 
 // GAV_VERSION of the header.
 const VERSION: u32 = 1;
-
-// What a host asks of the voice, in its own numbers.
-pub struct Asked {
-    pub rate: u32,
-    pub code: u32,
-    pub duty: f64,
-    pub attack: f64,
-    pub decay: f64,
-    pub sustain: f64,
-    pub release: f64,
-}
 
 // The waveform of a code, where it has one.
 pub enum Shape {
@@ -92,15 +82,7 @@ pub extern "C" fn gav_render(
 ) -> u64
     ensures { λ r. ⌜ leaves r (now (out .exit)) (now (shelf .exit)) ≡ renderFor (choiceOf (asks rate code duty attack decay sustain release)) (now (score .entry)) (now (out .entry)) (now (shelf .entry)) ⌝ }
 {
-    let choice = choice_of(Asked {
-        rate,
-        code,
-        duty,
-        attack,
-        decay,
-        sustain,
-        release,
-    });
+    let choice = choice_of(rate, code, duty, attack, decay, sustain, release);
     let Choice::Known(settings) = choice else {
         return packed(Answer::Refused(Refusal::Setting));
     };
@@ -126,15 +108,7 @@ pub extern "C" fn gav_rerender(
 ) -> u64
     ensures { λ r. ⌜ leaves r (now (out .exit)) (now (shelf .exit)) ≡ rerenderFor (choiceOf (asks rate code duty attack decay sustain release)) (now (old .entry)) (now (new .entry)) (now (out .entry)) (now (shelf .entry)) ⌝ }
 {
-    let choice = choice_of(Asked {
-        rate,
-        code,
-        duty,
-        attack,
-        decay,
-        sustain,
-        release,
-    });
+    let choice = choice_of(rate, code, duty, attack, decay, sustain, release);
     let Choice::Known(settings) = choice else {
         return packed(Answer::Refused(Refusal::Setting));
     };
@@ -158,15 +132,7 @@ pub extern "C" fn gav_continue(
 ) -> u64
     ensures { λ r. ⌜ leaves r (now (part .exit)) (now (state .exit)) ≡ continueFor (choiceOf (asks rate code duty attack decay sustain release)) (now (score .entry)) (now (state .entry)) position (now (part .entry)) ⌝ }
 {
-    let choice = choice_of(Asked {
-        rate,
-        code,
-        duty,
-        attack,
-        decay,
-        sustain,
-        release,
-    });
+    let choice = choice_of(rate, code, duty, attack, decay, sustain, release);
     let Choice::Known(settings) = choice else {
         return packed(Answer::Refused(Refusal::Setting));
     };
@@ -220,28 +186,33 @@ fn shape_of(code: u32, duty: f64) -> Shape
     }
 }
 
-fn choice_of(asked: Asked) -> Choice
-    ensures { λ r. ⌜ r ≡ choiceOf asked ⌝ }
+fn choice_of(
+    rate: u32,
+    code: u32,
+    duty: f64,
+    attack: f64,
+    decay: f64,
+    sustain: f64,
+    release: f64,
+) -> Choice
+    ensures { λ r. ⌜ r ≡ choiceOf (asks rate code duty attack decay sustain release) ⌝ }
 {
-    let shape = shape_of(asked.code, asked.duty);
+    let shape = shape_of(code, duty);
     match shape {
-        Shape::Known(waveform) => Choice::Known(settings_of(asked, waveform)),
+        Shape::Known(waveform) => {
+            let adsr = Adsr {
+                attack,
+                decay,
+                sustain,
+                release,
+            };
+            Choice::Known(Settings {
+                rate,
+                waveform,
+                adsr,
+            })
+        }
         Shape::Unknown => Choice::Unknown,
-    }
-}
-
-fn settings_of(asked: Asked, waveform: Waveform) -> Settings
-    ensures { λ r. ⌜ r ≡ settingsOf asked waveform ⌝ }
-{
-    Settings {
-        rate: asked.rate,
-        waveform,
-        adsr: Adsr {
-            attack: asked.attack,
-            decay: asked.decay,
-            sustain: asked.sustain,
-            release: asked.release,
-        },
     }
 }
 

@@ -7,6 +7,7 @@ use native.Mathlib.Nat.{sub-zero}
 use native.Mathlib.Omega.{arith}
 use lib.ListN.{length}
 use lib.Ieee.{Float}
+use Rattle.sections.specs.Outcome.{Outcome, leaves}
 use Rattle.answers.specs.declared.Answer.the-variants.{Done, Refused}
 use Rattle.answers.specs.declared.Refusal.{Refusal}
 use Rattle.answers.specs.declared.Refusal.the-variants.{GivenState}
@@ -22,11 +23,10 @@ use Rattle.shelf.specs.Shelf.{entriesFor, shelfOf}
 use Rattle.spans.specs.declared.Place.{Place}
 use Rattle.spans.specs.Walk.{placeOf, Played}
 use Rattle.spans.proofs.Agrees.{kept, samples-agree}
-use Rattle.sections.specs.Sections as sections
 use Rattle.sections.specs.Sections.{playOnOf}
 use Rattle.sections.proofs.Agrees.{made}
 use Rattle.render.specs.Order.{unless, judgedOf, isRoom}
-use Rattle.render.specs.Calls.{says, leaves, renderAnswer, renderOf, leavesPart, isStretch, isGiven, goOn, continueOf}
+use Rattle.render.specs.Calls.{says, renderAnswer, renderOf, leavesPart, isStretch, isGiven, goOn, continueOf}
 use Rattle.render.proofs.Judging.{all-passed, Passed, done-sorted, roomy, refused-before, left-after}
 
 done-inj : {n m : ℕ} → Done n ≡ Done m → n ≡ m
@@ -41,7 +41,7 @@ module _ (g : Settings) (s : List ℕ) (out : List Float) (shelf : List ℕ) whe
   at-zero : Cut s 0 0
   at-zero = record { inside = omega arith; lows = λ i l. omega arith; highs = λ i a b. omega arith }
 
-  pub render-done : (n : ℕ) → renderAnswer g s (length out) (length shelf) ≡ Done n → (p : Place) (ys : List Float) (ws : List ℕ) → sections.leaves p ys ws ≡ playOnOf g s 0 (placeOf (freshOf 0) 0) out shelf
+  pub render-done : (n : ℕ) → renderAnswer g s (length out) (length shelf) ≡ Done n → (p : Place) (ys : List Float) (ws : List ℕ) → leaves p ys ws ≡ playOnOf g s 0 (placeOf (freshOf 0) 0) out shelf
       → leaves (says (Done n) (p .state)) ys ws ≡ renderOf g s out shelf
   unfolding renderOf
   render-done n e p ys ws x =
@@ -50,9 +50,9 @@ module _ (g : Settings) (s : List ℕ) (out : List Float) (shelf : List ℕ) whe
       let m = made g s (done-sorted g (isRoom (length out) (length shelf)) s (Done (length out)) n e) 0 0 (freshOf 0) at-zero out shelf (roomy (length out) (length shelf) (a .sized) .fits) in
       let d : length out - 0 ≡ n = omega (arith, k) in
       let q : entriesFor (length out) - 0 ≡ entriesFor n = ap (λ (l : ℕ). entriesFor l - 0) k ∙ sub-zero (entriesFor n) in
-      let v : p .state ≡ stateFrom g s 0 (freshOf 0) n = ap (λ (o : sections.Outcome). o .place .state) x ∙ m .state-is ∙ ap (stateFrom g s 0 (freshOf 0)) d in
-      let y : ys ≡ samplesFrom g s 0 (freshOf 0) n = ap (λ (o : sections.Outcome). o .heard) x ∙ m .heard-is ∙ ap (samplesFrom g s 0 (freshOf 0)) d in
-      let w : ws ≡ shelfOf (entriesFrom g s 0 (freshOf 0) (entriesFor n)) = ap (λ (o : sections.Outcome). o .stored) x ∙ m .stored-is ∙ ap (λ (l : ℕ). shelfOf (entriesFrom g s 0 (freshOf 0) l)) q in
+      let v : p .state ≡ stateFrom g s 0 (freshOf 0) n = ap (λ (o : Outcome Place). o .result .state) x ∙ m .state-is ∙ ap (stateFrom g s 0 (freshOf 0)) d in
+      let y : ys ≡ samplesFrom g s 0 (freshOf 0) n = ap (λ (o : Outcome Place). o .heard) x ∙ m .heard-is ∙ ap (samplesFrom g s 0 (freshOf 0)) d in
+      let w : ws ≡ shelfOf (entriesFrom g s 0 (freshOf 0) (entriesFor n)) = ap (λ (o : Outcome Place). o .stored) x ∙ m .stored-is ∙ ap (λ (l : ℕ). shelfOf (entriesFrom g s 0 (freshOf 0) l)) q in
       rw (e, v, y, w) refl
 
 module _ (g : Settings) (s : List ℕ) (v : State) (p : ℕ) (part : List Float) where

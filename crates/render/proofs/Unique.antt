@@ -4,17 +4,18 @@ use mathlib.Core.Bool.{Bool}
 use mathlib.Core.List.{List}
 use Prim.Native.Nat.{ℕ}
 use lib.Ieee.{Float}
+use Rattle.sections.specs.Outcome.{leaves}
+use Rattle.sections.proofs.Unique.{same-left}
 use Rattle.answers.specs.declared.Answer.{Answer}
 use Rattle.state.specs.declared.Settings.{Settings}
 use Rattle.state.specs.declared.State.{State}
 use Rattle.render.specs.declared.Rendered.{Rendered}
 use Rattle.render.specs.Order.{judgedOf, isRoom}
-use Rattle.render.specs.Calls.{Outcome, leaves, renderOf, PartOutcome, leavesPart, isStretch, continueOf}
+use Rattle.render.specs.Calls.{renderOf, PartOutcome, leavesPart, isStretch, continueOf}
 
 pub render-unique : (g : Settings) (s : List ℕ) (out a b : List Float) (shelf c d : List ℕ) (r t : Rendered) → leaves r a c ≡ renderOf g s out shelf → leaves t b d ≡ renderOf g s out shelf → (r ≡ t) × (a ≡ b) × (c ≡ d)
 render-unique g s out a b shelf c d r t x y =
-    let e : leaves r a c ≡ leaves t b d = x ∙ sym y in
-    (ap (λ (o : Outcome). o .result) e, ap (λ (o : Outcome). o .heard) e, ap (λ (o : Outcome). o .stored) e)
+    same-left (renderOf g s out shelf) r t a b c d x y
 
 pub continue-render-unique : (g : Settings) (s : List ℕ) (v : State) (p : ℕ) (part a b : List Float) (r t : Rendered) → leavesPart r a ≡ continueOf g s v p part → leavesPart t b ≡ continueOf g s v p part → (r ≡ t) × (a ≡ b)
 continue-render-unique g s v p part a b r t x y =

@@ -8,6 +8,7 @@ use Prim.Native.Nat.{ℕ, _+_}
 use lib.Dec.{leb, eqb}
 use lib.ListN.{length}
 use lib.Ieee.{Float}
+use Rattle.sections.specs.Outcome.{Outcome, leaves}
 use Rattle.answers.specs.declared.Answer.{Answer}
 use Rattle.answers.specs.declared.Answer.the-variants.{Done, Refused}
 use Rattle.answers.specs.declared.Refusal.the-variants.{GivenState}
@@ -25,25 +26,16 @@ abbrev pub says : Answer → State → Rendered
 says answer v = record { answer = answer; state = v }
 
 -- ---- render: from the fresh state at sample 0
--- what it leaves: the result, the output, the shelf
-pub record Outcome : Type 0 where
-  pub result : Rendered
-  pub heard : List Float
-  pub stored : List ℕ
-
-abbrev pub leaves : Rendered → List Float → List ℕ → Outcome
-leaves r out shelf = record { result = r; heard = out; stored = shelf }
-
 abbrev pub renderAnswer : Settings → List ℕ → ℕ → ℕ → Answer
 renderAnswer g s n words = judgedOf g (isRoom n words) s (Done n)
 
 -- n samples and their entries; a refusal leaves all as it came
-abbrev pub renderedOf : Answer → Settings → List ℕ → List Float → List ℕ → Outcome
+abbrev pub renderedOf : Answer → Settings → List ℕ → List Float → List ℕ → Outcome Rendered
 renderedOf (Done n) g s out shelf =
     leaves (says (Done n) (stateFrom g s 0 (freshOf 0) n)) (samplesFrom g s 0 (freshOf 0) n) (shelfOf (entriesFrom g s 0 (freshOf 0) (entriesFor n)))
 renderedOf (Refused why) g s out shelf = leaves (says (Refused why) (freshOf 0)) out shelf
 
-unfoldable pub renderOf : Settings → List ℕ → List Float → List ℕ → Outcome
+unfoldable pub renderOf : Settings → List ℕ → List Float → List ℕ → Outcome Rendered
 renderOf g s out shelf = renderedOf (renderAnswer g s (length out) (length shelf)) g s out shelf
 
 -- ---- continue: from a given state v at position p

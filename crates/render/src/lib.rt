@@ -3,8 +3,9 @@
 // that they give from there. The end of a part reduces nothing. 01, "Making sample n" and "What a call says".
 ghost use mathlib.Core.Path.{_≡_};
 ghost use Rattle.score.specs.Below.{Sorted};
+ghost use Rattle.sections.specs.Outcome.{leaves};
 ghost use Rattle.render.specs.Order.{judgedOf, isRoom};
-ghost use Rattle.render.specs.Calls.{leaves, renderOf, leavesPart, isStretch, goOn, continueOf};
+ghost use Rattle.render.specs.Calls.{renderOf, leavesPart, isStretch, goOn, continueOf};
 use answers::Answer;
 use answers::Refusal;
 use score::Verdict;

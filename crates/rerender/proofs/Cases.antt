@@ -8,6 +8,7 @@ use lib.Dec.{ltb}
 use lib.ListN.{length, take, drop-of-length-le}
 use lib.Ieee.{Float}
 use borrow.Author.Tests.{lt-ltb, le-ltb, ltb-true}
+use Rattle.sections.specs.Outcome.{leaves}
 use Rattle.answers.specs.declared.Answer.the-variants.{Done, Refused}
 use Rattle.answers.specs.declared.Refusal.{Refusal}
 use Rattle.answers.specs.declared.Refusal.the-variants.{StartEntry}
@@ -28,14 +29,13 @@ use Rattle.state.specs.Settings.{settingsOk}
 use Rattle.state.specs.Heart.{samplesFrom, entriesFrom}
 use Rattle.spans.specs.declared.Place.{Place}
 use Rattle.spans.specs.Walk.{placeOf}
-use Rattle.sections.specs.Sections as sections
 use Rattle.sections.specs.Sections.{playOnOf}
 use Rattle.sections.proofs.Agrees.{made}
 use Rattle.render.specs.Order.{isRoom}
 use Rattle.render.proofs.Judging.{Passed, all-passed, Roomy, roomy}
 use Rattle.rerender.specs.declared.Plan.{Plan}
 use Rattle.rerender.specs.declared.Plan.the-variants.{Nothing, From}
-use Rattle.rerender.specs.Rerender.{leaves, newScored, checkedOf, planFor, planOf, entryAt, startOf, isStart, between, madeFrom, fromOf, runOf, rerenderOf}
+use Rattle.rerender.specs.Rerender.{newScored, checkedOf, planFor, planOf, entryAt, startOf, isStart, between, madeFrom, fromOf, runOf, rerenderOf}
 
 -- ---- the plan
 module _ (old new : List ℕ) (n : ℕ) where
@@ -104,7 +104,7 @@ module _ (g : Settings) (old new : List ℕ) (m : ℕ) (out : List Float) (shelf
   made-is f = rw (none-after (m * mark) (length out) out _ (omega arith), none-after (m * entryWords) (entriesFor (length out) * entryWords) shelf _ (omega arith)) refl
 
   pub from-made : Sorted new → length shelf ≡ wordsFor (length out) → starts ≡ true
-      → (p : Place) (ys : List Float) (ws : List ℕ) → sections.leaves p ys ws ≡ playOnOf g new m (placeOf (startOf shelf m) (startOf shelf m .acted)) out shelf
+      → (p : Place) (ys : List Float) (ws : List ℕ) → leaves p ys ws ≡ playOnOf g new m (placeOf (startOf shelf m) (startOf shelf m .acted)) out shelf
       → leaves (Done (length out - m * mark)) ys ws ≡ fromOf g old new m out shelf
   unfolding fromOf
   from-made o f e p ys ws x =

@@ -8,6 +8,7 @@ use Prim.Native.Nat.{ℕ, _-_, _*_, _/_}
 use lib.Dec.{ltb, eqb}
 use lib.ListN.{length, take, drop}
 use lib.Ieee.{Float}
+use Rattle.sections.specs.Outcome.{Outcome, leaves}
 use Rattle.answers.specs.declared.Answer.{Answer}
 use Rattle.answers.specs.declared.Answer.the-variants.{Done, Refused}
 use Rattle.answers.specs.declared.Refusal.the-variants.{NewScore, StartEntry}
@@ -25,15 +26,6 @@ use Rattle.state.specs.Heart.{samplesFrom, entriesFrom}
 use Rattle.render.specs.Order.{judgedOf, isRoom}
 use Rattle.rerender.specs.declared.Plan.{Plan}
 use Rattle.rerender.specs.declared.Plan.the-variants.{Nothing, From}
-
--- what it leaves: the answer, the output, the shelf
-pub record Outcome : Type 0 where
-  pub answer : Answer
-  pub heard : List Float
-  pub stored : List ℕ
-
-abbrev pub leaves : Answer → List Float → List ℕ → Outcome
-leaves answer out shelf = record { answer = answer; heard = out; stored = shelf }
 
 -- ---- the checks: 6, 7, the old score, the new one; done with 0 means that all are passed
 abbrev pub newScored : Verdict → Answer → Answer
@@ -72,7 +64,7 @@ abbrev pub between : {A : Type 0} → ℕ → ℕ → List A → List A → List
 between a b xs ys = take a xs ++ (ys ++ drop b xs)
 
 -- what lies before the mark, and from the stop on, stays as it came
-abbrev pub madeFrom : Settings → List ℕ → List ℕ → ℕ → List Float → List ℕ → Outcome
+abbrev pub madeFrom : Settings → List ℕ → List ℕ → ℕ → List Float → List ℕ → Outcome Answer
 madeFrom g old new m out shelf =
     let stop = stopOf g old new m (length out) in
     let v = startOf shelf m in
@@ -81,19 +73,19 @@ madeFrom g old new m out shelf =
     (between (m * mark) stop out (samplesFrom g new (m * mark) v (stop - m * mark)))
     (between (m * entryWords) (entriesFor stop * entryWords) shelf (shelfOf (entriesFrom g new m v (entriesFor stop - m))))
 
-unfoldable pub fromOf : Settings → List ℕ → List ℕ → ℕ → List Float → List ℕ → Outcome
+unfoldable pub fromOf : Settings → List ℕ → List ℕ → ℕ → List Float → List ℕ → Outcome Answer
 fromOf g old new m out shelf = cond (isStart new m shelf) (madeFrom g old new m out shelf) (leaves (Refused StartEntry) out shelf)
 
-abbrev pub runOf : Settings → List ℕ → List ℕ → Plan → List Float → List ℕ → Outcome
+abbrev pub runOf : Settings → List ℕ → List ℕ → Plan → List Float → List ℕ → Outcome Answer
 runOf g old new Nothing out shelf = leaves (Done 0) out shelf
 runOf g old new (From m) out shelf = fromOf g old new m out shelf
 
 -- ---- the call
-abbrev pub afterChecks : Answer → Settings → List ℕ → List ℕ → Plan → List Float → List ℕ → Outcome
+abbrev pub afterChecks : Answer → Settings → List ℕ → List ℕ → Plan → List Float → List ℕ → Outcome Answer
 afterChecks (Done n) g old new plan out shelf = runOf g old new plan out shelf
 afterChecks (Refused why) g old new plan out shelf = leaves (Refused why) out shelf
 
-unfoldable pub rerenderOf : Settings → List ℕ → List ℕ → List Float → List ℕ → Outcome
+unfoldable pub rerenderOf : Settings → List ℕ → List ℕ → List Float → List ℕ → Outcome Answer
 rerenderOf g old new out shelf = afterChecks (checkedOf g old new (length out) (length shelf)) g old new (planOf old new (length out)) out shelf
 
 -- how many samples a plan makes, of an output of n

@@ -11,9 +11,11 @@ use Rattle.state.specs.declared.Settings.{Settings}
 use Rattle.state.specs.declared.State.{State}
 use Rattle.state.specs.Heart.{stateFrom, samplesFrom, entriesFrom}
 use Rattle.shelf.specs.Shelf.{mark, entryWords, entriesFor, wordsFor, shelfOf}
+use Rattle.spans.specs.declared.Place.{Place}
 use Rattle.spans.specs.Walk.{placeOf}
 use Rattle.spans.proofs.Agrees.{kept, samples-agree}
-use Rattle.sections.specs.Sections.{keptFrom, Outcome, playOnOf}
+use Rattle.sections.specs.Outcome.{Outcome}
+use Rattle.sections.specs.Sections.{keptFrom, playOnOf}
 
 module _ (g : Settings) (s : List ℕ) (o : Sorted s) (m i : ℕ) (v : State) (c : Cut s (m * mark) i) where
   entries-agree : (k : ℕ) → keptFrom g s m (placeOf v i) k ≡ shelfOf (entriesFrom g s m v k)
@@ -21,8 +23,8 @@ module _ (g : Settings) (s : List ℕ) (o : Sorted s) (m i : ℕ) (v : State) (c
   entries-agree k = ap shelfOf (listed-same _ _ k (λ j l. kept g s o (m * mark) i v c (j * mark) .state-is))
 
   -- what the call leaves where the shelf fits the output
-  pub record Made (out : List Float) (shelf : List ℕ) (r : Outcome) : Type 0 where
-    pub state-is : r .place .state ≡ stateFrom g s (m * mark) v (length out - m * mark)
+  pub record Made (out : List Float) (shelf : List ℕ) (r : Outcome Place) : Type 0 where
+    pub state-is : r .result .state ≡ stateFrom g s (m * mark) v (length out - m * mark)
     pub heard-is : r .heard ≡ take (m * mark) out ++ samplesFrom g s (m * mark) v (length out - m * mark)
     pub stored-is : r .stored ≡ take (m * entryWords) shelf ++ shelfOf (entriesFrom g s m v (entriesFor (length out) - m))
 

@@ -12,22 +12,14 @@ use Rattle.shelf.specs.Shelf.{mark, entryWords, entriesFor, wordsFor, shelfOf}
 use Rattle.spans.specs.declared.Place.{Place}
 use Rattle.spans.specs.Walk.{placeFrom, playedFrom}
 use Rattle.state.specs.declared.Settings.{Settings}
+use Rattle.sections.specs.Outcome.{Outcome, leaves}
 
 -- the words of the entries m to m + k - 1, from a place p at mark m
 unfoldable pub keptFrom : Settings → List ℕ → ℕ → Place → ℕ → List ℕ
 keptFrom g s m p k = shelfOf (listed (λ (i : ℕ). placeFrom g s (m * mark) p (i * mark) .state) k)
 
--- what the call leaves: the place after the last sample, the output, the shelf
-pub record Outcome : Type 0 where
-  pub place : Place
-  pub heard : List Float
-  pub stored : List ℕ
-
-abbrev pub leaves : Place → List Float → List ℕ → Outcome
-leaves p out shelf = record { place = p; heard = out; stored = shelf }
-
--- what lies before the mark stays as it came
-abbrev pub played : Settings → List ℕ → ℕ → Place → List Float → List ℕ → Outcome
+-- the place after the last sample; what lies before the mark stays as it came
+abbrev pub played : Settings → List ℕ → ℕ → Place → List Float → List ℕ → Outcome Place
 played g s m p out shelf =
     let n = length out in
     leaves
@@ -35,11 +27,11 @@ played g s m p out shelf =
     (take (m * mark) out ++ playedFrom g s (m * mark) p (n - m * mark))
     (take (m * entryWords) shelf ++ keptFrom g s m p (entriesFor n - m))
 
-abbrev pub playedIf : Bool → Settings → List ℕ → ℕ → Place → List Float → List ℕ → Outcome
+abbrev pub playedIf : Bool → Settings → List ℕ → ℕ → Place → List Float → List ℕ → Outcome Place
 playedIf true g s m p out shelf = played g s m p out shelf
 playedIf false g s m p out shelf = leaves p out shelf
 
-unfoldable pub playOnOf : Settings → List ℕ → ℕ → Place → List Float → List ℕ → Outcome
+unfoldable pub playOnOf : Settings → List ℕ → ℕ → Place → List Float → List ℕ → Outcome Place
 playOnOf g s m p out shelf = playedIf (eqb (length shelf) (wordsFor (length out))) g s m p out shelf
 
 -- r is 4,096 samples after a, or the end k

@@ -11,15 +11,12 @@ shape-of-requires c κs = search needs
 enum-known-shape : tie.Need-enum-known-shape
 enum-known-shape c = search needs
 
-settings-of-requires : tie.Need-settings-of-requires
-settings-of-requires c κs = search needs
-
 enum-told : tie.Need-enum-told
 enum-told c = search needs
 
 returns : tie.Need-returns
 unfolding choiceOf
-returns c = let told = c .before .before in rw (c .settings-of .ensures, ← told .before .before .shape-of .ensures, told .shape .given .1) refl
+returns c = rw (← c .before .before .shape-of .ensures, c .shape .given .1) refl
 
 returns-2 : tie.Need-returns-2
 unfolding choiceOf
@@ -31,7 +28,6 @@ choice-of-spec =
     (tie.spec
     shape-of-requires
     enum-known-shape
-    settings-of-requires
     enum-told
     returns
     returns-2)

@@ -1,0 +1,12 @@
+-- What a call leaves that is lent an output and a shelf: its result, and both at its exit. The sections, a render, a re-render and the desk's calls differ in the result alone. Definitions only.
+use mathlib.Core.List.{List}
+use Prim.Native.Nat.{ℕ}
+use lib.Ieee.{Float}
+
+pub record Outcome (R : Type 0) : Type 0 where
+  pub result : R
+  pub heard : List Float
+  pub stored : List ℕ
+
+abbrev pub leaves : {R : Type 0} → R → List Float → List ℕ → Outcome R
+leaves r out shelf = record { result = r; heard = out; stored = shelf }
