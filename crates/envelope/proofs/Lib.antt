@@ -13,6 +13,8 @@ pub mod Keeps
 pub mod Holds
 -- samples one after the other
 pub mod RunsOn
+-- over a lent part: a value more, a step within a run, a stage that stands
+pub mod Scaling
 -- through any samples and any calls the envelope stays accepted
 pub mod Stays
 -- two outcomes of a public function are equal

@@ -6,6 +6,7 @@ use Prim.Native.Nat.{ℕ}
 use lib.Ieee.{Float}
 use Rattle.envelope.specs.Limits.{isAdsr, isRate, isEnvelope, clampedOf, sampleTimeOf}
 use Rattle.envelope.specs.Stages.{stepOf, freshOf, triggeredOf, releasedOf}
+use Rattle.envelope.specs.Scaled.{Scaled}
 use Rattle.envelope.specs.Calls.{newOf, noteOnOf, noteOffOf, resetOf, Outcome, leaves, processOf}
 use Rattle.envelope.specs.declared.Adsr.{Adsr}
 use Rattle.envelope.specs.declared.Envelope.{Envelope}
@@ -56,3 +57,7 @@ sample-time-unique rate r t p q = p ∙ sym q
 
 pub step-unique : (k : Adsr) (x : Float) (e r t : Envelope) → r ≡ stepOf k x e → t ≡ stepOf k x e → r ≡ t
 step-unique k x e r t p q = p ∙ sym q
+
+-- the envelope and every lent number
+pub scale-unique : (k : Adsr) (t : Float) (e : Envelope) (velocity : Float) (xs ys zs : List Float) (r u : Envelope) → Scaled k t e velocity xs ys r → Scaled k t e velocity xs zs u → (r ≡ u) × (ys ≡ zs)
+scale-unique k t e velocity xs ys zs r u p q = (p .envelope ∙ sym (q .envelope), p .samples ∙ sym (q .samples))

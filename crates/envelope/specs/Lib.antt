@@ -1,4 +1,6 @@
 pub mod Limits
 pub mod Stages
 pub mod Running
+pub mod Scaled
+pub mod Reached
 pub mod Calls

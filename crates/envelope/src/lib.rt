@@ -7,14 +7,16 @@ ghost use lib.ListN.{length};
 ghost use lib.Ieee.{isNan};
 ghost use Rattle.floats.specs.Range.{within};
 ghost use Rattle.envelope.specs.Limits.{isAdsr, isRate, isEnvelope, clampOf, clampedOf, sampleTimeOf};
-ghost use Rattle.envelope.specs.Stages.{movedOf, attackRule, decayRule, releaseRule, grownOf, stepOf, freshOf, triggeredOf, restsIn, releasedOf};
+ghost use Rattle.envelope.specs.Stages.{movedOf, levelOf, endsAt, stepOf, nextIn, endedIn, freshOf, triggeredOf, restsIn, releasedOf};
 ghost use Rattle.envelope.specs.Running.{Filled};
 ghost use Rattle.envelope.specs.Calls.{judgedOf, changedOf, newOf, noteOnOf, noteOffOf, resetOf, leaves, processOf};
 use answers::Answer;
 use answers::Refusal;
 
+pub mod levels;
+
 // A release ends at this level.
-pub const FLOOR: f64 = 0.000001;
+const FLOOR: f64 = 0.000001;
 
 pub enum EnvelopeStage {
     Idle,
@@ -191,48 +193,62 @@ pub fn step(adsr: Adsr, sample_time: f64, e: Envelope) -> Envelope
     ensures { λ r. ⌜ r ≡ stepOf adsr «sample_time» e ⌝ }
 {
     let stage = e.stage;
+    let next = next_in(stage, adsr, sample_time, e);
+    if ends_at(stage, adsr, next.level) {
+        return ended_in(stage, adsr, sample_time, e);
+    }
+    next
+}
+
+// The envelope one sample on, if that does not end the stage: the level alone is looked at, and the time grows.
+fn next_in(stage: EnvelopeStage, adsr: Adsr, sample_time: f64, e: Envelope) -> Envelope
+    ensures { λ r. ⌜ r ≡ nextIn stage adsr «sample_time» e ⌝ }
+{
+    Envelope {
+        stage,
+        level: level_in(stage, adsr, e),
+        stage_time: e.stage_time + sample_time,
+        release_level: e.release_level,
+    }
+}
+
+// The level of a stage, before its end is looked at: from 0 to 1, from 1 to the sustain level, from the release level to 0.
+fn level_in(stage: EnvelopeStage, adsr: Adsr, e: Envelope) -> f64
+    ensures { λ r. ⌜ r ≡ levelOf stage adsr e ⌝ }
+{
+    match stage {
+        EnvelopeStage::Idle => 0.0,
+        EnvelopeStage::Attack => e.stage_time / adsr.attack,
+        EnvelopeStage::Decay => 1.0 - (1.0 - adsr.sustain) * (e.stage_time / adsr.decay),
+        EnvelopeStage::Sustain => adsr.sustain,
+        EnvelopeStage::Release => e.release_level * (1.0 - e.stage_time / adsr.release),
+    }
+}
+
+// Whether a run of the stage ends at that level. A stage that stands has no run.
+fn ends_at(stage: EnvelopeStage, adsr: Adsr, level: f64) -> bool
+    ensures { λ r. ⌜ r ≡ endsAt stage adsr level ⌝ }
+{
+    match stage {
+        EnvelopeStage::Idle => true,
+        EnvelopeStage::Attack => level >= 1.0,
+        EnvelopeStage::Decay => level <= adsr.sustain,
+        EnvelopeStage::Sustain => true,
+        EnvelopeStage::Release => level <= FLOOR,
+    }
+}
+
+// The sample that ends a stage, or one of a stage that stands; the sample of the peak is the first of the decay's time.
+fn ended_in(stage: EnvelopeStage, adsr: Adsr, sample_time: f64, e: Envelope) -> Envelope
+    ensures { λ r. ⌜ r ≡ endedIn stage adsr «sample_time» e ⌝ }
+{
     match stage {
         EnvelopeStage::Idle => moved(e, EnvelopeStage::Idle, 0.0, e.stage_time),
-        EnvelopeStage::Attack => attack_step(adsr.attack, sample_time, e),
-        EnvelopeStage::Decay => decay_step(adsr.decay, adsr.sustain, sample_time, e),
+        EnvelopeStage::Attack => moved(e, EnvelopeStage::Decay, 1.0, 0.0 + sample_time),
+        EnvelopeStage::Decay => moved(e, EnvelopeStage::Sustain, adsr.sustain, 0.0),
         EnvelopeStage::Sustain => moved(e, EnvelopeStage::Sustain, adsr.sustain, e.stage_time),
-        EnvelopeStage::Release => release_step(adsr.release, sample_time, e),
+        EnvelopeStage::Release => moved(e, EnvelopeStage::Idle, 0.0, 0.0),
     }
-}
-
-// From 0 to 1; the sample that reaches 1 is the first of the decay's time.
-fn attack_step(attack: f64, sample_time: f64, e: Envelope) -> Envelope
-    ensures { λ r. ⌜ r ≡ grownOf «sample_time» (attackRule attack e) ⌝ }
-{
-    let level = e.stage_time / attack;
-    if level >= 1.0 {
-        return moved(e, EnvelopeStage::Decay, 1.0, 0.0 + sample_time);
-    }
-    moved(e, EnvelopeStage::Attack, level, e.stage_time + sample_time)
-}
-
-// From 1 to the sustain level.
-fn decay_step(decay: f64, sustain: f64, sample_time: f64, e: Envelope) -> Envelope
-    ensures { λ r. ⌜ r ≡ grownOf «sample_time» (decayRule decay sustain e) ⌝ }
-{
-    let progress = e.stage_time / decay;
-    let level = 1.0 - (1.0 - sustain) * progress;
-    if level <= sustain {
-        return moved(e, EnvelopeStage::Sustain, sustain, 0.0);
-    }
-    moved(e, EnvelopeStage::Decay, level, e.stage_time + sample_time)
-}
-
-// From the release level to 0.
-fn release_step(release: f64, sample_time: f64, e: Envelope) -> Envelope
-    ensures { λ r. ⌜ r ≡ grownOf «sample_time» (releaseRule release e) ⌝ }
-{
-    let progress = e.stage_time / release;
-    let level = e.release_level * (1.0 - progress);
-    if level <= FLOOR {
-        return moved(e, EnvelopeStage::Idle, 0.0, 0.0);
-    }
-    moved(e, EnvelopeStage::Release, level, e.stage_time + sample_time)
 }
 
 // The release level stays.

@@ -8,8 +8,6 @@ pub mod Sounding
 -- a turn of a loop over the spans, and what the two loops share
 pub mod Turns
 pub mod Loops
--- the second pass: a value more, a step within a run, a stage that stands, the rest of a part
-pub mod Shaping
 -- cut anywhere: a walk of j samples and then one of k are one of j + k
 pub mod GoesOn
 -- on a score whose positions never fall a walk is what the state's definitions say

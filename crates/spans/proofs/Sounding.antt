@@ -14,6 +14,7 @@ use Rattle.envelope.specs.declared.Adsr.{Adsr}
 use Rattle.envelope.specs.declared.Envelope.{Envelope}
 use Rattle.envelope.specs.Limits.{clampedOf, sampleTimeOf}
 use Rattle.envelope.specs.Running.{envelopeFrom}
+use Rattle.envelope.specs.Scaled.{scaledTo, Scaled}
 use Rattle.waveform.specs.Waveform.{radians, normalOf, invTau}
 use Rattle.waveform.specs.Filled.{phaseFrom, samplesFrom, valueAt, Filled}
 use Rattle.waveform.specs.declared.Radians.{Radians}
@@ -22,7 +23,7 @@ use Rattle.waveform.proofs.Values.{value-fits}
 use Rattle.state.specs.declared.Settings.{Settings}
 use Rattle.state.specs.declared.State.{State}
 use Rattle.state.specs.State.{withPhase, withEnvelope, paceOf, sampleOf, advanceOf}
-use Rattle.spans.specs.Plain.{advances, plain, Sounded, shapedTo, Shaped}
+use Rattle.spans.specs.Plain.{advances, plain, Sounded}
 
 module _ (g : Settings) (v : State) where
   -- the state after k samples, field by field
@@ -39,20 +40,20 @@ module _ (g : Settings) (v : State) where
   times-one-is : (p : Float) → valueAt (g .waveform) (paceOf g v) p ⊗ one ≡ valueAt (g .waveform) (paceOf g v) p
   times-one-is p = rw (lit1-is binary64) (times-one binary64 _ (value-fits (g .waveform) (normalOf p) (paceOf g v ⊗ invTau)))
 
-  -- shaped, the first k of n values are the first k samples
-  pub shaped-is : (n k : ℕ) → k ≤ n → shapedTo (clampedOf (g .adsr)) (sampleTimeOf (g .rate)) (v .envelope) (v .velocity) (values n) k ≡ plain g v k
-  unfolding shapedTo plain sampleOf envelopeFrom run
-  shaped-is n k h =
+  -- scaled, the first k of n values are the first k samples
+  pub scaled-is : (n k : ℕ) → k ≤ n → scaledTo (clampedOf (g .adsr)) (sampleTimeOf (g .rate)) (v .envelope) (v .velocity) (values n) k ≡ plain g v k
+  unfolding scaledTo plain sampleOf envelopeFrom run
+  scaled-is n k h =
       listed-same _ _ k
       (λ i l. rw (advances-is i, sample-at (valueAt (g .waveform) (paceOf g v)) (paceOf g v) one (v .phase .0) i n (omega arith), times-one-is (phaseFrom (paceOf g v) (v .phase .0) i)) refl)
 
   -- the second pass over what the first wrote
   pub sounding : (k : Adsr) (t : Float) (ys zs : List Float) (r : Radians) (e : Envelope) → k ≡ clampedOf (g .adsr) → t ≡ sampleTimeOf (g .rate)
-      → Filled (g .waveform) (v .phase .0) (paceOf g v) one ys ys r → Shaped k t (v .envelope) (v .velocity) ys zs e
+      → Filled (g .waveform) (v .phase .0) (paceOf g v) one ys ys r → Scaled k t (v .envelope) (v .velocity) ys zs e
       → Sounded g v ys zs (withEnvelope (withPhase v (r .0)) e)
   sounding k t ys zs r e ek et f h =
       record {
-        samples = h .samples ∙ rw (ek, et) (ap (λ (xs : List Float). shapedTo (clampedOf (g .adsr)) (sampleTimeOf (g .rate)) (v .envelope) (v .velocity) xs (length ys)) (f .samples) ∙ shaped-is (length ys) (length ys) (omega arith));
+        samples = h .samples ∙ rw (ek, et) (ap (λ (xs : List Float). scaledTo (clampedOf (g .adsr)) (sampleTimeOf (g .rate)) (v .envelope) (v .velocity) xs (length ys)) (f .samples) ∙ scaled-is (length ys) (length ys) (omega arith));
         state = rw (f .phase, h .envelope, ek, et) (sym (advances-is (length ys)));
       }
 

@@ -3,22 +3,15 @@
 // reduces nothing. Samples are counted as an offset in the part from its position in the output, so that no sum is too
 // large for a word. Judging is left to the calls above.
 ghost use mathlib.Core.Path.{_≡_};
-ghost use mathlib.Core.Bool.{cond, false};
+ghost use mathlib.Core.Bool.{cond};
 ghost use Prim.Native.Nat.{_+_, _-_, _%_, _<_, _≤_};
-ghost use lib.ListN.{length};
 ghost use Rattle.score.specs.Record.{countOf};
-ghost use Rattle.envelope.specs.Stages.{movedOf, grows};
-ghost use Rattle.floats.specs.Double.{_⊕_, one};
+ghost use Rattle.floats.specs.Double.{one};
 ghost use Rattle.sine.specs.Whole.{wholeWave};
 ghost use Rattle.waveform.specs.Filled.{Filled};
 ghost use Rattle.state.specs.State.{paceOf};
-ghost use Rattle.spans.specs.Plain.{Sounded, Shaped};
-ghost use Rattle.spans.specs.Runs.{levelOf, endsAt, shapedTwo, Onward};
+ghost use Rattle.spans.specs.Plain.{Sounded};
 ghost use Rattle.spans.specs.Walk.{standsAt, beginsAt, actFrom, reducedAt, begunFrom, Played, SpanEnd, BlockEnd};
-use envelope::Adsr;
-use envelope::Envelope;
-use envelope::EnvelopeStage;
-use envelope::FLOOR;
 use state::Settings;
 use state::State;
 use waveform::Radians;
@@ -34,12 +27,6 @@ const LONG: usize = 1024;
 pub struct Place {
     pub state: State,
     pub next: usize,
-}
-
-// How far a part is shaped, and the envelope there.
-struct Reach {
-    envelope: Envelope,
-    count: usize,
 }
 
 // Plays the samples of a part that begins at a position, and hands back the place after the last. Where many are of a
@@ -236,7 +223,7 @@ fn struck(settings: Settings, state: State, phase: Radians, part: &mut [f64]) ->
     ensures { λ r. ⌜ Sounded settings state (now (part .entry)) (now (part .exit)) r ⌝ }
 {
     let adsr = settings.adsr;
-    let envelope = shape(
+    let envelope = envelope::levels::scale(
         envelope::clamped(adsr),
         envelope::sample_time(settings.rate),
         state.envelope,
@@ -247,164 +234,4 @@ fn struck(settings: Settings, state: State, phase: Radians, part: &mut [f64]) ->
     next.phase = phase;
     next.envelope = envelope;
     next
-}
-
-// Each value of a part times the envelope's level times the velocity: a run of a stage, the sample that ends it, the next.
-fn shape(adsr: Adsr, sample_time: f64, start: Envelope, velocity: f64, part: &mut [f64]) -> Envelope
-    ensures { λ r. ⌜ Shaped adsr «sample_time» start velocity (now (part .entry)) (now (part .exit)) r ⌝ }
-{
-    let mut envelope = start;
-    let mut i = 0;
-    while i < part.len() {
-        if !moves(envelope) {
-            let end = part.len();
-            return hold(adsr, sample_time, envelope, velocity, &mut part[i..end]);
-        }
-        let reach = run_on(
-            adsr,
-            sample_time,
-            Reach { envelope, count: i },
-            velocity,
-            part,
-        );
-        i = reach.count;
-        if part.len() <= i {
-            return reach.envelope;
-        }
-        envelope = envelope::step(adsr, sample_time, reach.envelope);
-        part[i] = part[i] * envelope.level * velocity;
-        i += 1;
-    }
-    envelope
-}
-
-// The samples of the stage at hand before the one that ends it.
-fn run_on(adsr: Adsr, sample_time: f64, at: Reach, velocity: f64, part: &mut [f64]) -> Reach
-    ensures { λ r. ⌜ (at .count ≤ r .count) × Onward adsr «sample_time» velocity (now (part .entry)) (at .envelope) (at .count) (now (part .exit)) (r .envelope) (r .count) ⌝ }
-{
-    let fours = run_fours(adsr, sample_time, at, velocity, part);
-    run(adsr, sample_time, fours, velocity, part)
-}
-
-// Four samples at a time, as long as none of them ends the stage.
-fn run_fours(adsr: Adsr, sample_time: f64, at: Reach, velocity: f64, part: &mut [f64]) -> Reach
-    ensures { λ r. ⌜ (at .count ≤ r .count) × Onward adsr «sample_time» velocity (now (part .entry)) (at .envelope) (at .count) (now (part .exit)) (r .envelope) (r .count) ⌝ }
-{
-    let mut envelope = at.envelope;
-    let stage = envelope.stage;
-    let mut i = at.count;
-    while i < part.len() {
-        if part.len() - i < 4 {
-            return Reach { envelope, count: i };
-        }
-        let first = next_in(stage, adsr, sample_time, envelope);
-        let second = next_in(stage, adsr, sample_time, first);
-        let third = next_in(stage, adsr, sample_time, second);
-        let fourth = next_in(stage, adsr, sample_time, third);
-        let soon = is_over(stage, adsr, first.level) | is_over(stage, adsr, second.level);
-        let late = is_over(stage, adsr, third.level) | is_over(stage, adsr, fourth.level);
-        if soon | late {
-            return Reach { envelope, count: i };
-        }
-        shape_two(first.level, second.level, velocity, i, part);
-        shape_two(third.level, fourth.level, velocity, i + 2, part);
-        envelope = fourth;
-        i += 4;
-    }
-    Reach { envelope, count: i }
-}
-
-// Two samples, each with its level.
-fn shape_two(first: f64, second: f64, velocity: f64, i: usize, part: &mut [f64])
-    requires { ⌜ i + 2 ≤ length (now part) ⌝ }
-    ensures { λ r. ⌜ now (part .exit) ≡ shapedTwo velocity (now (part .entry)) i first second ⌝ }
-{
-    part[i] = part[i] * first * velocity;
-    part[i + 1] = part[i + 1] * second * velocity;
-}
-
-// The samples that are left, one at a time.
-fn run(adsr: Adsr, sample_time: f64, at: Reach, velocity: f64, part: &mut [f64]) -> Reach
-    ensures { λ r. ⌜ (at .count ≤ r .count) × Onward adsr «sample_time» velocity (now (part .entry)) (at .envelope) (at .count) (now (part .exit)) (r .envelope) (r .count) ⌝ }
-{
-    let mut envelope = at.envelope;
-    let stage = envelope.stage;
-    let mut i = at.count;
-    while i < part.len() {
-        let next = next_in(stage, adsr, sample_time, envelope);
-        if is_over(stage, adsr, next.level) {
-            return Reach { envelope, count: i };
-        }
-        part[i] = part[i] * next.level * velocity;
-        envelope = next;
-        i += 1;
-    }
-    Reach { envelope, count: i }
-}
-
-// The envelope one sample on, if that does not end the stage: the level alone is looked at, and the time grows.
-fn next_in(stage: EnvelopeStage, adsr: Adsr, sample_time: f64, e: Envelope) -> Envelope
-    ensures { λ r. ⌜ r ≡ movedOf e stage (levelOf stage adsr e) (e .«stage_time» ⊕ «sample_time») ⌝ }
-{
-    Envelope {
-        stage,
-        level: level_at(stage, adsr, e),
-        stage_time: e.stage_time + sample_time,
-        release_level: e.release_level,
-    }
-}
-
-// The level of a stage, before its end is looked at.
-fn level_at(stage: EnvelopeStage, adsr: Adsr, e: Envelope) -> f64
-    ensures { λ r. ⌜ r ≡ levelOf stage adsr e ⌝ }
-{
-    match stage {
-        EnvelopeStage::Idle => 0.0,
-        EnvelopeStage::Attack => e.stage_time / adsr.attack,
-        EnvelopeStage::Decay => 1.0 - (1.0 - adsr.sustain) * (e.stage_time / adsr.decay),
-        EnvelopeStage::Sustain => adsr.sustain,
-        EnvelopeStage::Release => e.release_level * (1.0 - e.stage_time / adsr.release),
-    }
-}
-
-// Whether a run of the stage ends at that level. A stage that stands has no run.
-fn is_over(stage: EnvelopeStage, adsr: Adsr, level: f64) -> bool
-    ensures { λ r. ⌜ r ≡ endsAt stage adsr level ⌝ }
-{
-    match stage {
-        EnvelopeStage::Idle => true,
-        EnvelopeStage::Attack => level >= 1.0,
-        EnvelopeStage::Decay => level <= adsr.sustain,
-        EnvelopeStage::Sustain => true,
-        EnvelopeStage::Release => level <= FLOOR,
-    }
-}
-
-// The same where the stage stands, as it then does to the end: one level for all, so that the loop has no branch.
-fn hold(adsr: Adsr, sample_time: f64, start: Envelope, velocity: f64, part: &mut [f64]) -> Envelope
-    requires { ⌜ (grows (start .stage) ≡ false) × (0 < length (now part)) ⌝ }
-    ensures { λ r. ⌜ Shaped adsr «sample_time» start velocity (now (part .entry)) (now (part .exit)) r ⌝ }
-{
-    let held = envelope::step(adsr, sample_time, start);
-    let level = held.level;
-    let mut i = 0;
-    while i < part.len() {
-        part[i] = part[i] * level * velocity;
-        i += 1;
-    }
-    held
-}
-
-// Whether the level moves from sample to sample.
-fn moves(e: Envelope) -> bool
-    ensures { λ r. ⌜ r ≡ grows (e .stage) ⌝ }
-{
-    let stage = e.stage;
-    match stage {
-        EnvelopeStage::Idle => false,
-        EnvelopeStage::Attack => true,
-        EnvelopeStage::Decay => true,
-        EnvelopeStage::Sustain => false,
-        EnvelopeStage::Release => true,
-    }
 }

@@ -14,8 +14,9 @@ use Rattle.waveform.specs.declared.Line.{Line}
 use Rattle.waveform.specs.declared.Line.the-variants.{High, Low, Climb, Rise, Fall}
 use Rattle.waveform.specs.declared.Stretch.{Stretch}
 use Rattle.waveform.specs.declared.Reach.{Reach}
+use Rattle.waveform.specs.declared.Waveform.{Waveform}
 use Rattle.waveform.specs.Waveform.{tau, invTau}
-use Rattle.waveform.specs.Filled.{phaseFrom, samplesBy}
+use Rattle.waveform.specs.Filled.{phaseFrom, valueAt, samplesBy}
 
 -- the value on a line at the part t of a cycle
 abbrev pub lineOf : Line → Float → Float
@@ -65,3 +66,7 @@ pub record Upto (value : Float → Float) (step scale p₀ : Float) (before out 
 -- from ys and a to zs and b: where the values are the stretch's, a loop that had come to the one has come to the other
 abbrev pub Onward : Stretch → Float → Float → List Float → Reach → List Float → Reach → Type 0
 Onward s step scale ys a zs b = (value : Float → Float) → Straight value s → (p₀ : Float) (xs : List Float) → Upto value step scale p₀ xs ys (a .phase) (a .count) → Upto value step scale p₀ xs zs (b .phase) (b .count)
+
+-- the same of a waveform's own values, wherever they lie
+abbrev pub Further : Waveform → Float → Float → List Float → Reach → List Float → Reach → Type 0
+Further w step scale ys a zs b = (p₀ : Float) (xs : List Float) → Upto (valueAt w step) step scale p₀ xs ys (a .phase) (a .count) → Upto (valueAt w step) step scale p₀ xs zs (b .phase) (b .count)

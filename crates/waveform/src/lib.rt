@@ -10,7 +10,7 @@ ghost use lib.Ieee.{Float, binary64, ofBits, rem, lt, le, fits};
 ghost use lib.Ieee.Positive.{num, den};
 ghost use Rattle.waveform.specs.Waveform.{isWaveform, valueOf, sampleOf, normalOf, reduceOf, incrementOf, radians, tau, invTau};
 ghost use Rattle.waveform.specs.Filled.{Filled, FilledBy, valueAt, valueIn};
-ghost use Rattle.waveform.specs.Lines.{lineOf, partOf, baseOf, isOneCycle, goesUp, Inside, Straight, TwoLines, Onward};
+ghost use Rattle.waveform.specs.Lines.{lineOf, partOf, baseOf, isOneCycle, goesUp, Inside, Straight, TwoLines, Onward, Further};
 ghost use Rattle.waveform.specs.declared.Waveform.the-variants.{Sine};
 ghost use Rattle.floats.specs.Range.{within};
 ghost use Rattle.floats.specs.Double.{_⊖_, _⊗_, naught, one};
@@ -25,6 +25,9 @@ const TAU: f64 = 6.283185307179586;
 const INV_TAU: f64 = 0.15915494309189535;
 
 const TWO_TAU: f64 = 12.566370614359172;
+
+// Cycles a sample from which on too few samples lie between two corrections.
+const STEEP: f64 = 0.0625;
 
 // TAU * 2^50.
 const TAU_UNITS: u64 = 0x19_21fb_5444_2d18;
@@ -219,8 +222,7 @@ fn fill_lines(
     let mut phase = start.0;
     let mut i = 0;
     while i < out.len() {
-        let stretch = stretch_from(waveform, phase, dt);
-        let reach = run_on(stretch, Reach { phase, count: i }, step.0, scale, out);
+        let reach = run_from(waveform, Reach { phase, count: i }, step, scale, out);
         phase = reach.phase;
         i = reach.count;
         if out.len() <= i {
@@ -232,6 +234,19 @@ fn fill_lines(
         i += 1;
     }
     Radians(phase)
+}
+
+// The samples of the stretch that begins here. None where so few samples make a cycle that looking for one does not pay, and
+// none in the later cycles, which have no stretches.
+fn run_from(waveform: Waveform, at: Reach, step: Radians, scale: f64, out: &mut [f64]) -> Reach
+    ensures { λ r. ⌜ (at .count ≤ r .count) × Further waveform (step .0) scale (now (out .entry)) at (now (out .exit)) r ⌝ }
+{
+    let dt = in_cycles(step);
+    if (STEEP <= dt) | (TWO_TAU <= at.phase) {
+        return at;
+    }
+    let stretch = stretch_from(waveform, at.phase, dt);
+    run_on(stretch, at, step.0, scale, out)
 }
 
 // The samples of a stretch, as far as it reaches.

@@ -10,8 +10,8 @@ clamped-requires c κs = search needs
 sample-time-requires : tie.Need-sample-time-requires
 sample-time-requires c κs = search needs
 
-shape-requires : tie.Need-shape-requires
-shape-requires c κs = search needs
+scale-requires : tie.Need-scale-requires
+scale-requires c κs = search needs
 
 same-length : tie.Need-same-length
 same-length c = search needs
@@ -19,8 +19,8 @@ same-length c = search needs
 returns : tie.Need-returns
 returns c =
     let start = c .before .before .before .before .before .before .before .before in
-    sounding (start .args .settings) (start .args .state) _ _ _ _ _ _ (c .before .before .before .before .before .clamped .ensures) (c .before .before .before .before .sample-time .ensures) (start .pre) (c .before .before .shape .ensures)
+    sounding (start .args .settings) (start .args .state) _ _ _ _ _ _ (c .before .before .before .before .before .clamped .ensures) (c .before .before .before .before .sample-time .ensures) (start .pre) (c .before .before .scale .ensures)
 
 pub struck-spec : {M : Type 1} → statement M
 struck-spec =
-    tie.close (tie.spec clamped-requires sample-time-requires shape-requires same-length returns)
+    tie.close (tie.spec clamped-requires sample-time-requires scale-requires same-length returns)

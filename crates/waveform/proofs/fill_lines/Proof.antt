@@ -22,28 +22,23 @@ in-cycles-requires c κs = search needs
 loop-holds : tie.Need-loop-holds Inv-loop μ-loop
 loop-holds c = begins _ _ _ _ _
 
-stretch-from-requires : tie.Need-stretch-from-requires Inv-loop μ-loop
-stretch-from-requires c κs = search needs
-
-run-on-requires : tie.Need-run-on-requires Inv-loop μ-loop
-run-on-requires c κs = search needs
+run-from-requires : tie.Need-run-from-requires Inv-loop μ-loop
+run-from-requires c κs = search needs
 
 same-length : tie.Need-same-length Inv-loop μ-loop
 same-length c =
     let ran = c .before .before .before in
-    let at = ran .before .before .before .before in
+    let at = ran .before .before .before in
     let a = at .before .before .before .args in
-    let straight = rw (at .before .in-cycles .ensures) at (ran .before .before .stretch-from .ensures) in
-    let u = ran .run-on .ensures .1 (valueAt (a .waveform) (a .step .0)) straight (a .start .0) (a .out .now) (at .loop .inv) in
+    let u = ran .run-from .ensures .1 (a .start .0) (a .out .now) (at .loop .inv) in
     u .size
 
 returns : tie.Need-returns Inv-loop μ-loop
 returns c =
     let ran = c .before .before .before in
-    let at = ran .before .before .before .before in
+    let at = ran .before .before .before in
     let a = at .before .before .before .args in
-    let straight = rw (at .before .in-cycles .ensures) at (ran .before .before .stretch-from .ensures) in
-    let u = ran .run-on .ensures .1 (valueAt (a .waveform) (a .step .0)) straight (a .start .0) (a .out .now) (at .loop .inv) in
+    let u = ran .run-from .ensures .1 (a .start .0) (a .out .now) (at .loop .inv) in
     ends _ _ _ _ _ _ _ _ u (c .if1 .taken)
 
 normalised-requires : tie.Need-normalised-requires Inv-loop μ-loop
@@ -64,21 +59,19 @@ add-i c = omega arith
 loop-less : tie.Need-loop-less Inv-loop μ-loop
 loop-less c =
     let ran = c .before .before .before .before .before .before in
-    let at = ran .before .before .before .before in
+    let at = ran .before .before .before in
     let a = at .before .before .before .args in
-    let straight = rw (at .before .in-cycles .ensures) at (ran .before .before .stretch-from .ensures) in
-    let u = ran .run-on .ensures .1 (valueAt (a .waveform) (a .step .0)) straight (a .start .0) (a .out .now) (at .loop .inv) in
-    let more : ran .run-on .result .count < length (a .out .now) = rw (u .size) at (c .before .before .before .if1 .left) in
-    omega (arith, ran .run-on .ensures .0, more)
+    let u = ran .run-from .ensures .1 (a .start .0) (a .out .now) (at .loop .inv) in
+    let more : ran .run-from .result .count < length (a .out .now) = rw (u .size) at (c .before .before .before .if1 .left) in
+    omega (arith, ran .run-from .ensures .0, more)
 
 loop-again : tie.Need-loop-again Inv-loop μ-loop
 loop-again c =
     let ran = c .before .before .before .before .before .before in
-    let at = ran .before .before .before .before in
+    let at = ran .before .before .before in
     let a = at .before .before .before .args in
-    let straight = rw (at .before .in-cycles .ensures) at (ran .before .before .stretch-from .ensures) in
-    let u = ran .run-on .ensures .1 (valueAt (a .waveform) (a .step .0)) straight (a .start .0) (a .out .now) (at .loop .inv) in
-    goes-on (valueAt (a .waveform) (a .step .0)) (a .step .0) (a .scale) (a .start .0) (a .out .now) _ (ran .run-on .result .phase) (c .before .value-at .result) (ran .run-on .result .count) u (c .before .before .before .if1 .left)
+    let u = ran .run-from .ensures .1 (a .start .0) (a .out .now) (at .loop .inv) in
+    goes-on (valueAt (a .waveform) (a .step .0)) (a .step .0) (a .scale) (a .start .0) (a .out .now) _ (ran .run-from .result .phase) (c .before .value-at .result) (ran .run-from .result .count) u (c .before .before .before .if1 .left)
     (rw (c .before .value-at .ensures, c .before .before .normalised .ensures, at .before .in-cycles .ensures) refl)
 
 same-length-2 : tie.Need-same-length-2 Inv-loop μ-loop
@@ -95,8 +88,7 @@ fill-lines-spec =
     μ-loop
     in-cycles-requires
     loop-holds
-    stretch-from-requires
-    run-on-requires
+    run-from-requires
     same-length
     returns
     normalised-requires

@@ -1,14 +1,14 @@
--- `spans::run` meets its contract. The loop's invariant: the pass has gone on to sample i, and the envelope is still in the stage of the run. Assumes nothing.
+-- `envelope::levels::run` meets its contract. The loop's invariant: the pass has gone on to sample i, and the envelope is still in the stage of the run. Assumes nothing.
 use borrow.Author.Needs.{needs}
 use mathlib.Core.Path.{_≡_, refl, sym, ap, _∙_}
 use Prim.Native.Nat.{_≤_, _-_}
 use native.Mathlib.Omega.{arith}
 use lib.ListN.{length, length-set}
 use Rattle.envelope.specs.declared.Envelope.{Envelope}
-use Rattle.spans.specs.Runs.{Onward}
-use Rattle.spans.proofs.Shaping.{reached-more, runs}
-use Rattle.spans.proofs.run.Statement.{statement}
-use Rattle.spans.proofs.run.Tie as tie
+use Rattle.envelope.specs.Reached.{Onward}
+use Rattle.envelope.proofs.Scaling.{reached-more, runs}
+use Rattle.envelope.proofs.levels.run.Statement.{statement}
+use Rattle.envelope.proofs.levels.run.Tie as tie
 
 abbrev Inv-loop : tie.InvT-loop
 Inv-loop adsr sample-time velocity part₀ envelope₀ stage i₀ part envelope i = (length part ≡ length part₀) × (i₀ ≤ i) × (envelope .stage ≡ stage) × Onward adsr sample-time velocity part₀ envelope₀ i₀ part envelope i
@@ -22,8 +22,8 @@ loop-holds c = (refl, omega arith, refl, λ e xs b. b)
 next-in-requires : tie.Need-next-in-requires Inv-loop μ-loop
 next-in-requires c κs = search needs
 
-is-over-requires : tie.Need-is-over-requires Inv-loop μ-loop
-is-over-requires c κs = search needs
+ends-at-requires : tie.Need-ends-at-requires Inv-loop μ-loop
+ends-at-requires c κs = search needs
 
 same-length : tie.Need-same-length Inv-loop μ-loop
 same-length c = c .before .before .before .before .loop .inv .0
@@ -56,7 +56,7 @@ loop-again c =
     let at = made .before .before in
     let a = at .before .before .before .args in
     let stage = a .at .envelope .stage in
-    let step = runs (a .adsr) (a .sample-time) (at .loop .envelope) stage (made .next-in .result) (at .loop .inv .2) (made .next-in .ensures) (sym (left .before .is-over .ensures) ∙ left .if1 .left) in (
+    let step = runs (a .adsr) (a .sample-time) (at .loop .envelope) stage (made .next-in .result) (at .loop .inv .2) (made .next-in .ensures) (sym (left .before .ends-at .ensures) ∙ left .if1 .left) in (
       simp length-set (at .loop .inv .0),
       omega (arith, at .loop .inv .1),
       ap (λ (x : Envelope). x .stage) (made .next-in .ensures),
@@ -77,7 +77,7 @@ run-spec =
     μ-loop
     loop-holds
     next-in-requires
-    is-over-requires
+    ends-at-requires
     same-length
     returns
     mul-part

@@ -1,8 +1,8 @@
--- `spans::level_at` meets its contract. Assumes nothing.
+-- `envelope::level_in` meets its contract. Assumes nothing.
 use borrow.Author.Needs.{needs}
 use mathlib.Core.Path.{refl}
-use Rattle.spans.proofs.level_at.Statement.{statement}
-use Rattle.spans.proofs.level_at.Tie as tie
+use Rattle.envelope.proofs.level_in.Statement.{statement}
+use Rattle.envelope.proofs.level_in.Tie as tie
 
 enum-told : tie.Need-enum-told
 enum-told c = search needs
@@ -34,8 +34,8 @@ returns-4 c = search needs
 returns-5 : tie.Need-returns-5
 returns-5 c = rw (c .before .before .before .enum-told5 .given .1) refl
 
-pub level-at-spec : {M : Type 1} → statement M
-level-at-spec =
+pub level-in-spec : {M : Type 1} → statement M
+level-in-spec =
     tie.close
     (tie.spec
     enum-told

@@ -1,4 +1,4 @@
--- `spans::run_fours` meets its contract. The loop's invariant is that of `run`. Assumes nothing.
+-- `envelope::levels::run_fours` meets its contract. The loop's invariant is that of `run`. Assumes nothing.
 use borrow.Author.Needs.{needs}
 use mathlib.Core.Path.{_≡_, refl, sym, ap, _∙_}
 use Prim.Native.Nat.{_≤_, _-_}
@@ -6,12 +6,12 @@ use native.Mathlib.Omega.{arith}
 use mir.Syntax.{w64}
 use mir.Val.{Fits}
 use lib.ListN.{length}
 use Rattle.envelope.specs.declared.Envelope.{Envelope}
 use Rattle.envelope.specs.declared.EnvelopeStage.{EnvelopeStage}
-use Rattle.spans.specs.Runs.{Onward}
-use Rattle.spans.proofs.Shaping.{reached-four, runs, neither, two-long}
-use Rattle.spans.proofs.run_fours.Statement.{statement}
-use Rattle.spans.proofs.run_fours.Tie as tie
+use Rattle.envelope.specs.Reached.{Onward}
+use Rattle.envelope.proofs.Scaling.{reached-four, runs, neither, two-long}
+use Rattle.envelope.proofs.levels.run_fours.Statement.{statement}
+use Rattle.envelope.proofs.levels.run_fours.Tie as tie
 
 abbrev stays : Envelope → EnvelopeStage
 stays e = e .stage
@@ -50,17 +50,17 @@ next-in-requires-3 c κs = search needs
 next-in-requires-4 : tie.Need-next-in-requires-4 Inv-loop μ-loop
 next-in-requires-4 c κs = search needs
 
-is-over-requires : tie.Need-is-over-requires Inv-loop μ-loop
-is-over-requires c κs = search needs
+ends-at-requires : tie.Need-ends-at-requires Inv-loop μ-loop
+ends-at-requires c κs = search needs
 
-is-over-requires-2 : tie.Need-is-over-requires-2 Inv-loop μ-loop
-is-over-requires-2 c κs = search needs
+ends-at-requires-2 : tie.Need-ends-at-requires-2 Inv-loop μ-loop
+ends-at-requires-2 c κs = search needs
 
-is-over-requires-3 : tie.Need-is-over-requires-3 Inv-loop μ-loop
-is-over-requires-3 c κs = search needs
+ends-at-requires-3 : tie.Need-ends-at-requires-3 Inv-loop μ-loop
+ends-at-requires-3 c κs = search needs
 
-is-over-requires-4 : tie.Need-is-over-requires-4 Inv-loop μ-loop
-is-over-requires-4 c κs = search needs
+ends-at-requires-4 : tie.Need-ends-at-requires-4 Inv-loop μ-loop
+ends-at-requires-4 c κs = search needs
 
 same-length-2 : tie.Need-same-length-2 Inv-loop μ-loop
 same-length-2 c = c .before .before .before .before .before .before .before .before .before .before .before .loop .inv .0
@@ -68,19 +68,19 @@ same-length-2 c = c .before .before .before .before .before .before .before .bef
 returns-2 : tie.Need-returns-2 Inv-loop μ-loop
 returns-2 c = (c .before .before .before .before .before .before .before .before .before .before .before .loop .inv .1, c .before .before .before .before .before .before .before .before .before .before .before .loop .inv .3)
 
-shape-two-requires : tie.Need-shape-two-requires Inv-loop μ-loop
-shape-two-requires c κs = let room = c .before .before .before .before .before .before .before .before .before .before .if1 .left in omega (arith, room)
+scale-two-requires : tie.Need-scale-two-requires Inv-loop μ-loop
+scale-two-requires c κs = let room = c .before .before .before .before .before .before .before .before .before .before .if1 .left in omega (arith, room)
 
-add-shape-two : tie.Need-add-shape-two Inv-loop μ-loop
-add-shape-two c =
+add-scale-two : tie.Need-add-scale-two Inv-loop μ-loop
+add-scale-two c =
     let room = c .before .before .before .before .before .before .before .before .before .before .before .before .before in
     let at = room .before .before in
     omega (arith, room .if1 .left, at .loop .inv .0, held (at .before .before .before))
 
-shape-two-requires-2 : tie.Need-shape-two-requires-2 Inv-loop μ-loop
-shape-two-requires-2 c κs =
+scale-two-requires-2 : tie.Need-scale-two-requires-2 Inv-loop μ-loop
+scale-two-requires-2 c κs =
     let room = c .before .before .before .before .before .before .before .before .before .before .before .before .before .before .if1 .left in
-    let long = two-long _ _ _ _ _ _ (c .before .before .before .shape-two .ensures) in
+    let long = two-long _ _ _ _ _ _ (c .before .before .before .scale-two .ensures) in
     omega (arith, room, long)
 
 add-i : tie.Need-add-i Inv-loop μ-loop
@@ -111,12 +111,12 @@ loop-again c =
     let d₂ = made .before .before .next-in2 in
     let d₃ = made .before .next-in3 in
     let d₄ = made .next-in4 in
-    let two = c .before .before .before .before .before .before .shape-two .ensures in
-    let four = c .before .before .shape-two2 .ensures in
-    let q₁ = runs (a .adsr) (a .sample-time) (at .loop .envelope) stage (d₁ .result) (at .loop .inv .2) (d₁ .ensures) (sym (tested .before .before .before .is-over .ensures) ∙ o₁) in
-    let q₂ = runs (a .adsr) (a .sample-time) (d₁ .result) stage (d₂ .result) (ap stays (d₁ .ensures)) (d₂ .ensures) (sym (tested .before .before .is-over2 .ensures) ∙ o₂) in
-    let q₃ = runs (a .adsr) (a .sample-time) (d₂ .result) stage (d₃ .result) (ap stays (d₂ .ensures)) (d₃ .ensures) (sym (tested .before .is-over3 .ensures) ∙ o₃) in
-    let q₄ = runs (a .adsr) (a .sample-time) (d₃ .result) stage (d₄ .result) (ap stays (d₃ .ensures)) (d₄ .ensures) (sym (tested .is-over4 .ensures) ∙ o₄) in (
+    let two = c .before .before .before .before .before .before .scale-two .ensures in
+    let four = c .before .before .scale-two2 .ensures in
+    let q₁ = runs (a .adsr) (a .sample-time) (at .loop .envelope) stage (d₁ .result) (at .loop .inv .2) (d₁ .ensures) (sym (tested .before .before .before .ends-at .ensures) ∙ o₁) in
+    let q₂ = runs (a .adsr) (a .sample-time) (d₁ .result) stage (d₂ .result) (ap stays (d₁ .ensures)) (d₂ .ensures) (sym (tested .before .before .ends-at2 .ensures) ∙ o₂) in
+    let q₃ = runs (a .adsr) (a .sample-time) (d₂ .result) stage (d₃ .result) (ap stays (d₂ .ensures)) (d₃ .ensures) (sym (tested .before .ends-at3 .ensures) ∙ o₃) in
+    let q₄ = runs (a .adsr) (a .sample-time) (d₃ .result) stage (d₄ .result) (ap stays (d₃ .ensures)) (d₄ .ensures) (sym (tested .ends-at4 .ensures) ∙ o₄) in (
       two-long _ _ _ _ _ _ four ∙ two-long _ _ _ _ _ _ two ∙ at .loop .inv .0,
       omega (arith, at .loop .inv .1),
       ap stays (d₄ .ensures),
@@ -143,15 +143,15 @@ run-fours-spec =
     next-in-requires-2
     next-in-requires-3
     next-in-requires-4
-    is-over-requires
-    is-over-requires-2
-    is-over-requires-3
-    is-over-requires-4
+    ends-at-requires
+    ends-at-requires-2
+    ends-at-requires-3
+    ends-at-requires-4
     same-length-2
     returns-2
-    shape-two-requires
-    add-shape-two
-    shape-two-requires-2
+    scale-two-requires
+    add-scale-two
+    scale-two-requires-2
     add-i
     loop-less
     loop-again

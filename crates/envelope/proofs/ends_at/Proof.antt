@@ -1,8 +1,8 @@
--- `spans::is_over` meets its contract. Assumes nothing.
+-- `envelope::ends_at` meets its contract. Assumes nothing.
 use borrow.Author.Needs.{needs}
 use mathlib.Core.Path.{refl}
-use Rattle.spans.proofs.is_over.Statement.{statement}
-use Rattle.spans.proofs.is_over.Tie as tie
+use Rattle.envelope.proofs.ends_at.Statement.{statement}
+use Rattle.envelope.proofs.ends_at.Tie as tie
 
 enum-told : tie.Need-enum-told
 enum-told c = search needs
@@ -34,8 +34,8 @@ returns-4 c = search needs
 returns-5 : tie.Need-returns-5
 returns-5 c = rw (c .enum-told5 .given .1) refl
 
-pub is-over-spec : {M : Type 1} → statement M
-is-over-spec =
+pub ends-at-spec : {M : Type 1} → statement M
+ends-at-spec =
     tie.close
     (tie.spec
     enum-told

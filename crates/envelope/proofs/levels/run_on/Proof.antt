@@ -1,8 +1,8 @@
--- `spans::run_on` meets its contract: the two go on, one after the other. Assumes nothing.
+-- `envelope::levels::run_on` meets its contract: the two go on, one after the other. Assumes nothing.
 use borrow.Author.Needs.{needs}
 use native.Mathlib.Nat as nat
-use Rattle.spans.proofs.run_on.Statement.{statement}
-use Rattle.spans.proofs.run_on.Tie as tie
+use Rattle.envelope.proofs.levels.run_on.Statement.{statement}
+use Rattle.envelope.proofs.levels.run_on.Tie as tie
 
 run-fours-requires : tie.Need-run-fours-requires
 run-fours-requires c κs = search needs

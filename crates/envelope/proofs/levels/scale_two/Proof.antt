@@ -1,11 +1,11 @@
--- `spans::shape_two` meets its contract. Assumes nothing.
+-- `envelope::levels::scale_two` meets its contract. Assumes nothing.
 use borrow.Author.Needs.{needs}
 use native.Mathlib.Omega.{arith}
 use lib.ListN.{length-set}
 use lib.Ieee.{mul}
-use Rattle.spans.specs.Runs.{shapedTwo}
-use Rattle.spans.proofs.shape_two.Statement.{statement}
-use Rattle.spans.proofs.shape_two.Tie as tie
+use Rattle.envelope.specs.Reached.{scaledTwo}
+use Rattle.envelope.proofs.levels.scale_two.Statement.{statement}
+use Rattle.envelope.proofs.levels.scale_two.Tie as tie
 
 mul-part : tie.Need-mul-part
 mul-part c = search needs
@@ -41,11 +41,11 @@ same-length : tie.Need-same-length
 same-length c = search needs
 
 returns : tie.Need-returns
-unfolding mul shapedTwo
+unfolding mul scaledTwo
 returns c = search needs
 
-pub shape-two-spec : {M : Type 1} → statement M
-shape-two-spec =
+pub scale-two-spec : {M : Type 1} → statement M
+scale-two-spec =
     tie.close
     (tie.spec
     mul-part

@@ -1,0 +1,20 @@
+-- A lent part times the envelope, sample by sample: each value times the level times a velocity. 01: "the sample is oscillator value * envelope level * velocity, left to right". Definitions only.
+use mathlib.Core.List.{List}
+use mathlib.Core.Path.{_≡_}
+use Prim.Native.Nat.{ℕ, suc}
+use lib.ListN.{length, getD}
+use lib.Ieee.{Float, nan}
+use Rattle.runs.specs.Runs.{listed}
+use Rattle.floats.specs.Double.{_⊗_}
+use Rattle.envelope.specs.Running.{envelopeFrom}
+use Rattle.envelope.specs.declared.Adsr.{Adsr}
+use Rattle.envelope.specs.declared.Envelope.{Envelope}
+
+-- the first n values of xs
+unfoldable pub scaledTo : Adsr → Float → Envelope → Float → List Float → ℕ → List Float
+scaledTo k t e velocity xs n = listed (λ (i : ℕ). getD xs i nan ⊗ envelopeFrom k t e (suc i) .level ⊗ velocity) n
+
+-- a lent part holds them all, and r is the envelope after them
+pub record Scaled (k : Adsr) (t : Float) (e : Envelope) (velocity : Float) (before after : List Float) (r : Envelope) : Type 0 where
+  pub samples : after ≡ scaledTo k t e velocity before (length before)
+  pub envelope : r ≡ envelopeFrom k t e (length before)

@@ -1,0 +1,144 @@
+// The envelope over a lent part: each value times the level times a velocity, in place; the mirror of the waveform's inner
+// loop. A stage is run through up to the sample that ends it, so that the loop within asks for no stage.
+ghost use mathlib.Core.Path.{_≡_};
+ghost use mathlib.Core.Bool.{false};
+ghost use Prim.Native.Nat.{_+_, _<_, _≤_};
+ghost use lib.ListN.{length};
+ghost use Rattle.envelope.specs.Stages.{grows};
+ghost use Rattle.envelope.specs.Scaled.{Scaled};
+ghost use Rattle.envelope.specs.Reached.{scaledTwo, Onward, Finished};
+use crate::Adsr;
+use crate::Envelope;
+use crate::EnvelopeStage;
+use crate::ends_at;
+use crate::next_in;
+use crate::step;
+
+// How far a part is scaled, and the envelope there.
+struct Reach {
+    envelope: Envelope,
+    count: usize,
+}
+
+// Each value of a part times the level times the velocity, under clamped settings, and the envelope after the last: a run of
+// a stage, the sample that ends it, the next.
+pub fn scale(
+    adsr: Adsr,
+    sample_time: f64,
+    start: Envelope,
+    velocity: f64,
+    part: &mut [f64],
+) -> Envelope
+    ensures { λ r. ⌜ Scaled adsr «sample_time» start velocity (now (part .entry)) (now (part .exit)) r ⌝ }
+{
+    let mut envelope = start;
+    let mut i = 0;
+    while i < part.len() {
+        let at = Reach { envelope, count: i };
+        if !moves(envelope) {
+            return hold(adsr, sample_time, at, velocity, part);
+        }
+        let reach = run_on(adsr, sample_time, at, velocity, part);
+        i = reach.count;
+        if part.len() <= i {
+            return reach.envelope;
+        }
+        envelope = step(adsr, sample_time, reach.envelope);
+        part[i] = part[i] * envelope.level * velocity;
+        i += 1;
+    }
+    envelope
+}
+
+// The samples of the stage at hand before the one that ends it.
+fn run_on(adsr: Adsr, sample_time: f64, at: Reach, velocity: f64, part: &mut [f64]) -> Reach
+    ensures { λ r. ⌜ (at .count ≤ r .count) × Onward adsr «sample_time» velocity (now (part .entry)) (at .envelope) (at .count) (now (part .exit)) (r .envelope) (r .count) ⌝ }
+{
+    let fours = run_fours(adsr, sample_time, at, velocity, part);
+    run(adsr, sample_time, fours, velocity, part)
+}
+
+// Four samples at a time, as long as none of them ends the stage.
+fn run_fours(adsr: Adsr, sample_time: f64, at: Reach, velocity: f64, part: &mut [f64]) -> Reach
+    ensures { λ r. ⌜ (at .count ≤ r .count) × Onward adsr «sample_time» velocity (now (part .entry)) (at .envelope) (at .count) (now (part .exit)) (r .envelope) (r .count) ⌝ }
+{
+    let mut envelope = at.envelope;
+    let stage = envelope.stage;
+    let mut i = at.count;
+    while i < part.len() {
+        if part.len() - i < 4 {
+            return Reach { envelope, count: i };
+        }
+        let first = next_in(stage, adsr, sample_time, envelope);
+        let second = next_in(stage, adsr, sample_time, first);
+        let third = next_in(stage, adsr, sample_time, second);
+        let fourth = next_in(stage, adsr, sample_time, third);
+        let soon = ends_at(stage, adsr, first.level) | ends_at(stage, adsr, second.level);
+        let late = ends_at(stage, adsr, third.level) | ends_at(stage, adsr, fourth.level);
+        if soon | late {
+            return Reach { envelope, count: i };
+        }
+        scale_two(first.level, second.level, velocity, i, part);
+        scale_two(third.level, fourth.level, velocity, i + 2, part);
+        envelope = fourth;
+        i += 4;
+    }
+    Reach { envelope, count: i }
+}
+
+// Two samples, each with its level.
+fn scale_two(first: f64, second: f64, velocity: f64, i: usize, part: &mut [f64])
+    requires { ⌜ i + 2 ≤ length (now part) ⌝ }
+    ensures { λ r. ⌜ now (part .exit) ≡ scaledTwo velocity (now (part .entry)) i first second ⌝ }
+{
+    part[i] = part[i] * first * velocity;
+    part[i + 1] = part[i + 1] * second * velocity;
+}
+
+// The samples that are left, one at a time.
+fn run(adsr: Adsr, sample_time: f64, at: Reach, velocity: f64, part: &mut [f64]) -> Reach
+    ensures { λ r. ⌜ (at .count ≤ r .count) × Onward adsr «sample_time» velocity (now (part .entry)) (at .envelope) (at .count) (now (part .exit)) (r .envelope) (r .count) ⌝ }
+{
+    let mut envelope = at.envelope;
+    let stage = envelope.stage;
+    let mut i = at.count;
+    while i < part.len() {
+        let next = next_in(stage, adsr, sample_time, envelope);
+        if ends_at(stage, adsr, next.level) {
+            return Reach { envelope, count: i };
+        }
+        part[i] = part[i] * next.level * velocity;
+        envelope = next;
+        i += 1;
+    }
+    Reach { envelope, count: i }
+}
+
+// The rest of a part where the stage stands, as it then does to the end: one level for all, so that the loop has no branch.
+fn hold(adsr: Adsr, sample_time: f64, at: Reach, velocity: f64, part: &mut [f64]) -> Envelope
+    requires { ⌜ (grows (at .envelope .stage) ≡ false) × (at .count < length (now part)) ⌝ }
+    ensures { λ r. ⌜ Finished adsr «sample_time» velocity (now (part .entry)) (at .envelope) (at .count) (now (part .exit)) r ⌝ }
+{
+    let held = step(adsr, sample_time, at.envelope);
+    let level = held.level;
+    let mut i = at.count;
+    while i < part.len() {
+        part[i] = part[i] * level * velocity;
+        i += 1;
+    }
+    held
+}
+
+// Whether the level moves from sample to sample.
+fn moves(e: Envelope) -> bool
+    ensures { λ r. ⌜ r ≡ grows (e .stage) ⌝ }
+{
+    let stage = e.stage;
+    match stage {
+        EnvelopeStage::Idle => false,
+        EnvelopeStage::Attack => true,
+        EnvelopeStage::Decay => true,
+        EnvelopeStage::Sustain => false,
+        EnvelopeStage::Release => true,
+    }
+}
