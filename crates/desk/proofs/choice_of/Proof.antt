@@ -16,7 +16,7 @@ enum-told c = search needs
 
 returns : tie.Need-returns
 unfolding choiceOf
-returns c = rw (← c .before .before .shape-of .ensures, c .shape .given .1) refl
+returns c = let told = c .before in rw (← told .before .before .shape-of .ensures, told .shape .given .1) refl
 
 returns-2 : tie.Need-returns-2
 unfolding choiceOf
