@@ -1,48 +1,33 @@
-// Plays what the voice exists for and compares, always with a render from sample zero and never with the last render: a
-// pad that is edited five times, chains of edits, edits that write nothing, refused calls, parts, and given states and
-// positions. Each line tells what was compared, and how much of it differs. The original is left to `replay`.
-use compared::Report;
-use libc::STDOUT_FILENO;
-
+// What 01 says to run, and what the voice exists for: the falling pad. Each line of standard output names what was run and
+// tells what the calls said, as number, place and count, and how many samples and words are not as they should be. The calls
+// are those that C makes. What is proved of all input, chains of edits and parts among it, is not run again.
+//
+// | 01                                                       | here                                          |
+// |----------------------------------------------------------|-----------------------------------------------|
+// | "4,096 and 4,097 records; notes 127 and 128"             | scores.rt                                     |
+// | "N = 0, 4,096, 4,097"                                    | lengths.rt                                    |
+// | "sustain 1.0"                                            | sustain.rt                                    |
+// | "random scores, against the Rust called span by span"    | left to the replay and to the test at scale   |
+// | demand 3, and the pad that lost its level in five edits  | pad.rt                                        |
+// | "An entry is a state if ..", 8 and 10                    | doctored.rt                                   |
+// | "A continuing call that would pass 16,777,216 is 7"      | positions.rt                                  |
 mod calls;
-mod chains;
 mod compared;
-mod dice;
+mod doctored;
 mod edits;
-mod given;
-mod lent;
+mod lengths;
 mod pad;
-mod parts;
-mod play;
-mod refusals;
-mod settings;
-mod sheets;
-mod states;
+mod positions;
+mod records;
+mod scores;
+mod sustain;
+mod told;
 
 fn main() {
-    let all = parts_told(edits_told(compared::nothing()));
-    io::write_all(STDOUT_FILENO, b"in all: ");
-    compared::tell(all);
-}
-
-fn edits_told(all: Report) -> Report {
-    let pad = compared::told_edits(all, b"a pad, edited five times: ", pad::played());
-    let chains = compared::told_edits(
-        pad,
-        b"chains of edits, also over rubbish: ",
-        chains::played(),
-    );
-    let late = compared::told(chains, b"equal scores and late changes: ", chains::late());
-    compared::told(late, b"refused calls: ", refusals::played())
-}
-
-fn parts_told(all: Report) -> Report {
-    let stepped = compared::told(
-        all,
-        b"steps of each sample, and ends of shorter renders: ",
-        parts::stepped(),
-    );
-    let parts = compared::told(stepped, b"parts: ", parts::played());
-    let states = compared::told(parts, b"given states: ", states::played());
-    compared::told(states, b"positions: ", states::positions())
+    scores::played();
+    lengths::played();
+    sustain::played();
+    pad::played();
+    doctored::played();
+    positions::played();
 }

@@ -1,38 +1,43 @@
 // What the voice exists for: a slowly falling pad, edited five times, each time re-rendered where it stands.
-use crate::compared;
-use crate::compared::Report;
 use crate::edits;
-use crate::settings::PAD;
-use crate::sheets;
-use crate::sheets::Sheet;
+use crate::told;
 
-pub fn played() -> Report {
-    let mut chain = edits::begun(compared::nothing(), PAD, chord(), 20000);
-    let mut k = 0;
-    while k < 5 {
-        let score = chain.score;
-        let next = edited(score, k);
-        chain = edits::edit(chain, PAD, next, edits::by_zero(PAD, score, next, 20000));
-        k += 1;
-    }
-    chain.report
+pub fn played() {
+    let mut out = [0.0; 20000];
+    let mut shelf = [0u64; 60];
+    let mut zero = [0.0; 20000];
+    let mut marks = [0u64; 60];
+    edited(&mut out, &mut shelf, &mut zero, &mut marks);
 }
 
-// A chord that is held from sample zero, its highest note lifted late.
-fn chord() -> Sheet {
-    let low = sheets::with(sheets::blank(), 0_1_048_100);
-    let two = sheets::with(low, 0_1_055_090);
-    let all = sheets::with(two, 0_1_060_080);
-    sheets::with(all, 16000_2_060_000)
-}
-
-// A note inserted, then its end; the note moved to a mark, then quieter, then removed.
-fn edited(score: Sheet, k: usize) -> Sheet {
-    match k {
-        0 => sheets::with(score, 9000_1_064_110),
-        1 => sheets::with(score, 15000_2_064_000),
-        2 => sheets::moved(score, 3, 8192),
-        3 => sheets::revalued(score, 3, 40),
-        _ => sheets::removed(score, 3),
-    }
+// A chord whose highest key is lifted late. A key is added, and then its end; it is moved to a mark, made quieter, removed.
+fn edited(
+    out: &mut [f64; 20000],
+    shelf: &mut [u64; 60],
+    zero: &mut [f64; 20000],
+    marks: &mut [u64; 60],
+) {
+    let a = 0_1_048_100;
+    let b = 0_1_055_090;
+    let c = 0_1_060_080;
+    let up = 15000_2_064_000;
+    let last = 16000_2_060_000;
+    let chord = [a, b, c, last];
+    let added = [a, b, c, 9000_1_064_110, last];
+    let ended = [a, b, c, 9000_1_064_110, up, last];
+    let moved = [a, b, c, 8192_1_064_110, up, last];
+    let quieter = [a, b, c, 8192_1_064_040, up, last];
+    let removed = [a, b, c, up, last];
+    told::text(b"a falling pad: ");
+    edits::begun(&chord, 20000, 60, out, shelf, zero, marks);
+    told::text(b"  a key added at 9000: ");
+    edits::edit(&chord, &added, 2, 20000, 60, out, shelf, zero, marks);
+    told::text(b"  lifted at 15000: ");
+    edits::edit(&added, &ended, 3, 20000, 60, out, shelf, zero, marks);
+    told::text(b"  moved to 8192: ");
+    edits::edit(&ended, &moved, 2, 20000, 60, out, shelf, zero, marks);
+    told::text(b"  quieter: ");
+    edits::edit(&moved, &quieter, 2, 20000, 60, out, shelf, zero, marks);
+    told::text(b"  removed: ");
+    edits::edit(&quieter, &removed, 2, 20000, 60, out, shelf, zero, marks);
 }
