@@ -106,7 +106,7 @@ bool pair_open(struct pair *pair, const char *wav_path, const char *shelf_path, 
 bool pair_write(struct pair *pair, const struct bytes *wav, const struct bytes *shelf, struct why *why);
 void pair_drop(struct pair *pair);
 
-/* score.c: a score as the desk holds it. */
+/* score.c: a score as the desk holds it, and what of it is not heard. */
 
 /* Room for a record more than a score may have, so that a longer file is refused by the library. */
 struct score {
@@ -118,6 +118,11 @@ bool read_score(const char *path, struct score *score, struct why *why);
 void add_record(struct score *score, uint32_t position, unsigned kind, unsigned note, unsigned velocity);
 uint32_t position_of(const struct score *score, size_t record);
 bool same_score(const struct score *one, const struct score *other);
+/* How many records lie at or past the end of so many samples: they are legal, and not heard. */
+size_t count_unheard(const struct score *score, size_t samples);
+/* Those records in words, with the line's end; and after a path, where there are any. */
+void put_unheard(FILE *out, const struct score *score, size_t samples, uint32_t rate);
+void tell_unheard(FILE *out, const char *path, const struct score *score, size_t samples, uint32_t rate);
 
 /* settings.c: the voice's settings, as options, in words and in a shelf's head; and the length of a sound. */
 

@@ -110,6 +110,10 @@ static bool tell_shelf(const char *path, const struct bytes *file, struct why *w
     put_name("WAV");
     printf("%u-bit floats\n", about.bits);
     tell_records(&about.score);
+    if (count_unheard(&about.score, about.samples) > 0) {
+        put_name("unheard");
+        put_unheard(stdout, &about.score, about.samples, about.settings.rate);
+    }
     return true;
 }
 

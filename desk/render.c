@@ -99,7 +99,9 @@ static void tell_wav(FILE *out, const char *path, const struct render *r) {
 /* What goes into a pipe is told beside it. */
 static void tell(const struct render *r) {
     size_t entries = r->sound.words / GAV_STATE_WORDS;
-    tell_wav(is_pipe(r) ? stderr : stdout, is_pipe(r) ? "standard output" : r->wav_path, r);
+    FILE *out = is_pipe(r) ? stderr : stdout;
+    tell_wav(out, is_pipe(r) ? "standard output" : r->wav_path, r);
+    tell_unheard(out, r->score_path, &r->about.score, r->about.samples, r->about.settings.rate);
     if (!r->shelf_path) return;
     printf("%s: %zu %s of %d words\n", r->shelf_path, entries, counted(entries, "entry", "entries"), GAV_STATE_WORDS);
 }

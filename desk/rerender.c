@@ -105,6 +105,7 @@ static void tell(struct rerender *r) {
     }
     wav_values(&r->wav, r->wav_file.at, 0, samples, r->sound.at);
     tell_peak(stdout, r->wav_path, peak_of(r->sound.at, samples), r->wav.rate);
+    tell_unheard(stdout, r->new_path, &r->after, samples, r->wav.rate);
 }
 
 static bool read_rerender(char **given, struct rerender *r, struct why *why) {
@@ -146,7 +147,8 @@ const struct verb rerender_verb = {
         "last\n"
         "mark (every 4096 samples) at or before the first changed record on are rendered; the bytes before stay as\n"
         "they came, and are compared with the shelf's sums of them. So both files are then what a render of NEW from\n"
-        "sample zero gives. The settings and the length are the shelf's. NEW may be - for standard input.\n"
+        "sample zero with the shelf's settings and length gives. The length stays: records of NEW at or past the end\n"
+        "are not heard, and are told. NEW may be - for standard input.\n"
         "A shelf that is damaged, or of another WAV, is named, and so is a WAV that was changed since: nothing is\n"
         "written then.\n",
     .run = run_rerender,

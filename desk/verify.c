@@ -148,6 +148,7 @@ static bool tell_shelf(struct found *f, struct why *why) {
 /* The last line, by which a script knows what was found. */
 static bool tell_summary(const struct found *f, struct why *why) {
     const struct from_zero *z = &f->beside;
+    tell_unheard(stdout, z->score_path, &z->score, z->zero.samples, z->settings.rate);
     if (f->summary.status != DONE) {
         printf("differs: %s\n", f->summary.text);
         *why = f->summary;
