@@ -98,16 +98,18 @@ static enum lock open_temporary(const struct draft *draft, int *fd, struct why *
     return TAKEN;
 }
 
+/* Whether the open file is the one that has the temporary name: another hand may have removed or replaced it. */
+static bool has_its_name(const struct draft *draft, int fd) {
+    struct stat mine, named;
+    return fstat(fd, &mine) == 0 && lstat(draft->temporary, &named) == 0 && mine.st_dev == named.st_dev &&
+           mine.st_ino == named.st_ino;
+}
+
 /* Locks the whole file. It is a lock by fcntl, since such a lock names the process that holds it. */
 static enum lock lock_file(const struct draft *draft, int fd, struct why *why) {
     struct flock lock = {.l_type = F_WRLCK, .l_whence = SEEK_SET};
-    struct stat mine, named;
-    if (fcntl(fd, F_SETLK, &lock) == 0) {
-        /* A lock on a file that has another name by now, or none, is none. */
-        bool still = fstat(fd, &mine) == 0 && lstat(draft->temporary, &named) == 0 && mine.st_dev == named.st_dev &&
-                     mine.st_ino == named.st_ino;
-        return still ? LOCKED : GONE;
-    }
+    /* A lock on a file that has another name by now, or none, is none. */
+    if (fcntl(fd, F_SETLK, &lock) == 0) return has_its_name(draft, fd) ? LOCKED : GONE;
     if (errno != EACCES && errno != EAGAIN) {
         refuse(why, "%s: %s, where it would be written first, cannot be locked: %s", draft->path, draft->temporary,
                strerror(errno));
@@ -186,7 +188,15 @@ static bool sync_folder(const char *target) {
     return synced;
 }
 
+/* What has the temporary name now may be another desk's, and is not renamed. */
+static bool is_kept(const struct draft *draft, struct why *why) {
+    if (has_its_name(draft, draft->fd)) return true;
+    return refuse(why, "%s: %s, where it was written first, was removed or replaced meanwhile; %s is not written",
+                  draft->path, draft->temporary, draft->path);
+}
+
 bool draft_publish(struct draft *draft, struct why *why) {
+    if (!is_kept(draft, why)) return false;
     if (rename(draft->temporary, draft->target) != 0) {
         return refuse(why, "%s: the new file cannot take its name: %s", draft->path, strerror(errno));
     }
@@ -197,8 +207,8 @@ bool draft_publish(struct draft *draft, struct why *why) {
 }
 
 void draft_drop(struct draft *draft) {
-    /* Only the holder of the lock may remove the file; the lock goes last. */
-    if (draft->fd >= 0 && draft->temporary) unlink(draft->temporary);
+    /* Only the holder of the lock may remove the file, and no other file of its name; the lock goes last. */
+    if (draft->fd >= 0 && draft->temporary && has_its_name(draft, draft->fd)) unlink(draft->temporary);
     if (draft->fd >= 0) close(draft->fd);
     free(draft->temporary);
     free(draft->target);
@@ -224,6 +234,8 @@ bool pair_write(struct pair *pair, const struct bytes *wav, const struct bytes *
     /* A signal that came while the sound was made ends the program after the drop. */
     if (told_to_end()) return refuse(why, "told to end; nothing is written");
     return write_one(&pair->wav, wav, why) && write_one(&pair->shelf, shelf, why) &&
+           /* Neither takes its name where one of them is gone. */
+           (!wav->at || is_kept(&pair->wav, why)) && (!shelf->at || is_kept(&pair->shelf, why)) &&
            (!wav->at || draft_publish(&pair->wav, why)) && (!shelf->at || draft_publish(&pair->shelf, why));
 }
 
