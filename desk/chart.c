@@ -33,7 +33,10 @@ static bool write_files(const struct chart_call *c, put_chart *draw, put_chart *
     struct draft drawn = NO_DRAFT, tabled = NO_DRAFT;
     bool done = write_draft(&drawn, c->svg_path, draw, from, why);
     if (c->table_path) done = done && write_draft(&tabled, c->table_path, table, from, why);
-    done = done && draft_publish(&drawn, why) && (!c->table_path || draft_publish(&tabled, why));
+    done = done && draft_publish(&drawn, why);
+    if (done && c->table_path && !draft_publish(&tabled, why)) {
+        done = preface(why, "%s is written already: ", c->svg_path);
+    }
     draft_drop(&tabled);
     draft_drop(&drawn);
     if (done && !c->table_path) table(stdout, from);
@@ -47,7 +50,7 @@ static bool stay_apart(const struct chart_call *c, struct why *why) {
     for (size_t i = 0; i < COUNT_OF(read); i++) {
         if (!read[i]) continue;
         if (same_file(read[i], c->svg_path) || (c->table_path && same_file(read[i], c->table_path))) {
-            return misuse(why, "%s would be written over", read[i]);
+            return misuse(why, "%s would be written over", shown_path(read[i]));
         }
     }
     if (c->table_path && same_file(c->table_path, c->svg_path)) {

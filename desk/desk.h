@@ -23,6 +23,8 @@ enum status { DONE = 0, REFUSED = 1, MISUSED = 2 };
 /* Room for three of the longest paths and words about them. What is longer loses its middle, and never its end. */
 struct why {
     enum status status;
+    /* How many files have taken their names: what fails behind that is told with it. */
+    unsigned written;
     char text[16384];
 };
 
@@ -54,16 +56,22 @@ uint64_t sum_of(const uint8_t *at, size_t len);
 
 /* files.c: reading whole files, and which names are of one file. */
 
-/* "-" is standard input. A file longer than the room fills it. */
+/* A path for the eye: "-" is standard input. */
+const char *shown_path(const char *path);
+/* A file longer than the room fills it. */
 bool read_into(const char *path, uint8_t *at, size_t room, size_t *len, struct why *why);
 /* The whole file, to be freed; of a longer one the first most bytes and one more, so that what it is can be told. */
 bool read_file(const char *path, size_t most, struct bytes *file, struct why *why);
 bool write_all(int fd, const void *at, size_t len);
 /* How many bytes of a path are its folder, with the last slash. */
 size_t folder_of(const char *path);
+/* What a temporary name begins with; 16 hex digits follow. */
+#define OWN_NAME ".desk-"
+/* Whether the name behind the links that a path ends in is a temporary one. */
+bool is_own_name(const char *path);
 /* The name behind the links that a path ends in, to be freed; the file need not be there. NULL with errno set. */
 char *behind_links(const char *path);
-/* Whether both names are of one file, there or not. */
+/* Whether both names are of one file, there or not; - is the file that standard input comes from. */
 bool same_file(const char *one, const char *other);
 
 /* drafts.c: writing under a temporary name, which is also the lock on the file that is written. */

@@ -9,8 +9,6 @@
 #include <sys/stat.h>
 #include <unistd.h>
 
-/* A temporary name is this and 16 hex digits. */
-#define OWN_NAME ".desk-"
 /* A lock is tried again where the file behind it was just renamed or removed by another desk. */
 #define MOST_TRIES 100u
 
@@ -42,7 +40,7 @@ static bool find_target(struct draft *draft, struct why *why) {
     if (!draft->target) return refuse(why, "%s: cannot be written: %s", path, strerror(errno));
     const char *name = draft->target + folder_of(draft->target);
     if (name[0] == '\0') return refuse(why, "%s: cannot be written: it is the name of a folder", path);
-    if (strncmp(name, OWN_NAME, strlen(OWN_NAME)) == 0) {
+    if (is_own_name(path)) {
         return refuse(why, "%s: names that begin with %s are the desk's own", path, OWN_NAME);
     }
     return true;
@@ -151,6 +149,10 @@ bool draft_open(struct draft *draft, const char *path, struct why *why) {
     if (!names_file(path, why) || !find_target(draft, why)) return false;
     draft->temporary = temporary_name(draft->target);
     if (!draft->temporary) return refuse(why, "%s: no memory for a name beside it", path);
+    if (same_file("-", draft->temporary)) {
+        return refuse(why, "%s: %s, where it would be written first, is standard input: give that file another name",
+                      path, draft->temporary);
+    }
     let_signals_wait(draft);
     if (!take_temporary(draft, why)) return false;
     /* What a killed desk left goes. */
@@ -200,6 +202,7 @@ bool draft_publish(struct draft *draft, struct why *why) {
     if (rename(draft->temporary, draft->target) != 0) {
         return refuse(why, "%s: the new file cannot take its name: %s", draft->path, strerror(errno));
     }
+    why->written++;
     free(draft->temporary);
     draft->temporary = NULL;
     if (sync_folder(draft->target)) return true;
@@ -228,15 +231,26 @@ static bool write_one(struct draft *draft, const struct bytes *bytes, struct why
     return !bytes->at || (draft_write(draft, bytes->at, bytes->len, why) && draft_seal(draft, why));
 }
 
+/* Neither takes its name where one of them is gone. */
+static bool both_kept(const struct pair *pair, const struct bytes *wav, const struct bytes *shelf, struct why *why) {
+    return (!wav->at || is_kept(&pair->wav, why)) && (!shelf->at || is_kept(&pair->shelf, why));
+}
+
 /* Where the shelf cannot take its name after the WAV has, it is still the old score's, and says so of the WAV by its
    sums; the same edit can be made again. */
+static bool publish_both(struct pair *pair, const struct bytes *wav, const struct bytes *shelf, struct why *why) {
+    if ((!wav->at || draft_publish(&pair->wav, why)) && (!shelf->at || draft_publish(&pair->shelf, why))) return true;
+    if (pair->wav.temporary || !shelf->at || !pair->shelf.temporary) return false;
+    return preface(why,
+                   "%s is the new score's already, and %s is not; the same call can be made again: ", pair->wav.path,
+                   pair->shelf.path);
+}
+
 bool pair_write(struct pair *pair, const struct bytes *wav, const struct bytes *shelf, struct why *why) {
     /* A signal that came while the sound was made ends the program after the drop. */
     if (told_to_end()) return refuse(why, "told to end; nothing is written");
-    return write_one(&pair->wav, wav, why) && write_one(&pair->shelf, shelf, why) &&
-           /* Neither takes its name where one of them is gone. */
-           (!wav->at || is_kept(&pair->wav, why)) && (!shelf->at || is_kept(&pair->shelf, why)) &&
-           (!wav->at || draft_publish(&pair->wav, why)) && (!shelf->at || draft_publish(&pair->shelf, why));
+    return write_one(&pair->wav, wav, why) && write_one(&pair->shelf, shelf, why) && both_kept(pair, wav, shelf, why) &&
+           publish_both(pair, wav, shelf, why);
 }
 
 void pair_drop(struct pair *pair) {

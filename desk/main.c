@@ -43,7 +43,9 @@ static bool asks_for_help(char **given) {
 static bool flush_output(struct why *why) {
     errno = 0;
     if (fflush(stdout) == 0 && !ferror(stdout)) return true;
-    return refuse(why, "standard output: cannot be written: %s", errno ? strerror(errno) : "an earlier write failed");
+    const char *reason = errno ? strerror(errno) : "an earlier write failed";
+    const char *files = why->written ? counted(why->written, "; the file is written", "; the files are written") : "";
+    return refuse(why, "standard output: cannot be written: %s%s", reason, files);
 }
 
 /* The exit status; what went wrong, on standard error. */

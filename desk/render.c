@@ -29,7 +29,7 @@ static bool check_paths(const struct render *r, struct why *why) {
     if (is_pipe(r)) return check_pipe(r, why);
     if (r->shelf_path && !names_file(r->shelf_path, why)) return false;
     if (same_file(r->score_path, r->wav_path) || (r->shelf_path && same_file(r->score_path, r->shelf_path))) {
-        return misuse(why, "%s would be written over", r->score_path);
+        return misuse(why, "%s would be written over", shown_path(r->score_path));
     }
     if (r->shelf_path && same_file(r->shelf_path, r->wav_path)) {
         return misuse(why, "the WAV and the shelf are one file");

@@ -117,7 +117,7 @@ static bool read_rerender(char **given, struct rerender *r, struct why *why) {
     if (!names_file(r->wav_path, why) || !names_file(r->shelf_path, why)) return false;
     if (same_file(r->shelf_path, r->wav_path)) return misuse(why, "the WAV and the shelf are one file");
     if (same_file(r->new_path, r->wav_path) || same_file(r->new_path, r->shelf_path)) {
-        return misuse(why, "%s would be written over", r->new_path);
+        return misuse(why, "%s would be written over", shown_path(r->new_path));
     }
     return read_score(r->new_path, &r->after, why);
 }
