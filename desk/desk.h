@@ -336,7 +336,10 @@ bool shelf_begins(const uint8_t *file, size_t len);
 bool shelf_look(const uint8_t *file, size_t len, struct shelf_file *about, struct why *why);
 /* The entries of a file that was looked at, into a sound of its length. */
 void shelf_words(const uint8_t *file, struct sound *sound);
-/* The sum of a section of 4,096 samples that stands beside an entry; and that of the WAV's bytes. */
+/* How many sections of 4,096 samples there are, the last one perhaps shorter; and the sample after a section's last. */
+size_t sections_of(size_t samples);
+size_t section_end(size_t samples, size_t section);
+/* The sum of a section that stands beside an entry; and that of the WAV's bytes. */
 uint64_t shelf_sum(const uint8_t *file, size_t section);
 uint64_t section_sum(const struct wav *wav, const uint8_t *file, size_t section);
 

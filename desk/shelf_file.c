@@ -25,7 +25,12 @@ enum word { MAGIC, LAYOUT, VOICE, SAMPLES, BITS, SCORE_LEN, ENTRY_WORDS, BESIDE_
 
 static const char magic[] = "GAVSHELF";
 
-static size_t sections_of(size_t samples) { return gav_shelf_words(samples) / GAV_STATE_WORDS; }
+size_t sections_of(size_t samples) { return gav_shelf_words(samples) / GAV_STATE_WORDS; }
+
+size_t section_end(size_t samples, size_t section) {
+    size_t first = section * GAV_MARK;
+    return samples - first < GAV_MARK ? samples : first + GAV_MARK;
+}
 
 /* Where the words of a section stand, and where the score does. */
 static size_t section_at(size_t section) { return HEAD + 8 * SECTION_WORDS * section; }
@@ -36,8 +41,8 @@ static size_t score_at(size_t samples) { return section_at(sections_of(samples))
 static size_t file_len(size_t samples, size_t score_len) { return score_at(samples) + (score_len + 7) / 8 * 8 + 8; }
 
 uint64_t section_sum(const struct wav *wav, const uint8_t *file, size_t section) {
-    size_t frame = wav->bits / 8, first = section * GAV_MARK, left = wav->samples - first;
-    return sum_of(file + wav->data + frame * first, frame * (left < GAV_MARK ? left : GAV_MARK));
+    size_t frame = wav->bits / 8, first = section * GAV_MARK;
+    return sum_of(file + wav->data + frame * first, frame * (section_end(wav->samples, section) - first));
 }
 
 uint64_t shelf_sum(const uint8_t *file, size_t section) {
