@@ -125,7 +125,7 @@ static void tell_sums(struct found *f) {
     }
     if (differ == 0) return;
     TELL_WRONG(f, "%s is of another WAV than %s: %zu of %zu sums differ, the first is that of samples %zu to %zu",
-               z->shelf_path, z->wav_path, differ, sections, first * GAV_MARK, first * GAV_MARK + GAV_MARK - 1);
+               z->shelf_path, z->wav_path, differ, sections, first * GAV_MARK, section_end(z->wav.samples, first) - 1);
 }
 
 static bool tell_shelf(struct found *f, struct why *why) {
