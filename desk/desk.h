@@ -285,10 +285,17 @@ struct peak {
 
 struct peak peak_of(const double *from, size_t samples);
 double level_of(const double *from, size_t samples);
-/* In percent, never below -100. */
+/* Whether a level stands beside silence: no percent says how far it is off. */
+bool is_off_silence(double level, double reference);
+/* In percent, never below -100; 100 beside silence. */
 double percent_off(double level, double reference);
-/* The peak in words, with the line's end; and after a path. */
-void put_peak(FILE *out, struct peak peak, uint32_t rate);
+#define OFF_ROOM 48u
+/* How far it is off, in words, which may stand in the room. */
+const char *off_words(double level, double reference, char room[OFF_ROOM]);
+/* The peak in words, with the line's end, where whole of a WAV of whole numbers, which no player clips; and after a
+ * path.
+ */
+void put_peak(FILE *out, struct peak peak, uint32_t rate, bool whole);
 void tell_peak(FILE *out, const char *path, struct peak peak, uint32_t rate);
 
 /* export.c: the bits and the gain of a WAV. */

@@ -57,7 +57,7 @@ static bool tell_values(const struct bytes *file, const struct wav *wav, struct 
     wav_values(wav, file->at, 0, wav->samples, values);
     size_t wild = first_wild(values, wav->samples);
     put_name("peak");
-    put_peak(stdout, peak_of(values, wav->samples), wav->rate);
+    put_peak(stdout, peak_of(values, wav->samples), wav->rate, wav->bits < 32);
     if (wild < wav->samples) {
         put_name("wild");
         printf("sample %zu is no finite number\n", wild);

@@ -41,33 +41,26 @@ static void compare(struct found *f) {
     }
 }
 
-/* The level of so many samples from one on, in percent off that of the render. */
-static double level_off(const struct found *f, size_t first, size_t samples) {
-    return percent_off(level_of(f->beside.held + first, samples), level_of(f->beside.zero.at + first, samples));
-}
-
-/* A percent for the eye; one that is no number has no sign. */
-static const char *shown(double percent, char room[32]) {
-    snprintf(room, 32, "%+.6g", percent);
-    return isnan(percent) ? "nan" : room;
+/* How far the level of so many samples from one on is from that of the render, in words. */
+static const char *level_words(const struct found *f, size_t first, size_t samples, char room[OFF_ROOM]) {
+    return off_words(level_of(f->beside.held + first, samples), level_of(f->beside.zero.at + first, samples), room);
 }
 
 static void tell_level(const struct found *f, size_t first, size_t samples) {
-    char room[32];
-    printf("%s: level off by %s %% from sample %zu to %zu: %.6g, and the render's is %.6g\n", f->beside.wav_path,
-           shown(level_off(f, first, samples), room), first, first + samples - 1,
-           level_of(f->beside.held + first, samples), level_of(f->beside.zero.at + first, samples));
+    char room[OFF_ROOM];
+    printf("%s: %s from sample %zu to %zu: %.6g, and the render's is %.6g\n", f->beside.wav_path,
+           level_words(f, first, samples, room), first, first + samples - 1, level_of(f->beside.held + first, samples),
+           level_of(f->beside.zero.at + first, samples));
 }
 
 /* The samples, and the level over the whole and over the section of the first that differs. */
 static void tell_samples(struct found *f) {
     const struct from_zero *z = &f->beside;
     size_t section = f->first / GAV_MARK * GAV_MARK;
-    char room[32];
+    char room[OFF_ROOM];
     if (f->differ == 0) return;
-    TELL_WRONG(
-        f, "%s is not the score's: %zu of %zu samples differ, the first at sample %zu (%.3f s), level off by %s %%",
-        z->wav_path, f->differ, f->common, f->first, seconds_at(f, f->first), shown(level_off(f, 0, f->common), room));
+    TELL_WRONG(f, "%s is not the score's: %zu of %zu samples differ, the first at sample %zu (%.3f s), %s", z->wav_path,
+               f->differ, f->common, f->first, seconds_at(f, f->first), level_words(f, 0, f->common, room));
     printf("%s: sample %zu is %.17g, and the render's is %.17g\n", z->wav_path, f->first, z->held[f->first],
            z->zero.at[f->first]);
     printf("%s: largest difference %.6g at sample %zu (%.3f s)\n", z->wav_path, f->largest, f->largest_at,
