@@ -23,6 +23,8 @@ enum status { DONE = 0, REFUSED = 1, MISUSED = 2 };
 /* Room for three of the longest paths and words about them. What is longer loses its middle, and never its end. */
 struct why {
     enum status status;
+    /* It was asked for help, and nothing was done. */
+    bool help;
     /* How many files have taken their names: what fails behind that is told with it. */
     unsigned written;
     char text[16384];
@@ -176,6 +178,7 @@ struct arguments {
     bool or_no_operands;
 };
 
+bool is_help(const char *word);
 bool read_arguments(char **given, const struct arguments *takes, struct why *why);
 bool read_number(const char *name, const char *text, double *value, struct why *why);
 bool read_whole(const char *name, const char *unit, const char *text, uint64_t most, uint64_t *value, struct why *why);
@@ -239,9 +242,9 @@ struct wav {
     uint32_t rate;
     size_t samples, data;
     char gain[32];
-    unsigned format, channels, align;
+    unsigned format, channels, align, extension;
     uint32_t byte_rate, fact;
-    size_t bytes;
+    size_t fmt, bytes;
     bool has_fmt, has_fact;
 };
 

@@ -122,7 +122,7 @@ static bool tell_shelf(const char *path, const struct bytes *file, struct why *w
 static bool tell_score(const char *path, const struct bytes *file, struct why *why) {
     struct score score = {.len = file->len < sizeof score.at ? file->len : sizeof score.at};
     if (score.len > 0) memcpy(score.at, file->at, score.len);
-    printf("%s: score\n", path);
+    printf("%s: %s\n", path, file->len > 0 ? "score" : "empty file: a score of no records");
     if (!check_score(NULL, &score, why)) return false;
     tell_records(&score);
     return true;
