@@ -87,6 +87,8 @@ struct draft {
     char *target, *temporary;
     int fd;
     mode_t mode;
+    uid_t owner;
+    gid_t group;
     bool waits;
     sigset_t waited;
 };

@@ -23,16 +23,20 @@ static mode_t new_mode(void) {
     return 0666 & ~mask;
 }
 
-/* The file that a path names, through links, there or not; and the mode that the new one gets. */
+/* The file that a path names, through links, there or not; and the mode, owner and group that the new one gets. */
 static bool find_target(struct draft *draft, struct why *why) {
     struct stat found;
     const char *path = draft->path;
     if (path[0] == '\0') return refuse(why, "a file without a name cannot be written");
     draft->mode = new_mode();
+    draft->owner = geteuid();
+    draft->group = (gid_t)-1;
     if (stat(path, &found) == 0) {
         if (!S_ISREG(found.st_mode)) return refuse(why, "%s: it is no ordinary file, and is left as it is", path);
         if (access(path, W_OK) != 0) return refuse(why, "%s: cannot be written: %s", path, strerror(errno));
         draft->mode = found.st_mode & 0777;
+        draft->owner = found.st_uid;
+        draft->group = found.st_gid;
     } else if (errno != ENOENT) {
         return refuse(why, "%s: cannot be written: %s", path, strerror(errno));
     }
@@ -78,7 +82,8 @@ static bool told_to_end(void) {
     return told;
 }
 
-/* Opens the temporary file, there or not; nothing but an ordinary file of the caller's with one name is taken. */
+/* Opens the temporary file, there or not; nothing but an ordinary file with one name, of the caller's or of the
+   target's owner, is taken. */
 static enum lock open_temporary(const struct draft *draft, int *fd, struct why *why) {
     struct stat found;
     *fd = open(draft->temporary, O_RDWR | O_CREAT | O_NOFOLLOW | O_NONBLOCK | O_CLOEXEC, 0600);
@@ -88,11 +93,14 @@ static enum lock open_temporary(const struct draft *draft, int *fd, struct why *
                strerror(errno));
         return TAKEN;
     }
-    if (opened && S_ISREG(found.st_mode) && found.st_uid == geteuid() && found.st_nlink <= 1) {
+    bool ours = opened && (found.st_uid == geteuid() || found.st_uid == draft->owner);
+    if (ours && S_ISREG(found.st_mode) && found.st_nlink <= 1) {
         return found.st_nlink == 1 ? LOCKED : GONE;
     }
-    refuse(why, "%s: %s, where it would be written first, is no ordinary file of yours alone", draft->path,
-           draft->temporary);
+    refuse(why,
+           "%s: %s, where it would be written first, is no ordinary file of yours alone: move it away or remove it, "
+           "and try again",
+           draft->path, draft->temporary);
     return TAKEN;
 }
 
@@ -165,8 +173,14 @@ bool draft_write(struct draft *draft, const void *at, size_t len, struct why *wh
     return refuse(why, "%s: cannot be written: %s", draft->path, strerror(errno));
 }
 
+/* Who may not give a file away keeps it; the group is kept by itself, then. */
+static bool keep_owner(const struct draft *draft) {
+    return fchown(draft->fd, draft->owner, draft->group) == 0 || fchown(draft->fd, (uid_t)-1, draft->group) == 0 ||
+           errno == EPERM;
+}
+
 bool draft_seal(struct draft *draft, struct why *why) {
-    bool kept = fchmod(draft->fd, draft->mode) == 0 && (fsync(draft->fd) == 0 || errno == EINVAL);
+    bool kept = keep_owner(draft) && fchmod(draft->fd, draft->mode) == 0 && (fsync(draft->fd) == 0 || errno == EINVAL);
     return kept ? true : refuse(why, "%s: cannot be written: %s", draft->path, strerror(errno));
 }
 

@@ -126,6 +126,8 @@ const struct verb render_verb = {
     .summary = "renders a score to a WAV, with a shelf for later edits",
     .help = "desk render SCORE -o OUT.wav [options]\n"
             "Renders every sample of the score from sample zero. SCORE may be - for standard input.\n"
+            "A file that is there keeps its mode, and where possible its owner and group. It is replaced as a whole:\n"
+            "other names of it (hard links) keep the old file.\n"
             "The sound has at most 16777216 samples (349.5 s at 48000 Hz).\n"
             "An export, by --bits 16 or 24 or by --gain, is for other programs: it has no shelf, since a re-render\n"
             "would go on without its rounding or its gain.\n"
