@@ -111,7 +111,8 @@ const struct verb chart_verb = {
             "  --table FILE     the table, instead of standard output\n"
             "  --shelf FILE     the shelf that OUT.wav was rendered with\n"
             "  --edits K        of the pad: how many edits, 1 to 15 (5)\n"
-            "  --late MS        of the pad: how late the old way is, 0 to 1000 ms (20)\n",
+            "  --late MS        of the pad: how late the old way is, 0 to 1000 ms (20)\n"
+            "The pad takes --rate and --wave alone, and is a square wave without --wave; of OUT.wav without a shelf:\n",
     .settings = true,
     .run = run_chart,
 };

@@ -54,23 +54,21 @@ static bool rerender_sound(struct rerender *r, struct why *why) {
     return accepted(said, &asked, why);
 }
 
-/* Whether the WAV's bytes in these sections, up to but not with the last, are those that the shelf was made with. */
-static bool sections_are_kept(const struct rerender *r, size_t first, size_t last, struct why *why) {
-    for (size_t i = first; i < last; i++) {
-        if (section_sum(&r->wav, r->wav_file.at, i) == shelf_sum(r->shelf_file.at, i)) continue;
-        size_t from = i * GAV_MARK, to = section_end(r->wav.samples, i);
-        return refuse(why,
-                      "from sample %zu on %s is not what %s was made with (a sample of %zu to %zu differs), and a "
-                      "re-render would leave it so; nothing is written: render again with `desk render`",
-                      from, r->wav_path, r->shelf_path, from, to - 1);
-    }
-    return true;
-}
-
 /* What is not made anew has to be as the shelf says: all that stands before the mark, and all where nothing is made. */
 static bool rest_is_kept(const struct rerender *r, struct why *why) {
-    size_t mark = r->about.samples - r->count;
-    return sections_are_kept(r, 0, (mark + GAV_MARK - 1) / GAV_MARK, why);
+    size_t mark = r->about.samples - r->count, stay = (mark + GAV_MARK - 1) / GAV_MARK, differ = 0, first = 0;
+    for (size_t i = stay; i-- > 0;) {
+        if (section_sum(&r->wav, r->wav_file.at, i) == shelf_sum(r->shelf_file.at, i)) continue;
+        differ++;
+        first = i;
+    }
+    if (differ == 0) return true;
+    return refuse(
+        why,
+        "samples %zu to %zu of %s are not what %s was made with; of %zu %s that a re-render would leave as it "
+        "is, %zu %s; nothing is written: render again with `desk render`",
+        first * GAV_MARK, section_end(r->wav.samples, first) - 1, r->wav_path, r->shelf_path, stay,
+        counted(stay, "section", "sections"), differ, counted(differ, "differs", "differ"));
 }
 
 /* Puts the new samples of a section; whether what stood there was of another sound. */
@@ -169,6 +167,7 @@ const struct verb rerender_verb = {
         "are not heard, and are told. NEW may be - for standard input.\n"
         "A shelf that is damaged, or of another length, rate or bits than the WAV, is named, and nothing is written.\n"
         "A WAV that is not the shelf's is named where it differs before the mark, and nothing is written; what lies\n"
-        "behind the mark is made anew, and told where it was of another sound.\n",
+        "behind the mark is made anew, and told where it was of another sound. Chunks of other programs stay, but for\n"
+        "PEAK, which new samples make wrong.\n",
     .run = run_rerender,
 };

@@ -13,12 +13,15 @@ struct found {
     double largest;
 };
 
-/* Tells what is wrong, and keeps the first such words as the summary. */
+/* Tells what is wrong; the first such words are kept for the last line, and told there. */
 #define TELL_WRONG(found, ...)                                                                                         \
     do {                                                                                                               \
-        printf(__VA_ARGS__);                                                                                           \
-        printf("\n");                                                                                                  \
-        if ((found)->summary.status == DONE) refuse(&(found)->summary, __VA_ARGS__);                                   \
+        if ((found)->summary.status == DONE) {                                                                         \
+            refuse(&(found)->summary, __VA_ARGS__);                                                                    \
+        } else {                                                                                                       \
+            printf(__VA_ARGS__);                                                                                       \
+            printf("\n");                                                                                              \
+        }                                                                                                              \
     } while (0)
 
 static double seconds_at(const struct found *f, size_t sample) { return (double)sample / f->beside.settings.rate; }
@@ -46,11 +49,11 @@ static const char *level_words(const struct found *f, size_t first, size_t sampl
     return off_words(level_of(f->beside.held + first, samples), level_of(f->beside.zero.at + first, samples), room);
 }
 
-static void tell_level(const struct found *f, size_t first, size_t samples) {
+static void tell_level(const struct found *f, size_t first, size_t samples, const char *which) {
     char room[OFF_ROOM];
-    printf("%s: %s from sample %zu to %zu: %.6g, and the render's is %.6g\n", f->beside.wav_path,
-           level_words(f, first, samples, room), first, first + samples - 1, level_of(f->beside.held + first, samples),
-           level_of(f->beside.zero.at + first, samples));
+    printf("%s: %s %s, from sample %zu to %zu: %.6g, and the render's is %.6g\n", f->beside.wav_path,
+           level_words(f, first, samples, room), which, first, first + samples - 1,
+           level_of(f->beside.held + first, samples), level_of(f->beside.zero.at + first, samples));
 }
 
 /* The samples, and the level over the whole and over the section of the first that differs. */
@@ -65,8 +68,9 @@ static void tell_samples(struct found *f) {
            z->zero.at[f->first]);
     printf("%s: largest difference %.6g at sample %zu (%.3f s)\n", z->wav_path, f->largest, f->largest_at,
            seconds_at(f, f->largest_at));
-    tell_level(f, 0, f->common);
-    tell_level(f, section, f->common - section < GAV_MARK ? f->common - section : GAV_MARK);
+    tell_level(f, 0, f->common, "in the whole");
+    tell_level(f, section, section_end(f->common, section / GAV_MARK) - section,
+               "in the section of the first difference");
 }
 
 /* What the WAV's head says, and the shelf or the options say otherwise. */
@@ -144,8 +148,8 @@ static bool tell_summary(const struct found *f, struct why *why) {
     tell_unheard(stdout, z->score_path, &z->score, z->zero.samples, z->settings.rate);
     if (f->summary.status != DONE) {
         printf("differs: %s\n", f->summary.text);
-        *why = f->summary;
-        return false;
+        return refuse(why, "%s%s%s: not what a render of %s gives", z->wav_path, z->shelf_path ? ", " : "",
+                      z->shelf_path ? z->shelf_path : "", z->score_path);
     }
     size_t entries = z->zero.words / GAV_STATE_WORDS;
     printf("same: %s is the score's: %zu %s", z->wav_path, f->common, counted(f->common, "sample", "samples"));
@@ -184,11 +188,21 @@ const struct verb verify_verb = {
             "Renders the score from sample zero, beside the files, and compares every sample as the WAV holds it,\n"
             "bit for bit; with --shelf also every entry, the shelf's score, and its sums of the WAV. Nothing is\n"
             "written. Settings and length are the shelf's; without --shelf the options', with the WAV's own rate\n"
-            "and length. An export (--bits 16 or 24, --gain) is not compared. The last line that is printed is, for\n"
-            "scripts, one of\n"
+            "and length. An export (--bits 16 or 24, --gain) is not compared. What differs is told line by line on\n"
+            "standard output. The last line there is, for scripts, one of\n"
             "  same: OUT.wav is the score's: N samples\n"
-            "  differs: WHAT DIFFERS FIRST\n"
-            "with exit status 0 and 1. Status 1 without such a line: it could not be compared, and why.\n"
+            "  same: OUT.wav is the score's: N samples, and FILE its shelf: N entries\n"
+            "with exit status 0, or, with exit status 1, the first of these that holds (N, I and S are numbers;\n"
+            "without a shelf `an option` says so, and not FILE)\n"
+            "  differs: OUT.wav has N Hz, and FILE says N Hz\n"
+            "  differs: OUT.wav has N samples, and FILE says N\n"
+            "  differs: OUT.wav has N bits a sample, and FILE says N\n"
+            "  differs: OUT.wav is not the score's: N of N samples differ, the first at sample I (S s), LEVEL\n"
+            "  differs: FILE is of another score than SCORE: they part at record I\n"
+            "  differs: FILE is not the score's shelf: N of N entries differ, the first is entry I, before sample I\n"
+            "  differs: FILE is of another WAV than OUT.wav: N of N sums differ, the first is that of samples I to I\n"
+            "where LEVEL is `level off by N %`, `the render is silent there`, or `no level: ..` and why.\n"
+            "Status 1 without such a line: it could not be compared, and why.\n"
             "One of the files may be - for standard input.\n"
             "  --shelf FILE     the shelf that OUT.wav was rendered with\n",
     .settings = true,
