@@ -7,6 +7,8 @@
 /* An option's name is at most this long; a longer word is none. */
 #define MOST_NAME 32u
 
+bool is_help(const char *word) { return strcmp(word, "--help") == 0 || strcmp(word, "-h") == 0; }
+
 /* Where the value of the option goes; NULL where the verb has no such option. */
 static const char **place_of_value(const struct arguments *takes, const char *name) {
     for (const struct option *option = takes->options; option->name; option++) {
@@ -34,9 +36,20 @@ static bool take_option(char ***given, const struct arguments *takes, struct why
     return true;
 }
 
+/* Whether a word asks for help where an option or an operand may stand; what follows an option is its value. */
+static bool asks_for_help(char **given, const struct arguments *takes) {
+    for (; *given && strcmp(*given, "--") != 0; given++) {
+        if (is_help(*given)) return true;
+        if (place_of_value(takes, *given) && given[1]) given++;
+    }
+    return false;
+}
+
 bool read_arguments(char **given, const struct arguments *takes, struct why *why) {
     const struct option *operand = takes->operands;
     bool only_operands = false;
+    why->help = asks_for_help(given, takes);
+    if (why->help) return false;
     for (; *given; given++) {
         const char *word = *given;
         if (!only_operands && strcmp(word, "--") == 0) {

@@ -29,11 +29,12 @@ double from_bits(uint64_t bits) {
     return value;
 }
 
-/* A step of the sum. It is one to one in the sum and in the word, so that one changed word always changes the sum; the
-   shift brings high bits down, or flipped signs of two doubles would cancel. */
+/* A step of the sum. It is one to one in the sum and in the word, so that one changed word always changes the sum. The
+   shift brings high bits down, and the second multiplication spreads them by carries that depend on the data: what a
+   flipped top bit leaves is no fixed pattern, which the same flips of the next word would always undo. */
 static uint64_t add_word(uint64_t sum, uint64_t word) {
     sum = (sum ^ word) * UINT64_C(0x9E3779B97F4A7C15);
-    return sum ^ sum >> 29;
+    return (sum ^ sum >> 32) * UINT64_C(0xD6E8FEB86659FD93);
 }
 
 /* 8 bytes a step, from a start that holds the length; zeros fill the last word. */

@@ -33,7 +33,10 @@ static bool write_files(const struct chart_call *c, put_chart *draw, put_chart *
     struct draft drawn = NO_DRAFT, tabled = NO_DRAFT;
     bool done = write_draft(&drawn, c->svg_path, draw, from, why);
     if (c->table_path) done = done && write_draft(&tabled, c->table_path, table, from, why);
-    done = done && draft_publish(&drawn, why) && (!c->table_path || draft_publish(&tabled, why));
+    done = done && draft_publish(&drawn, why);
+    if (done && c->table_path && !draft_publish(&tabled, why)) {
+        done = preface(why, "%s is written already: ", c->svg_path);
+    }
     draft_drop(&tabled);
     draft_drop(&drawn);
     if (done && !c->table_path) table(stdout, from);
@@ -47,7 +50,7 @@ static bool stay_apart(const struct chart_call *c, struct why *why) {
     for (size_t i = 0; i < COUNT_OF(read); i++) {
         if (!read[i]) continue;
         if (same_file(read[i], c->svg_path) || (c->table_path && same_file(read[i], c->table_path))) {
-            return misuse(why, "%s would be written over", read[i]);
+            return misuse(why, "%s would be written over", shown_path(read[i]));
         }
     }
     if (c->table_path && same_file(c->table_path, c->svg_path)) {
@@ -108,7 +111,8 @@ const struct verb chart_verb = {
             "  --table FILE     the table, instead of standard output\n"
             "  --shelf FILE     the shelf that OUT.wav was rendered with\n"
             "  --edits K        of the pad: how many edits, 1 to 15 (5)\n"
-            "  --late MS        of the pad: how late the old way is, 0 to 1000 ms (20)\n",
+            "  --late MS        of the pad: how late the old way is, 0 to 1000 ms (20)\n"
+            "The pad takes --rate and --wave alone, and is a square wave without --wave; of OUT.wav without a shelf:\n",
     .settings = true,
     .run = run_chart,
 };

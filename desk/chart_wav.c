@@ -31,6 +31,15 @@ static struct wav_row measure(const struct from_zero *z, size_t first, size_t sa
     };
 }
 
+/* Beside silence a window has no percent: it is drawn at the largest value. */
+static void lift_off_silence(struct wav_chart *chart) {
+    double largest = 0;
+    for (size_t i = 0; i < chart->points; i++) largest = fmax(largest, chart->percent[i]);
+    for (size_t i = 0; i < chart->points; i++) {
+        if (is_off_silence(chart->rows[i].held, chart->rows[i].zero)) chart->percent[i] = largest;
+    }
+}
+
 bool wav_chart_make(const struct from_zero *z, struct wav_chart *chart, struct why *why) {
     size_t samples = from_zero_common(z), window = window_of(z, samples);
     *chart = (struct wav_chart){.beside = z, .samples = samples, .window = window};
@@ -48,6 +57,7 @@ bool wav_chart_make(const struct from_zero *z, struct wav_chart *chart, struct w
         chart->differ += row.differ;
         chart->rows[chart->points++] = row;
     }
+    lift_off_silence(chart);
     return true;
 }
 
@@ -92,11 +102,15 @@ void wav_chart_table(FILE *out, const void *from) {
     fprintf(
         out,
         "# Levels are the root mean square of a window (full scale is 1). off: how far from the render from sample\n"
-        "# zero, in percent. differ: samples that have other bits than there.\n");
+        "# zero, in percent; silent where the render is silent and the WAV is not. differ: samples that have other "
+        "bits\n"
+        "# than there.\n");
     fprintf(out, "%10s %10s %12s %12s %10s %8s\n", "from s", "to s", "from zero", "WAV", "off %", "differ");
     for (size_t i = 0; i < chart->points; i++) {
         const struct wav_row *row = &chart->rows[i];
-        fprintf(out, "%10.3f %10.3f %12.6f %12.6f %10.3f %8zu\n", (double)row->first / rate,
-                (double)(row->first + row->samples) / rate, row->zero, row->held, chart->percent[i], row->differ);
+        char off[32] = "silent";
+        if (!is_off_silence(row->held, row->zero)) snprintf(off, sizeof off, "%.3f", chart->percent[i]);
+        fprintf(out, "%10.3f %10.3f %12.6f %12.6f %10s %8zu\n", (double)row->first / rate,
+                (double)(row->first + row->samples) / rate, row->zero, row->held, off, row->differ);
     }
 }

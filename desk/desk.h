@@ -23,6 +23,10 @@ enum status { DONE = 0, REFUSED = 1, MISUSED = 2 };
 /* Room for three of the longest paths and words about them. What is longer loses its middle, and never its end. */
 struct why {
     enum status status;
+    /* It was asked for help, and nothing was done. */
+    bool help;
+    /* How many files have taken their names: what fails behind that is told with it. */
+    unsigned written;
     char text[16384];
 };
 
@@ -54,16 +58,22 @@ uint64_t sum_of(const uint8_t *at, size_t len);
 
 /* files.c: reading whole files, and which names are of one file. */
 
-/* "-" is standard input. A file longer than the room fills it. */
+/* A path for the eye: "-" is standard input. */
+const char *shown_path(const char *path);
+/* A file longer than the room fills it. */
 bool read_into(const char *path, uint8_t *at, size_t room, size_t *len, struct why *why);
 /* The whole file, to be freed; of a longer one the first most bytes and one more, so that what it is can be told. */
 bool read_file(const char *path, size_t most, struct bytes *file, struct why *why);
 bool write_all(int fd, const void *at, size_t len);
 /* How many bytes of a path are its folder, with the last slash. */
 size_t folder_of(const char *path);
+/* What a temporary name begins with; 16 hex digits follow. */
+#define OWN_NAME ".desk-"
+/* Whether the name behind the links that a path ends in is a temporary one. */
+bool is_own_name(const char *path);
 /* The name behind the links that a path ends in, to be freed; the file need not be there. NULL with errno set. */
 char *behind_links(const char *path);
-/* Whether both names are of one file, there or not. */
+/* Whether both names are of one file, there or not; - is the file that standard input comes from. */
 bool same_file(const char *one, const char *other);
 
 /* drafts.c: writing under a temporary name, which is also the lock on the file that is written. */
@@ -77,6 +87,8 @@ struct draft {
     char *target, *temporary;
     int fd;
     mode_t mode;
+    uid_t owner;
+    gid_t group;
     bool waits;
     sigset_t waited;
 };
@@ -106,7 +118,7 @@ bool pair_open(struct pair *pair, const char *wav_path, const char *shelf_path, 
 bool pair_write(struct pair *pair, const struct bytes *wav, const struct bytes *shelf, struct why *why);
 void pair_drop(struct pair *pair);
 
-/* score.c: a score as the desk holds it. */
+/* score.c: a score as the desk holds it, and what of it is not heard. */
 
 /* Room for a record more than a score may have, so that a longer file is refused by the library. */
 struct score {
@@ -118,6 +130,11 @@ bool read_score(const char *path, struct score *score, struct why *why);
 void add_record(struct score *score, uint32_t position, unsigned kind, unsigned note, unsigned velocity);
 uint32_t position_of(const struct score *score, size_t record);
 bool same_score(const struct score *one, const struct score *other);
+/* How many records lie at or past the end of so many samples: they are legal, and not heard. */
+size_t count_unheard(const struct score *score, size_t samples);
+/* Those records in words, with the line's end; and after a path, where there are any. */
+void put_unheard(FILE *out, const struct score *score, size_t samples, uint32_t rate);
+void tell_unheard(FILE *out, const char *path, const struct score *score, size_t samples, uint32_t rate);
 
 /* settings.c: the voice's settings, as options, in words and in a shelf's head; and the length of a sound. */
 
@@ -163,6 +180,7 @@ struct arguments {
     bool or_no_operands;
 };
 
+bool is_help(const char *word);
 bool read_arguments(char **given, const struct arguments *takes, struct why *why);
 bool read_number(const char *name, const char *text, double *value, struct why *why);
 bool read_whole(const char *name, const char *unit, const char *text, uint64_t most, uint64_t *value, struct why *why);
@@ -226,9 +244,9 @@ struct wav {
     uint32_t rate;
     size_t samples, data;
     char gain[32];
-    unsigned format, channels, align;
+    unsigned format, channels, align, extension;
     uint32_t byte_rate, fact;
-    size_t bytes;
+    size_t fmt, bytes;
     bool has_fmt, has_fact;
 };
 
@@ -272,10 +290,17 @@ struct peak {
 
 struct peak peak_of(const double *from, size_t samples);
 double level_of(const double *from, size_t samples);
-/* In percent, never below -100. */
+/* Whether a level stands beside silence: no percent says how far it is off. */
+bool is_off_silence(double level, double reference);
+/* In percent, never below -100; 100 beside silence. */
 double percent_off(double level, double reference);
-/* The peak in words, with the line's end; and after a path. */
-void put_peak(FILE *out, struct peak peak, uint32_t rate);
+#define OFF_ROOM 48u
+/* How far it is off, in words, which may stand in the room. */
+const char *off_words(double level, double reference, char room[OFF_ROOM]);
+/* The peak in words, with the line's end, where whole of a WAV of whole numbers, which no player clips; and after a
+ * path.
+ */
+void put_peak(FILE *out, struct peak peak, uint32_t rate, bool whole);
 void tell_peak(FILE *out, const char *path, struct peak peak, uint32_t rate);
 
 /* export.c: the bits and the gain of a WAV. */
@@ -305,7 +330,7 @@ size_t export_clips(const struct export *export, const double *at, size_t sample
            MOST_SCORE / 8u + 1u))
 
 /* The version of the file's layout. */
-#define SHELF_LAYOUT 2u
+#define SHELF_LAYOUT 3u
 
 /* What stands in the file beside the words of the entries. */
 struct shelf_file {
@@ -323,7 +348,10 @@ bool shelf_begins(const uint8_t *file, size_t len);
 bool shelf_look(const uint8_t *file, size_t len, struct shelf_file *about, struct why *why);
 /* The entries of a file that was looked at, into a sound of its length. */
 void shelf_words(const uint8_t *file, struct sound *sound);
-/* The sum of a section of 4,096 samples that stands beside an entry; and that of the WAV's bytes. */
+/* How many sections of 4,096 samples there are, the last one perhaps shorter; and the sample after a section's last. */
+size_t sections_of(size_t samples);
+size_t section_end(size_t samples, size_t section);
+/* The sum of a section that stands beside an entry; and that of the WAV's bytes. */
 uint64_t shelf_sum(const uint8_t *file, size_t section);
 uint64_t section_sum(const struct wav *wav, const uint8_t *file, size_t section);
 

@@ -9,8 +9,6 @@
 #include <sys/stat.h>
 #include <unistd.h>
 
-/* A temporary name is this and 16 hex digits. */
-#define OWN_NAME ".desk-"
 /* A lock is tried again where the file behind it was just renamed or removed by another desk. */
 #define MOST_TRIES 100u
 
@@ -25,16 +23,20 @@ static mode_t new_mode(void) {
     return 0666 & ~mask;
 }
 
-/* The file that a path names, through links, there or not; and the mode that the new one gets. */
+/* The file that a path names, through links, there or not; and the mode, owner and group that the new one gets. */
 static bool find_target(struct draft *draft, struct why *why) {
     struct stat found;
     const char *path = draft->path;
     if (path[0] == '\0') return refuse(why, "a file without a name cannot be written");
     draft->mode = new_mode();
+    draft->owner = geteuid();
+    draft->group = (gid_t)-1;
     if (stat(path, &found) == 0) {
         if (!S_ISREG(found.st_mode)) return refuse(why, "%s: it is no ordinary file, and is left as it is", path);
         if (access(path, W_OK) != 0) return refuse(why, "%s: cannot be written: %s", path, strerror(errno));
         draft->mode = found.st_mode & 0777;
+        draft->owner = found.st_uid;
+        draft->group = found.st_gid;
     } else if (errno != ENOENT) {
         return refuse(why, "%s: cannot be written: %s", path, strerror(errno));
     }
@@ -42,7 +44,7 @@ static bool find_target(struct draft *draft, struct why *why) {
     if (!draft->target) return refuse(why, "%s: cannot be written: %s", path, strerror(errno));
     const char *name = draft->target + folder_of(draft->target);
     if (name[0] == '\0') return refuse(why, "%s: cannot be written: it is the name of a folder", path);
-    if (strncmp(name, OWN_NAME, strlen(OWN_NAME)) == 0) {
+    if (is_own_name(path)) {
         return refuse(why, "%s: names that begin with %s are the desk's own", path, OWN_NAME);
     }
     return true;
@@ -80,7 +82,8 @@ static bool told_to_end(void) {
     return told;
 }
 
-/* Opens the temporary file, there or not; nothing but an ordinary file of the caller's with one name is taken. */
+/* Opens the temporary file, there or not; nothing but an ordinary file with one name, of the caller's or of the
+   target's owner, is taken. */
 static enum lock open_temporary(const struct draft *draft, int *fd, struct why *why) {
     struct stat found;
     *fd = open(draft->temporary, O_RDWR | O_CREAT | O_NOFOLLOW | O_NONBLOCK | O_CLOEXEC, 0600);
@@ -90,24 +93,29 @@ static enum lock open_temporary(const struct draft *draft, int *fd, struct why *
                strerror(errno));
         return TAKEN;
     }
-    if (opened && S_ISREG(found.st_mode) && found.st_uid == geteuid() && found.st_nlink <= 1) {
+    bool ours = opened && (found.st_uid == geteuid() || found.st_uid == draft->owner);
+    if (ours && S_ISREG(found.st_mode) && found.st_nlink <= 1) {
         return found.st_nlink == 1 ? LOCKED : GONE;
     }
-    refuse(why, "%s: %s, where it would be written first, is no ordinary file of yours alone", draft->path,
-           draft->temporary);
+    refuse(why,
+           "%s: %s, where it would be written first, is no ordinary file of yours alone: move it away or remove it, "
+           "and try again",
+           draft->path, draft->temporary);
     return TAKEN;
+}
+
+/* Whether the open file is the one that has the temporary name: another hand may have removed or replaced it. */
+static bool has_its_name(const struct draft *draft, int fd) {
+    struct stat mine, named;
+    return fstat(fd, &mine) == 0 && lstat(draft->temporary, &named) == 0 && mine.st_dev == named.st_dev &&
+           mine.st_ino == named.st_ino;
 }
 
 /* Locks the whole file. It is a lock by fcntl, since such a lock names the process that holds it. */
 static enum lock lock_file(const struct draft *draft, int fd, struct why *why) {
     struct flock lock = {.l_type = F_WRLCK, .l_whence = SEEK_SET};
-    struct stat mine, named;
-    if (fcntl(fd, F_SETLK, &lock) == 0) {
-        /* A lock on a file that has another name by now, or none, is none. */
-        bool still = fstat(fd, &mine) == 0 && lstat(draft->temporary, &named) == 0 && mine.st_dev == named.st_dev &&
-                     mine.st_ino == named.st_ino;
-        return still ? LOCKED : GONE;
-    }
+    /* A lock on a file that has another name by now, or none, is none. */
+    if (fcntl(fd, F_SETLK, &lock) == 0) return has_its_name(draft, fd) ? LOCKED : GONE;
     if (errno != EACCES && errno != EAGAIN) {
         refuse(why, "%s: %s, where it would be written first, cannot be locked: %s", draft->path, draft->temporary,
                strerror(errno));
@@ -149,6 +157,10 @@ bool draft_open(struct draft *draft, const char *path, struct why *why) {
     if (!names_file(path, why) || !find_target(draft, why)) return false;
     draft->temporary = temporary_name(draft->target);
     if (!draft->temporary) return refuse(why, "%s: no memory for a name beside it", path);
+    if (same_file("-", draft->temporary)) {
+        return refuse(why, "%s: %s, where it would be written first, is standard input: give that file another name",
+                      path, draft->temporary);
+    }
     let_signals_wait(draft);
     if (!take_temporary(draft, why)) return false;
     /* What a killed desk left goes. */
@@ -161,8 +173,14 @@ bool draft_write(struct draft *draft, const void *at, size_t len, struct why *wh
     return refuse(why, "%s: cannot be written: %s", draft->path, strerror(errno));
 }
 
+/* Who may not give a file away keeps it; the group is kept by itself, then. */
+static bool keep_owner(const struct draft *draft) {
+    return fchown(draft->fd, draft->owner, draft->group) == 0 || fchown(draft->fd, (uid_t)-1, draft->group) == 0 ||
+           errno == EPERM;
+}
+
 bool draft_seal(struct draft *draft, struct why *why) {
-    bool kept = fchmod(draft->fd, draft->mode) == 0 && (fsync(draft->fd) == 0 || errno == EINVAL);
+    bool kept = keep_owner(draft) && fchmod(draft->fd, draft->mode) == 0 && (fsync(draft->fd) == 0 || errno == EINVAL);
     return kept ? true : refuse(why, "%s: cannot be written: %s", draft->path, strerror(errno));
 }
 
@@ -186,10 +204,19 @@ static bool sync_folder(const char *target) {
     return synced;
 }
 
+/* What has the temporary name now may be another desk's, and is not renamed. */
+static bool is_kept(const struct draft *draft, struct why *why) {
+    if (has_its_name(draft, draft->fd)) return true;
+    return refuse(why, "%s: %s, where it was written first, was removed or replaced meanwhile; %s is not written",
+                  draft->path, draft->temporary, draft->path);
+}
+
 bool draft_publish(struct draft *draft, struct why *why) {
+    if (!is_kept(draft, why)) return false;
     if (rename(draft->temporary, draft->target) != 0) {
         return refuse(why, "%s: the new file cannot take its name: %s", draft->path, strerror(errno));
     }
+    why->written++;
     free(draft->temporary);
     draft->temporary = NULL;
     if (sync_folder(draft->target)) return true;
@@ -197,8 +224,8 @@ bool draft_publish(struct draft *draft, struct why *why) {
 }
 
 void draft_drop(struct draft *draft) {
-    /* Only the holder of the lock may remove the file; the lock goes last. */
-    if (draft->fd >= 0 && draft->temporary) unlink(draft->temporary);
+    /* Only the holder of the lock may remove the file, and no other file of its name; the lock goes last. */
+    if (draft->fd >= 0 && draft->temporary && has_its_name(draft, draft->fd)) unlink(draft->temporary);
     if (draft->fd >= 0) close(draft->fd);
     free(draft->temporary);
     free(draft->target);
@@ -218,13 +245,26 @@ static bool write_one(struct draft *draft, const struct bytes *bytes, struct why
     return !bytes->at || (draft_write(draft, bytes->at, bytes->len, why) && draft_seal(draft, why));
 }
 
+/* Neither takes its name where one of them is gone. */
+static bool both_kept(const struct pair *pair, const struct bytes *wav, const struct bytes *shelf, struct why *why) {
+    return (!wav->at || is_kept(&pair->wav, why)) && (!shelf->at || is_kept(&pair->shelf, why));
+}
+
 /* Where the shelf cannot take its name after the WAV has, it is still the old score's, and says so of the WAV by its
    sums; the same edit can be made again. */
+static bool publish_both(struct pair *pair, const struct bytes *wav, const struct bytes *shelf, struct why *why) {
+    if ((!wav->at || draft_publish(&pair->wav, why)) && (!shelf->at || draft_publish(&pair->shelf, why))) return true;
+    if (pair->wav.temporary || !shelf->at || !pair->shelf.temporary) return false;
+    return preface(why,
+                   "%s is the new score's already, and %s is not; the same call can be made again: ", pair->wav.path,
+                   pair->shelf.path);
+}
+
 bool pair_write(struct pair *pair, const struct bytes *wav, const struct bytes *shelf, struct why *why) {
     /* A signal that came while the sound was made ends the program after the drop. */
     if (told_to_end()) return refuse(why, "told to end; nothing is written");
-    return write_one(&pair->wav, wav, why) && write_one(&pair->shelf, shelf, why) &&
-           (!wav->at || draft_publish(&pair->wav, why)) && (!shelf->at || draft_publish(&pair->shelf, why));
+    return write_one(&pair->wav, wav, why) && write_one(&pair->shelf, shelf, why) && both_kept(pair, wav, shelf, why) &&
+           publish_both(pair, wav, shelf, why);
 }
 
 void pair_drop(struct pair *pair) {

@@ -15,7 +15,7 @@
 
 static bool is_standard_input(const char *path) { return strcmp(path, "-") == 0; }
 
-static const char *shown(const char *path) { return is_standard_input(path) ? "standard input" : path; }
+const char *shown_path(const char *path) { return is_standard_input(path) ? "standard input" : path; }
 
 /* Reads until the room is full or the file ends; false with errno set where a read fails. */
 static bool read_from(int fd, uint8_t *at, size_t room, size_t *len) {
@@ -32,8 +32,20 @@ static bool read_from(int fd, uint8_t *at, size_t room, size_t *len) {
     return true;
 }
 
+bool is_own_name(const char *path) {
+    char *end = behind_links(path);
+    bool own = end && strncmp(end + folder_of(end), OWN_NAME, strlen(OWN_NAME)) == 0;
+    free(end);
+    return own;
+}
+
+/* What has a temporary name is gone when a desk is at work beside it, and so is not read. */
 static int open_input(const char *path, struct why *why) {
     if (is_standard_input(path)) return STDIN_FILENO;
+    if (is_own_name(path)) {
+        refuse(why, "%s: names that begin with %s are the desk's own: give the file another name", path, OWN_NAME);
+        return -1;
+    }
     int fd = open(path, O_RDONLY | O_CLOEXEC);
     if (fd < 0) refuse(why, "%s: cannot be opened: %s", path, strerror(errno));
     return fd;
@@ -47,7 +59,7 @@ bool read_into(const char *path, uint8_t *at, size_t room, size_t *len, struct w
     int fd = open_input(path, why);
     if (fd < 0) return false;
     bool read = read_from(fd, at, room, len);
-    if (!read) refuse(why, "%s: cannot be read: %s", shown(path), strerror(errno));
+    if (!read) refuse(why, "%s: cannot be read: %s", shown_path(path), strerror(errno));
     close_input(path, fd);
     return read;
 }
@@ -74,7 +86,7 @@ bool read_file(const char *path, size_t most, struct bytes *file, struct why *wh
     if (fd < 0) return false;
     bool fine = read_growing(fd, most, file);
     if (!fine) {
-        refuse(why, "%s: cannot be read: %s", shown(path), strerror(errno));
+        refuse(why, "%s: cannot be read: %s", shown_path(path), strerror(errno));
         free(file->at);
         *file = (struct bytes){.at = NULL};
     }
@@ -158,11 +170,14 @@ static bool same_new_file(const char *one, const char *other) {
     return same;
 }
 
+static bool look_at_file(const char *path, struct stat *found) {
+    return (is_standard_input(path) ? fstat(STDIN_FILENO, found) : stat(path, found)) == 0;
+}
+
 bool same_file(const char *one, const char *other) {
     struct stat a, b;
-    if (is_standard_input(one) || is_standard_input(other)) return false;
     if (strcmp(one, other) == 0) return true;
-    bool there = stat(one, &a) == 0, other_there = stat(other, &b) == 0;
+    bool there = look_at_file(one, &a), other_there = look_at_file(other, &b);
     if (there != other_there) return false;
     return there ? same_inode(&a, &b) : same_new_file(one, other);
 }

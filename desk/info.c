@@ -57,7 +57,7 @@ static bool tell_values(const struct bytes *file, const struct wav *wav, struct 
     wav_values(wav, file->at, 0, wav->samples, values);
     size_t wild = first_wild(values, wav->samples);
     put_name("peak");
-    put_peak(stdout, peak_of(values, wav->samples), wav->rate);
+    put_peak(stdout, peak_of(values, wav->samples), wav->rate, wav->bits < 32);
     if (wild < wav->samples) {
         put_name("wild");
         printf("sample %zu is no finite number\n", wild);
@@ -110,6 +110,10 @@ static bool tell_shelf(const char *path, const struct bytes *file, struct why *w
     put_name("WAV");
     printf("%u-bit floats\n", about.bits);
     tell_records(&about.score);
+    if (count_unheard(&about.score, about.samples) > 0) {
+        put_name("unheard");
+        put_unheard(stdout, &about.score, about.samples, about.settings.rate);
+    }
     return true;
 }
 
@@ -118,7 +122,7 @@ static bool tell_shelf(const char *path, const struct bytes *file, struct why *w
 static bool tell_score(const char *path, const struct bytes *file, struct why *why) {
     struct score score = {.len = file->len < sizeof score.at ? file->len : sizeof score.at};
     if (score.len > 0) memcpy(score.at, file->at, score.len);
-    printf("%s: score\n", path);
+    printf("%s: %s\n", path, file->len > 0 ? "score" : "empty file: a score of no records");
     if (!check_score(NULL, &score, why)) return false;
     tell_records(&score);
     return true;

@@ -18,6 +18,8 @@ double level_of(const double *from, size_t samples) {
     return samples > 0 ? sqrt(sum / (double)samples) : 0;
 }
 
+bool is_off_silence(double level, double reference) { return level > 0 && !(reference > 0); }
+
 /* The quotient is rounded, and would be a little below -100 of some references; no level is less than nothing. */
 double percent_off(double level, double reference) {
     if (!(reference > 0)) return level > 0 ? 100 : 0;
@@ -25,15 +27,22 @@ double percent_off(double level, double reference) {
     return percent < -100 ? -100 : percent;
 }
 
-void put_peak(FILE *out, struct peak peak, uint32_t rate) {
+const char *off_words(double level, double reference, char room[OFF_ROOM]) {
+    if (!isfinite(level)) return "no level: a sample is no number, or beyond counting";
+    if (is_off_silence(level, reference)) return "the render is silent there";
+    snprintf(room, OFF_ROOM, "level off by %+.6g %%", percent_off(level, reference));
+    return room;
+}
+
+void put_peak(FILE *out, struct peak peak, uint32_t rate, bool whole) {
     if (peak.level < 0) {
         fprintf(out, "none: there are no samples\n");
         return;
     }
     fprintf(out, "%.6g at sample %zu", peak.level, peak.at);
     if (rate > 0) fprintf(out, " (%.3f s)", (double)peak.at / rate);
-    /* Rounded up, so that a gain of so much less is enough. */
-    if (peak.level > 1) {
+    /* Rounded up, so that a gain of so much less is enough. The lowest whole number is a step below -1, and no clip. */
+    if (peak.level > 1 && !whole) {
         fprintf(out, "; a player clips above 1, and this is %.2f dB above", ceil(2000 * log10(peak.level)) / 100);
     }
     fprintf(out, "\n");
@@ -41,5 +50,5 @@ void put_peak(FILE *out, struct peak peak, uint32_t rate) {
 
 void tell_peak(FILE *out, const char *path, struct peak peak, uint32_t rate) {
     fprintf(out, "%s: peak ", path);
-    put_peak(out, peak, rate);
+    put_peak(out, peak, rate, false);
 }

@@ -30,20 +30,29 @@ static const struct verb *find_verb(const char *name) {
     return NULL;
 }
 
-static bool is_help(const char *word) { return strcmp(word, "--help") == 0 || strcmp(word, "-h") == 0; }
+/* The first control character of a word; its end where there is none. */
+static const char *first_control(const char *word) {
+    while ((unsigned char)*word >= ' ' && *word != 127) word++;
+    return word;
+}
 
-static bool asks_for_help(char **given) {
-    for (; *given && strcmp(*given, "--") != 0; given++) {
-        if (is_help(*given)) return true;
+/* No name has a control character: a terminal would obey it, and a line of what is told would end there. */
+static bool are_plain(char **words, struct why *why) {
+    for (size_t i = 1; words[i]; i++) {
+        const char *at = first_control(words[i]);
+        if (*at)
+            return misuse(why, "argument %zu has a control character (code %d at byte %td)", i, *at, at - words[i]);
     }
-    return false;
+    return true;
 }
 
 /* What was printed has to arrive. */
 static bool flush_output(struct why *why) {
     errno = 0;
     if (fflush(stdout) == 0 && !ferror(stdout)) return true;
-    return refuse(why, "standard output: cannot be written: %s", errno ? strerror(errno) : "an earlier write failed");
+    const char *reason = errno ? strerror(errno) : "an earlier write failed";
+    const char *files = why->written ? counted(why->written, "; the file is written", "; the files are written") : "";
+    return refuse(why, "standard output: cannot be written: %s%s", reason, files);
 }
 
 /* The exit status; what went wrong, on standard error. */
@@ -70,7 +79,8 @@ static int help(char **given, struct why *why) {
 }
 
 static int run(const struct verb *verb, char **given, struct why *why) {
-    if (!asks_for_help(given)) return end(verb->name, verb->run(given, why), why);
+    bool done = verb->run(given, why);
+    if (!why->help) return end(verb->name, done, why);
     put_help(verb);
     return end(verb->name, true, why);
 }
@@ -92,6 +102,7 @@ int main(int argc, char **argv) {
         put_usage(stderr);
         return MISUSED;
     }
+    if (!are_plain(argv, &why)) return end("", false, &why);
     const struct verb *verb = find_verb(argv[1]);
     if (verb) return run(verb, argv + 2, &why);
     if (is_help(argv[1]) || strcmp(argv[1], "help") == 0) return help(argv + 2, &why);

@@ -27,7 +27,7 @@ static bool run_make(char **given, struct why *why) {
     if (!read_arguments(given, &(struct arguments){.options = options, .operands = operands}, why)) return false;
     if (!out) return misuse(why, "-o SCORE is missing");
     if (!names_file(out, why)) return false;
-    if (same_file(path, out)) return misuse(why, "%s would be written over itself", path);
+    if (same_file(path, out)) return misuse(why, "%s would be written over itself", shown_path(path));
     if (!read_text(path, &score, why) || !write_score(out, &score, why)) return false;
     size_t records = score.len / RECORD_BYTES;
     printf("%s: %zu %s, %zu bytes\n", out, records, counted(records, "record", "records"), score.len);

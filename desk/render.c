@@ -29,7 +29,7 @@ static bool check_paths(const struct render *r, struct why *why) {
     if (is_pipe(r)) return check_pipe(r, why);
     if (r->shelf_path && !names_file(r->shelf_path, why)) return false;
     if (same_file(r->score_path, r->wav_path) || (r->shelf_path && same_file(r->score_path, r->shelf_path))) {
-        return misuse(why, "%s would be written over", r->score_path);
+        return misuse(why, "%s would be written over", shown_path(r->score_path));
     }
     if (r->shelf_path && same_file(r->shelf_path, r->wav_path)) {
         return misuse(why, "the WAV and the shelf are one file");
@@ -99,7 +99,9 @@ static void tell_wav(FILE *out, const char *path, const struct render *r) {
 /* What goes into a pipe is told beside it. */
 static void tell(const struct render *r) {
     size_t entries = r->sound.words / GAV_STATE_WORDS;
-    tell_wav(is_pipe(r) ? stderr : stdout, is_pipe(r) ? "standard output" : r->wav_path, r);
+    FILE *out = is_pipe(r) ? stderr : stdout;
+    tell_wav(out, is_pipe(r) ? "standard output" : r->wav_path, r);
+    tell_unheard(out, r->score_path, &r->about.score, r->about.samples, r->about.settings.rate);
     if (!r->shelf_path) return;
     printf("%s: %zu %s of %d words\n", r->shelf_path, entries, counted(entries, "entry", "entries"), GAV_STATE_WORDS);
 }
@@ -124,6 +126,8 @@ const struct verb render_verb = {
     .summary = "renders a score to a WAV, with a shelf for later edits",
     .help = "desk render SCORE -o OUT.wav [options]\n"
             "Renders every sample of the score from sample zero. SCORE may be - for standard input.\n"
+            "A file that is there keeps its mode, and where possible its owner and group. It is replaced as a whole:\n"
+            "other names of it (hard links) keep the old file.\n"
             "The sound has at most 16777216 samples (349.5 s at 48000 Hz).\n"
             "An export, by --bits 16 or 24 or by --gain, is for other programs: it has no shelf, since a re-render\n"
             "would go on without its rounding or its gain.\n"

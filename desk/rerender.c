@@ -3,7 +3,8 @@
 
 #include <stdlib.h>
 
-/* The files as they were read, and the shelf as it will be. */
+/* The files as they were read, and the shelf as it will be. foreign: sections behind the mark that were of another
+   sound, neither the old score's nor the new one's. */
 struct rerender {
     const char *new_path, *wav_path, *shelf_path;
     struct score after;
@@ -13,7 +14,7 @@ struct rerender {
     struct pair pair;
     struct sound sound;
     bool equal;
-    size_t count;
+    size_t count, foreign;
 };
 
 /* Whether the shelf can be this WAV's, by what its head says. */
@@ -53,31 +54,37 @@ static bool rerender_sound(struct rerender *r, struct why *why) {
     return accepted(said, &asked, why);
 }
 
-/* Whether the WAV's bytes in these sections, up to but not with the last, are those that the shelf was made with. */
-static bool sections_are_kept(const struct rerender *r, size_t first, size_t last, struct why *why) {
-    for (size_t i = first; i < last; i++) {
-        if (section_sum(&r->wav, r->wav_file.at, i) == shelf_sum(r->shelf_file.at, i)) continue;
-        size_t from = i * GAV_MARK, to = from + GAV_MARK < r->wav.samples ? from + GAV_MARK : r->wav.samples;
-        return refuse(why,
-                      "from sample %zu on %s is not what %s was made with (a sample of %zu to %zu differs), and a "
-                      "re-render would leave it so; nothing is written: render again with `desk render`",
-                      from, r->wav_path, r->shelf_path, from, to - 1);
-    }
-    return true;
-}
-
 /* What is not made anew has to be as the shelf says: all that stands before the mark, and all where nothing is made. */
 static bool rest_is_kept(const struct rerender *r, struct why *why) {
-    size_t mark = r->about.samples - r->count;
-    return sections_are_kept(r, 0, (mark + GAV_MARK - 1) / GAV_MARK, why);
+    size_t mark = r->about.samples - r->count, stay = (mark + GAV_MARK - 1) / GAV_MARK, differ = 0, first = 0;
+    for (size_t i = stay; i-- > 0;) {
+        if (section_sum(&r->wav, r->wav_file.at, i) == shelf_sum(r->shelf_file.at, i)) continue;
+        differ++;
+        first = i;
+    }
+    if (differ == 0) return true;
+    return refuse(
+        why,
+        "samples %zu to %zu of %s are not what %s was made with; of %zu %s that a re-render would leave as it "
+        "is, %zu %s; nothing is written: render again with `desk render`",
+        first * GAV_MARK, section_end(r->wav.samples, first) - 1, r->wav_path, r->shelf_path, stay,
+        counted(stay, "section", "sections"), differ, counted(differ, "differs", "differ"));
+}
+
+/* Puts the new samples of a section; whether what stood there was of another sound. */
+static bool replace_section(struct rerender *r, size_t section) {
+    size_t first = section * GAV_MARK, samples = section_end(r->wav.samples, section) - first;
+    uint64_t before = section_sum(&r->wav, r->wav_file.at, section);
+    wav_samples(r->wav.bits, r->sound.at + first, samples, r->wav_file.at + r->wav.data + r->wav.bits / 8 * first);
+    return before != shelf_sum(r->shelf_file.at, section) && before != section_sum(&r->wav, r->wav_file.at, section);
 }
 
 /* What stands before the mark keeps its bytes; from there on the new samples stand. */
 static bool make_wav(struct rerender *r, struct why *why) {
-    size_t mark = r->about.samples - r->count, frame = r->wav.bits / 8;
+    size_t first = (r->about.samples - r->count) / GAV_MARK;
     r->wav_file.len = wav_without_peak(r->wav_file.at, r->wav_file.len);
     if (!wav_look(r->wav_file.at, r->wav_file.len, &r->wav, why)) return preface(why, "%s: ", r->wav_path);
-    wav_samples(r->wav.bits, r->sound.at + mark, r->count, r->wav_file.at + r->wav.data + frame * mark);
+    for (size_t i = first; i < sections_of(r->wav.samples); i++) r->foreign += replace_section(r, i);
     return true;
 }
 
@@ -89,6 +96,14 @@ static bool write_files(struct rerender *r, struct why *why) {
     r->about.score = r->after;
     return shelf_bytes(&r->about, &r->sound, &r->wav, r->wav_file.at, &r->new_shelf, why) &&
            pair_write(&r->pair, r->count > 0 ? &r->wav_file : &nothing, &r->new_shelf, why);
+}
+
+static void tell_foreign(const struct rerender *r) {
+    size_t sections = sections_of(r->about.samples) - (r->about.samples - r->count) / GAV_MARK;
+    if (r->foreign == 0) return;
+    printf("%s: %zu of %zu %s behind the mark %s of another sound; %s the new score's now\n", r->wav_path, r->foreign,
+           sections, counted(sections, "section", "sections"), counted(r->foreign, "was", "were"),
+           counted(r->foreign, "it is", "they are"));
 }
 
 /* The peak of the whole sound, of which the voice made only the end. */
@@ -103,8 +118,10 @@ static void tell(struct rerender *r) {
         printf("%s: %zu of %zu %s rendered again, from sample %zu (%.3f s) on\n", r->wav_path, r->count, samples, of,
                mark, (double)mark / r->about.settings.rate);
     }
+    tell_foreign(r);
     wav_values(&r->wav, r->wav_file.at, 0, samples, r->sound.at);
     tell_peak(stdout, r->wav_path, peak_of(r->sound.at, samples), r->wav.rate);
+    tell_unheard(stdout, r->new_path, &r->after, samples, r->wav.rate);
 }
 
 static bool read_rerender(char **given, struct rerender *r, struct why *why) {
@@ -116,7 +133,7 @@ static bool read_rerender(char **given, struct rerender *r, struct why *why) {
     if (!names_file(r->wav_path, why) || !names_file(r->shelf_path, why)) return false;
     if (same_file(r->shelf_path, r->wav_path)) return misuse(why, "the WAV and the shelf are one file");
     if (same_file(r->new_path, r->wav_path) || same_file(r->new_path, r->shelf_path)) {
-        return misuse(why, "%s would be written over", r->new_path);
+        return misuse(why, "%s would be written over", shown_path(r->new_path));
     }
     return read_score(r->new_path, &r->after, why);
 }
@@ -146,8 +163,11 @@ const struct verb rerender_verb = {
         "last\n"
         "mark (every 4096 samples) at or before the first changed record on are rendered; the bytes before stay as\n"
         "they came, and are compared with the shelf's sums of them. So both files are then what a render of NEW from\n"
-        "sample zero gives. The settings and the length are the shelf's. NEW may be - for standard input.\n"
-        "A shelf that is damaged, or of another WAV, is named, and so is a WAV that was changed since: nothing is\n"
-        "written then.\n",
+        "sample zero with the shelf's settings and length gives. The length stays: records of NEW at or past the end\n"
+        "are not heard, and are told. NEW may be - for standard input.\n"
+        "A shelf that is damaged, or of another length, rate or bits than the WAV, is named, and nothing is written.\n"
+        "A WAV that is not the shelf's is named where it differs before the mark, and nothing is written; what lies\n"
+        "behind the mark is made anew, and told where it was of another sound. Chunks of other programs stay, but for\n"
+        "PEAK, which new samples make wrong.\n",
     .run = run_rerender,
 };

@@ -1,4 +1,4 @@
-/* A score as the desk holds it. */
+/* A score as the desk holds it, and what of it is not heard. */
 #include "desk.h"
 
 #include <string.h>
@@ -25,4 +25,27 @@ uint32_t position_of(const struct score *score, size_t record) {
 
 bool same_score(const struct score *one, const struct score *other) {
     return one->len == other->len && memcmp(one->at, other->at, one->len) == 0;
+}
+
+/* Positions never fall, so that the records that are not heard are the last ones. */
+size_t count_unheard(const struct score *score, size_t samples) {
+    size_t records = score->len / RECORD_BYTES, heard = records;
+    while (heard > 0 && position_of(score, heard - 1) >= samples) heard--;
+    return records - heard;
+}
+
+void put_unheard(FILE *out, const struct score *score, size_t samples, uint32_t rate) {
+    size_t count = count_unheard(score, samples);
+    uint32_t first = position_of(score, score->len / RECORD_BYTES - count);
+    fprintf(out,
+            "%zu %s at or past the end, sample %zu (the first at sample %u, %.3f s), and %s not heard: `desk render` "
+            "without --seconds makes a sound that has %s\n",
+            count, counted(count, "record lies", "records lie"), samples, first, (double)first / rate,
+            counted(count, "is", "are"), counted(count, "it", "them"));
+}
+
+void tell_unheard(FILE *out, const char *path, const struct score *score, size_t samples, uint32_t rate) {
+    if (count_unheard(score, samples) == 0) return;
+    fprintf(out, "%s: ", path);
+    put_unheard(out, score, samples, rate);
 }

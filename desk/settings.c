@@ -151,7 +151,8 @@ static bool read_field(const struct setting *row, const char *text, struct gav_s
     } else if (row->kind == WAVE) {
         read = read_wave(row->option, text, &word, why);
     } else {
-        read = read_whole(row->option, row->unit, text, UINT32_MAX, &word, why);
+        /* A unit stands behind its number with a blank. */
+        read = read_whole(row->option, row->unit + strspn(row->unit, " "), text, UINT32_MAX, &word, why);
     }
     if (read) set_field(row, settings, word);
     return read;

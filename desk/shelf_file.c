@@ -2,7 +2,7 @@
    bytes, low byte first:
 
        0        "GAVSHELF"
-       1        the version of this layout, 2
+       1        the version of this layout, 3
        2        the version of the voice
        3        N, the samples of the sound
        4        bits of a sample in the WAV, 32 or 64
@@ -25,7 +25,12 @@ enum word { MAGIC, LAYOUT, VOICE, SAMPLES, BITS, SCORE_LEN, ENTRY_WORDS, BESIDE_
 
 static const char magic[] = "GAVSHELF";
 
-static size_t sections_of(size_t samples) { return gav_shelf_words(samples) / GAV_STATE_WORDS; }
+size_t sections_of(size_t samples) { return gav_shelf_words(samples) / GAV_STATE_WORDS; }
+
+size_t section_end(size_t samples, size_t section) {
+    size_t first = section * GAV_MARK;
+    return samples - first < GAV_MARK ? samples : first + GAV_MARK;
+}
 
 /* Where the words of a section stand, and where the score does. */
 static size_t section_at(size_t section) { return HEAD + 8 * SECTION_WORDS * section; }
@@ -36,8 +41,8 @@ static size_t score_at(size_t samples) { return section_at(sections_of(samples))
 static size_t file_len(size_t samples, size_t score_len) { return score_at(samples) + (score_len + 7) / 8 * 8 + 8; }
 
 uint64_t section_sum(const struct wav *wav, const uint8_t *file, size_t section) {
-    size_t frame = wav->bits / 8, first = section * GAV_MARK, left = wav->samples - first;
-    return sum_of(file + wav->data + frame * first, frame * (left < GAV_MARK ? left : GAV_MARK));
+    size_t frame = wav->bits / 8, first = section * GAV_MARK;
+    return sum_of(file + wav->data + frame * first, frame * (section_end(wav->samples, section) - first));
 }
 
 uint64_t shelf_sum(const uint8_t *file, size_t section) {
@@ -77,27 +82,32 @@ bool shelf_bytes(const struct shelf_file *about, const struct sound *sound, cons
 
 bool shelf_begins(const uint8_t *file, size_t len) { return len >= 8 && memcmp(file, magic, 8) == 0; }
 
-/* Its own marks: the magic word, the length, the sum, and then the versions. A shelf of version 1 has another sum. */
+/* A shelf of another version is told as such whatever its sum, since that version may have another sum. */
+static bool look_at_version(uint64_t layout, struct why *why) {
+    if (layout == SHELF_LAYOUT) return true;
+    return refuse(
+        why,
+        "it is a shelf of %s version, %llu, or damaged there, and this desk has version %u: render again with "
+        "`desk render`",
+        layout > SHELF_LAYOUT ? "a later" : "an earlier", (unsigned long long)layout, SHELF_LAYOUT);
+}
+
+/* Its own marks: the magic word, the length, the version, the sum, and then the voice's version. */
 static bool look_at_marks(const uint8_t *file, size_t len, struct why *why) {
     if (!shelf_begins(file, len)) {
         return refuse(why, "it is no shelf of the desk: it does not begin with %s", magic);
     }
+    if (len >= 16 && !look_at_version(get_u64(file + 8 * LAYOUT), why)) return false;
     if (len > SHELF_MOST) return refuse(why, "it is damaged: it is longer than %zu bytes", (size_t)SHELF_MOST);
-    if (len >= 16 && get_u64(file + 8 * LAYOUT) == 1) {
-        return refuse(why,
-                      "it is a shelf of version 1, which says nothing of its WAV: render again with `desk render`");
-    }
     if (len < HEAD + 8) return refuse(why, "it is damaged: it is cut short after %zu bytes", len);
     if (sum_of(file, len - 8) != get_u64(file + len - 8)) {
         return refuse(why, "it is damaged or cut short: the sum of its %zu bytes is not the one that stands at its end",
                       len);
     }
-    uint64_t layout = get_u64(file + 8 * LAYOUT), voice = get_u64(file + 8 * VOICE);
-    if (layout == SHELF_LAYOUT && voice == gav_version()) return true;
-    return refuse(why,
-                  "it is a shelf of version %llu, voice %llu, and this desk has version %u, voice %u: render again "
-                  "with `desk render`",
-                  (unsigned long long)layout, (unsigned long long)voice, SHELF_LAYOUT, (unsigned)gav_version());
+    uint64_t voice = get_u64(file + 8 * VOICE);
+    if (voice == gav_version()) return true;
+    return refuse(why, "it is a shelf of voice %llu, and this desk has voice %u: render again with `desk render`",
+                  (unsigned long long)voice, (unsigned)gav_version());
 }
 
 /* The words of the head that say how long the file is. */

@@ -13,12 +13,15 @@ struct found {
     double largest;
 };
 
-/* Tells what is wrong, and keeps the first such words as the summary. */
+/* Tells what is wrong; the first such words are kept for the last line, and told there. */
 #define TELL_WRONG(found, ...)                                                                                         \
     do {                                                                                                               \
-        printf(__VA_ARGS__);                                                                                           \
-        printf("\n");                                                                                                  \
-        if ((found)->summary.status == DONE) refuse(&(found)->summary, __VA_ARGS__);                                   \
+        if ((found)->summary.status == DONE) {                                                                         \
+            refuse(&(found)->summary, __VA_ARGS__);                                                                    \
+        } else {                                                                                                       \
+            printf(__VA_ARGS__);                                                                                       \
+            printf("\n");                                                                                              \
+        }                                                                                                              \
     } while (0)
 
 static double seconds_at(const struct found *f, size_t sample) { return (double)sample / f->beside.settings.rate; }
@@ -41,21 +44,15 @@ static void compare(struct found *f) {
     }
 }
 
-/* The level of so many samples from one on, in percent off that of the render. */
-static double level_off(const struct found *f, size_t first, size_t samples) {
-    return percent_off(level_of(f->beside.held + first, samples), level_of(f->beside.zero.at + first, samples));
+/* How far the level of so many samples from one on is from that of the render, in words. */
+static const char *level_words(const struct found *f, size_t first, size_t samples, char room[OFF_ROOM]) {
+    return off_words(level_of(f->beside.held + first, samples), level_of(f->beside.zero.at + first, samples), room);
 }
 
-/* A percent for the eye; one that is no number has no sign. */
-static const char *shown(double percent, char room[32]) {
-    snprintf(room, 32, "%+.6g", percent);
-    return isnan(percent) ? "nan" : room;
-}
-
-static void tell_level(const struct found *f, size_t first, size_t samples) {
-    char room[32];
-    printf("%s: level off by %s %% from sample %zu to %zu: %.6g, and the render's is %.6g\n", f->beside.wav_path,
-           shown(level_off(f, first, samples), room), first, first + samples - 1,
+static void tell_level(const struct found *f, size_t first, size_t samples, const char *which) {
+    char room[OFF_ROOM];
+    printf("%s: %s %s, from sample %zu to %zu: %.6g, and the render's is %.6g\n", f->beside.wav_path,
+           level_words(f, first, samples, room), which, first, first + samples - 1,
            level_of(f->beside.held + first, samples), level_of(f->beside.zero.at + first, samples));
 }
 
@@ -63,17 +60,17 @@ static void tell_level(const struct found *f, size_t first, size_t samples) {
 static void tell_samples(struct found *f) {
     const struct from_zero *z = &f->beside;
     size_t section = f->first / GAV_MARK * GAV_MARK;
-    char room[32];
+    char room[OFF_ROOM];
     if (f->differ == 0) return;
-    TELL_WRONG(
-        f, "%s is not the score's: %zu of %zu samples differ, the first at sample %zu (%.3f s), level off by %s %%",
-        z->wav_path, f->differ, f->common, f->first, seconds_at(f, f->first), shown(level_off(f, 0, f->common), room));
+    TELL_WRONG(f, "%s is not the score's: %zu of %zu samples differ, the first at sample %zu (%.3f s), %s", z->wav_path,
+               f->differ, f->common, f->first, seconds_at(f, f->first), level_words(f, 0, f->common, room));
     printf("%s: sample %zu is %.17g, and the render's is %.17g\n", z->wav_path, f->first, z->held[f->first],
            z->zero.at[f->first]);
     printf("%s: largest difference %.6g at sample %zu (%.3f s)\n", z->wav_path, f->largest, f->largest_at,
            seconds_at(f, f->largest_at));
-    tell_level(f, 0, f->common);
-    tell_level(f, section, f->common - section < GAV_MARK ? f->common - section : GAV_MARK);
+    tell_level(f, 0, f->common, "in the whole");
+    tell_level(f, section, section_end(f->common, section / GAV_MARK) - section,
+               "in the section of the first difference");
 }
 
 /* What the WAV's head says, and the shelf or the options say otherwise. */
@@ -125,7 +122,7 @@ static void tell_sums(struct found *f) {
     }
     if (differ == 0) return;
     TELL_WRONG(f, "%s is of another WAV than %s: %zu of %zu sums differ, the first is that of samples %zu to %zu",
-               z->shelf_path, z->wav_path, differ, sections, first * GAV_MARK, first * GAV_MARK + GAV_MARK - 1);
+               z->shelf_path, z->wav_path, differ, sections, first * GAV_MARK, section_end(z->wav.samples, first) - 1);
 }
 
 static bool tell_shelf(struct found *f, struct why *why) {
@@ -148,10 +145,11 @@ static bool tell_shelf(struct found *f, struct why *why) {
 /* The last line, by which a script knows what was found. */
 static bool tell_summary(const struct found *f, struct why *why) {
     const struct from_zero *z = &f->beside;
+    tell_unheard(stdout, z->score_path, &z->score, z->zero.samples, z->settings.rate);
     if (f->summary.status != DONE) {
         printf("differs: %s\n", f->summary.text);
-        *why = f->summary;
-        return false;
+        return refuse(why, "%s%s%s: not what a render of %s gives", z->wav_path, z->shelf_path ? ", " : "",
+                      z->shelf_path ? z->shelf_path : "", z->score_path);
     }
     size_t entries = z->zero.words / GAV_STATE_WORDS;
     printf("same: %s is the score's: %zu %s", z->wav_path, f->common, counted(f->common, "sample", "samples"));
@@ -190,11 +188,21 @@ const struct verb verify_verb = {
             "Renders the score from sample zero, beside the files, and compares every sample as the WAV holds it,\n"
             "bit for bit; with --shelf also every entry, the shelf's score, and its sums of the WAV. Nothing is\n"
             "written. Settings and length are the shelf's; without --shelf the options', with the WAV's own rate\n"
-            "and length. An export (--bits 16 or 24, --gain) is not compared. The last line that is printed is, for\n"
-            "scripts, one of\n"
+            "and length. An export (--bits 16 or 24, --gain) is not compared. What differs is told line by line on\n"
+            "standard output. The last line there is, for scripts, one of\n"
             "  same: OUT.wav is the score's: N samples\n"
-            "  differs: WHAT DIFFERS FIRST\n"
-            "with exit status 0 and 1. Status 1 without such a line: it could not be compared, and why.\n"
+            "  same: OUT.wav is the score's: N samples, and FILE its shelf: N entries\n"
+            "with exit status 0, or, with exit status 1, the first of these that holds (N, I and S are numbers;\n"
+            "without a shelf `an option` says so, and not FILE)\n"
+            "  differs: OUT.wav has N Hz, and FILE says N Hz\n"
+            "  differs: OUT.wav has N samples, and FILE says N\n"
+            "  differs: OUT.wav has N bits a sample, and FILE says N\n"
+            "  differs: OUT.wav is not the score's: N of N samples differ, the first at sample I (S s), LEVEL\n"
+            "  differs: FILE is of another score than SCORE: they part at record I\n"
+            "  differs: FILE is not the score's shelf: N of N entries differ, the first is entry I, before sample I\n"
+            "  differs: FILE is of another WAV than OUT.wav: N of N sums differ, the first is that of samples I to I\n"
+            "where LEVEL is `level off by N %`, `the render is silent there`, or `no level: ..` and why.\n"
+            "Status 1 without such a line: it could not be compared, and why.\n"
             "One of the files may be - for standard input.\n"
             "  --shelf FILE     the shelf that OUT.wav was rendered with\n",
     .settings = true,

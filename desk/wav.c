@@ -147,6 +147,8 @@ static bool look_at_fmt(const uint8_t *at, size_t len, struct wav *wav, struct w
     wav->byte_rate = get_u32(at + 8);
     wav->align = get_u16(at + 12);
     wav->bits = get_u16(at + 14);
+    wav->fmt = len;
+    wav->extension = len >= 18 ? get_u16(at + 16) : 0;
     return true;
 }
 
@@ -212,8 +214,17 @@ bool wav_is_readable(const struct wav *wav) {
     return wav->channels == 1 && (whole || (wav->format == IEEE_FLOAT && is_float(wav->bits)));
 }
 
+/* A fmt chunk has 16 bytes, or two more, which say how many follow. */
+static bool fmt_agrees(const struct wav *wav, struct why *why) {
+    size_t first = wav->fmt > 16 ? 18 : 16;
+    if (wav->fmt == first + wav->extension) return true;
+    return refuse(why, "it is damaged: its fmt chunk has %zu bytes, and by what it says %zu", wav->fmt,
+                  first + wav->extension);
+}
+
 bool wav_agrees(const struct wav *wav, struct why *why) {
     uint32_t frame = wav->bits / 8;
+    if (!fmt_agrees(wav, why)) return false;
     if (wav->align != frame) {
         return refuse(why, "it is damaged: its block align is %u bytes, and a sample of %u bits has %u", wav->align,
                       wav->bits, frame);

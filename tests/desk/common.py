@@ -190,7 +190,7 @@ class Shelf:
         self.score = data[end : end + head["score_len"]]
         filled = self.score + b"\0" * (-len(self.score) % 8)
         fixed = tuple(head[name] for name in ("magic", "layout", "voice", "entry", "beside"))
-        hold(f"{path}: its head", fixed == (b"GAVSHELF", 2, voice_version(), STATE_WORDS, 1), f"{fixed}")
+        hold(f"{path}: its head", fixed == (b"GAVSHELF", 3, voice_version(), STATE_WORDS, 1), f"{fixed}")
         hold(f"{path}: free words", not any(SHELF_HEAD.unpack_from(data)[len(SHELF_NAMES) :]))
         hold(f"{path}: its end", data[end:] == filled + struct.pack("<Q", sum_of(data[:-8])), f"{len(data)} bytes")
 
@@ -200,7 +200,7 @@ def sum_of(data):
     total = 0xCBF29CE484222325 ^ len(data)
     for (word,) in struct.iter_unpack("<Q", data + b"\0" * (-len(data) % 8)):
         total = (total ^ word) * 0x9E3779B97F4A7C15 & (2**64 - 1)
-        total ^= total >> 29
+        total = (total ^ total >> 32) * 0xD6E8FEB86659FD93 & (2**64 - 1)
     return total
 
 
