@@ -330,7 +330,7 @@ size_t export_clips(const struct export *export, const double *at, size_t sample
            MOST_SCORE / 8u + 1u))
 
 /* The version of the file's layout. */
-#define SHELF_LAYOUT 3u
+#define SHELF_LAYOUT 2u
 
 /* What stands in the file beside the words of the entries. */
 struct shelf_file {

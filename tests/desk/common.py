@@ -190,7 +190,7 @@ class Shelf:
         self.score = data[end : end + head["score_len"]]
         filled = self.score + b"\0" * (-len(self.score) % 8)
         fixed = tuple(head[name] for name in ("magic", "layout", "voice", "entry", "beside"))
-        hold(f"{path}: its head", fixed == (b"GAVSHELF", 3, voice_version(), STATE_WORDS, 1), f"{fixed}")
+        hold(f"{path}: its head", fixed == (b"GAVSHELF", 2, voice_version(), STATE_WORDS, 1), f"{fixed}")
         hold(f"{path}: free words", not any(SHELF_HEAD.unpack_from(data)[len(SHELF_NAMES) :]))
         hold(f"{path}: its end", data[end:] == filled + struct.pack("<Q", sum_of(data[:-8])), f"{len(data)} bytes")
 
