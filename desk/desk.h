@@ -180,6 +180,7 @@ struct arguments {
     bool or_no_operands;
 };
 
+/* Whether a word asks for help, where it is no value of an option. */
 bool is_help(const char *word);
 bool read_arguments(char **given, const struct arguments *takes, struct why *why);
 bool read_number(const char *name, const char *text, double *value, struct why *why);
@@ -297,9 +298,7 @@ double percent_off(double level, double reference);
 #define OFF_ROOM 48u
 /* How far it is off, in words, which may stand in the room. */
 const char *off_words(double level, double reference, char room[OFF_ROOM]);
-/* The peak in words, with the line's end, where whole of a WAV of whole numbers, which no player clips; and after a
- * path.
- */
+/* The peak in words, with the line's end; whole: of a WAV of whole numbers, which no player clips. And after a path. */
 void put_peak(FILE *out, struct peak peak, uint32_t rate, bool whole);
 void tell_peak(FILE *out, const char *path, struct peak peak, uint32_t rate);
 

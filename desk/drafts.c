@@ -173,14 +173,16 @@ bool draft_write(struct draft *draft, const void *at, size_t len, struct why *wh
     return refuse(why, "%s: cannot be written: %s", draft->path, strerror(errno));
 }
 
-/* Who may not give a file away keeps it; the group is kept by itself, then. */
-static bool keep_owner(const struct draft *draft) {
-    return fchown(draft->fd, draft->owner, draft->group) == 0 || fchown(draft->fd, (uid_t)-1, draft->group) == 0 ||
-           errno == EPERM;
+/* Where the owner cannot be kept, since the caller may not give files away or the file system has no owners, the group
+   is tried by itself; where that fails too, the file stays the caller's. */
+static void keep_owner(const struct draft *draft) {
+    bool kept = fchown(draft->fd, draft->owner, draft->group) == 0 || fchown(draft->fd, (uid_t)-1, draft->group) == 0;
+    (void)kept;
 }
 
 bool draft_seal(struct draft *draft, struct why *why) {
-    bool kept = keep_owner(draft) && fchmod(draft->fd, draft->mode) == 0 && (fsync(draft->fd) == 0 || errno == EINVAL);
+    keep_owner(draft);
+    bool kept = fchmod(draft->fd, draft->mode) == 0 && (fsync(draft->fd) == 0 || errno == EINVAL);
     return kept ? true : refuse(why, "%s: cannot be written: %s", draft->path, strerror(errno));
 }
 

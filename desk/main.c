@@ -40,8 +40,9 @@ static const char *first_control(const char *word) {
 static bool are_plain(char **words, struct why *why) {
     for (size_t i = 1; words[i]; i++) {
         const char *at = first_control(words[i]);
-        if (*at)
-            return misuse(why, "argument %zu has a control character (code %d at byte %td)", i, *at, at - words[i]);
+        if (*at) {
+            return misuse(why, "argument %zu has a control character, code %d, at byte %td", i, *at, at - words[i]);
+        }
     }
     return true;
 }

@@ -63,12 +63,13 @@ static bool rest_is_kept(const struct rerender *r, struct why *why) {
         first = i;
     }
     if (differ == 0) return true;
-    return refuse(
-        why,
-        "samples %zu to %zu of %s are not what %s was made with; of %zu %s that a re-render would leave as it "
-        "is, %zu %s; nothing is written: render again with `desk render`",
-        first * GAV_MARK, section_end(r->wav.samples, first) - 1, r->wav_path, r->shelf_path, stay,
-        counted(stay, "section", "sections"), differ, counted(differ, "differs", "differ"));
+    const char *words = counted(stay, "section that a re-render would leave as it is",
+                                "sections that a re-render would leave as they are");
+    return refuse(why,
+                  "samples %zu to %zu of %s are not what %s was made with; of %zu %s, %zu %s; nothing is written: "
+                  "render again with `desk render`",
+                  first * GAV_MARK, section_end(r->wav.samples, first) - 1, r->wav_path, r->shelf_path, stay, words,
+                  differ, counted(differ, "differs", "differ"));
 }
 
 /* Puts the new samples of a section; whether what stood there was of another sound. */
