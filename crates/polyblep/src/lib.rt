@@ -8,7 +8,7 @@ use answers::Refusal;
 use answers::Value;
 
 // 1.0 / 3.0
-const THIRD: f64 = 0.3333333333333333;
+pub const THIRD: f64 = 0.3333333333333333;
 
 // The side of a step on which a phase lies, with the distance from it in samples.
 pub enum Side {

@@ -15,3 +15,5 @@ pub mod Stretches
 pub mod Values
 -- two outcomes of a public function are equal
 pub mod Unique
+-- parts of a cycle and their values in a lent list, without a branch
+pub mod Remaking

@@ -1,3 +1,4 @@
 pub mod Waveform
 pub mod Filled
 pub mod Lines
+pub mod Parts

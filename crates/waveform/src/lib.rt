@@ -19,6 +19,8 @@ ghost use Rattle.polyblep.specs.Polyblep.{sideOf, fractOf, sawOf, pulseOf};
 use answers::Refusal;
 use answers::Value;
 
+mod steep;
+
 // The bits of the original's constants.
 const TAU: f64 = 6.283185307179586;
 
@@ -189,6 +191,9 @@ pub fn fill(
     if let Waveform::Sine = waveform {
         return fill_sine(out, start, step, scale);
     }
+    if STEEP <= in_cycles(step) {
+        return steep::fill(out, waveform, start, step, scale);
+    }
     fill_lines(out, waveform, start, step, scale)
 }
 
@@ -236,13 +241,12 @@ fn fill_lines(
     Radians(phase)
 }
 
-// The samples of the stretch that begins here. None where so few samples make a cycle that looking for one does not pay, and
-// none in the later cycles, which have no stretches.
+// The samples of the stretch that begins here; none in the later cycles, which have no stretches.
 fn run_from(waveform: Waveform, at: Reach, step: Radians, scale: f64, out: &mut [f64]) -> Reach
     ensures { λ r. ⌜ (at .count ≤ r .count) × Further waveform (step .0) scale (now (out .entry)) at (now (out .exit)) r ⌝ }
 {
     let dt = in_cycles(step);
-    if (STEEP <= dt) | (TWO_TAU <= at.phase) {
+    if TWO_TAU <= at.phase {
         return at;
     }
     let stretch = stretch_from(waveform, at.phase, dt);

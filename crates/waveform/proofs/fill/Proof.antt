@@ -15,14 +15,26 @@ same-length c = search needs
 returns : tie.Need-returns
 returns c = rw (c .before .before .before .before .enum-told .given .1) (c .before .before .fill-sine .ensures)
 
-fill-lines-requires : tie.Need-fill-lines-requires
-fill-lines-requires c κs = search needs
+in-cycles-requires : tie.Need-in-cycles-requires
+in-cycles-requires c κs = search needs
+
+fill-requires : tie.Need-fill-requires
+fill-requires c κs = search needs
 
 same-length-2 : tie.Need-same-length-2
 same-length-2 c = search needs
 
 returns-2 : tie.Need-returns-2
-returns-2 c = search needs
+returns-2 c = c .before .before .fill .ensures
+
+fill-lines-requires : tie.Need-fill-lines-requires
+fill-lines-requires c κs = search needs
+
+same-length-3 : tie.Need-same-length-3
+same-length-3 c = search needs
+
+returns-3 : tie.Need-returns-3
+returns-3 c = c .before .before .fill-lines .ensures
 
 pub fill-spec : {M : Type 1} → statement M
 fill-spec =
@@ -32,6 +44,10 @@ fill-spec =
     fill-sine-requires
     same-length
     returns
-    fill-lines-requires
+    in-cycles-requires
+    fill-requires
     same-length-2
-    returns-2)
+    returns-2
+    fill-lines-requires
+    same-length-3
+    returns-3)

@@ -1,0 +1,16 @@
+-- `waveform::steep::saw` meets its contract. Assumes nothing.
+use borrow.Author.Needs.{needs}
+use mathlib.Core.Path.{refl}
+use Rattle.polyblep.specs.Polyblep.{sawOf}
+use Rattle.waveform.proofs.steep.saw.Statement.{statement}
+use Rattle.waveform.proofs.steep.saw.Tie as tie
+
+blep-requires : tie.Need-blep-requires
+blep-requires c κs = search needs
+
+returns : tie.Need-returns
+unfolding sawOf
+returns c = rw (c .blep .ensures) refl
+
+pub saw-spec : {M : Type 1} → statement M
+saw-spec = tie.close (tie.spec blep-requires returns)
