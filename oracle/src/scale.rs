@@ -8,7 +8,7 @@ use crate::chance::Chance;
 use crate::envelope_rows::{random_rate, random_settings};
 use crate::library::{Buffers, Given};
 use crate::render::{on, untouched, Player, Record, Settings, Words, KIND_RESET, MARK};
-use crate::render_asked::{bytes_of, score_fault, shelf_words, MOST_RECORDS, MOST_SAMPLES};
+use crate::render_asked::{bytes_of, mark_of, score_fault, shelf_words, MOST_RECORDS, MOST_SAMPLES};
 use crate::render_random::{audible, random_score, random_wave};
 use crate::waveform_rows::{not_a_unit, PULSE, SINE};
 
@@ -473,23 +473,6 @@ impl Tally {
 
 fn bytes(score: &[Record]) -> Vec<u8> {
     score.iter().flat_map(bytes_of).collect()
-}
-
-/// Where a re-render starts, by 01; none where it writes nothing.
-fn mark_of(old: &[u8], new: &[u8], length: u64) -> Option<u64> {
-    let (mut olds, mut news) = (old.chunks(10), new.chunks(10));
-    let lowest = loop {
-        match (olds.next(), news.next()) {
-            (None, None) => return None,
-            (a, b) if a == b => {}
-            (a, b) => break a.into_iter().chain(b).map(position_of).min()?,
-        }
-    };
-    (lowest < length).then_some(lowest / MARK * MARK)
-}
-
-fn position_of(record: &[u8]) -> u64 {
-    u32::from_le_bytes(record[2..6].try_into().unwrap()) as u64
 }
 
 fn is_near(ours: u64, theirs: u64, scale: u64) -> bool {
