@@ -8,6 +8,10 @@ impl Chance {
     pub fn new(seed: u64) -> Self {
         Self(seed)
     }
+    /// Other numbers from the same seed.
+    pub fn beside(&self) -> Self {
+        Self(!self.0)
+    }
     pub fn word(&mut self) -> u64 {
         self.0 = self.0.wrapping_add(0x9E37_79B9_7F4A_7C15);
         let mut mixed = self.0;

@@ -22,6 +22,7 @@ mod polyblep_rows;
 mod render;
 mod render_asked;
 mod render_edges;
+mod render_edits;
 mod render_random;
 mod render_rows;
 mod rows;

@@ -5,6 +5,7 @@ use crate::waveform_rows::{PULSE, SINE, UNWRITTEN};
 
 pub const RENDER: u64 = 0;
 pub const CONTINUE: u64 = 1;
+pub const RERENDER: u64 = 2;
 
 /// The given words before the score.
 pub const GIVEN: usize = 25;
@@ -26,6 +27,9 @@ pub struct Asked {
     pub shelf: u64,
     pub position: u64,
     pub state: Words,
+    /// Of a re-render: the old score, and the samples and words of the shelf that the call finds.
+    pub old: Vec<u8>,
+    pub left: Vec<u64>,
 }
 
 /// A number, and the place of the record that it is of.
@@ -39,7 +43,7 @@ impl Asked {
     pub fn whole(rate: u64, wave: Wave, samples: u64, score: &[Record]) -> Self {
         let settings = Settings { rate, wave, adsr: QUICK };
         let (score, shelf) = (score.iter().flat_map(bytes_of).collect(), shelf_words(samples));
-        Self { op: RENDER, settings, samples, score, shelf, position: 0, state: [0; 12] }
+        Self { op: RENDER, settings, samples, score, shelf, position: 0, state: [0; 12], old: vec![], left: vec![] }
     }
 
     /// A part of a render, from the original's own state at its position. The original that goes on from there plays what
@@ -55,26 +59,41 @@ impl Asked {
         Self { op: CONTINUE, samples, shelf: 0, position, state, ..self.clone() }
     }
 
+    /// A re-render with another score, over what the original's render of this one leaves.
+    pub fn edited(&self, new: &[Record]) -> Self {
+        let played = Player::fresh(self.settings).play(&records(&self.score), 0, self.samples);
+        let (score, old) = (new.iter().flat_map(bytes_of).collect(), self.score.clone());
+        Self { op: RERENDER, score, old, left: [played.samples, played.shelf].concat(), ..self.clone() }
+    }
+
+    pub fn records(&self) -> Vec<Record> {
+        records(&self.score)
+    }
+
     pub fn words(&self) -> Vec<u64> {
         let Settings { rate, wave: (shape, duty), adsr } = self.settings;
         let duty = if shape == PULSE { duty } else { 0.0 };
-        let score = self.score.chunks(8).map(word_of);
-        let more = score.len() as u64 + self.samples + self.scales() + self.shelf;
+        let mut given: Vec<u64> = self.score.chunks(8).chain(self.old.chunks(8)).map(word_of).collect();
+        given.extend(&self.left);
+        let more = given.len() as u64 + self.samples + self.scales() + self.shelf;
+        let position = if self.op == RERENDER { self.old.len() as u64 } else { self.position };
         let mut row = vec![self.op, more, rate, shape, duty.to_bits()];
         row.extend(adsr.map(f64::to_bits));
-        row.extend([self.samples, self.score.len() as u64, self.shelf, self.position]);
+        row.extend([self.samples, self.score.len() as u64, self.shelf, position]);
         row.extend(self.state);
-        row.extend(score);
+        row.extend(given);
         row
     }
 
     pub fn of(row: &[u64]) -> Self {
         let adsr = [5, 6, 7, 8].map(|at| f64::from_bits(row[at]));
         let settings = Settings { rate: row[2], wave: (row[3], f64::from_bits(row[4])), adsr };
-        let mut score: Vec<u8> = row[GIVEN..].iter().flat_map(|word| word.to_le_bytes()).collect();
-        score.truncate(row[10] as usize);
         let [op, samples, shelf, position] = [0, 9, 11, 12].map(|at| row[at]);
-        Self { op, settings, samples, score, shelf, position, state: row[13..GIVEN].try_into().unwrap() }
+        let (position, size) = if op == RERENDER { (0, position) } else { (position, 0) };
+        let (score, rest) = bytes_and_rest(&row[GIVEN..], row[10]);
+        let (old, rest) = bytes_and_rest(rest, size);
+        let (state, left) = (row[13..GIVEN].try_into().unwrap(), rest.to_vec());
+        Self { op, settings, samples, score, shelf, position, state, old, left }
     }
 
     /// How many numbers say how far a sine may be off.
@@ -88,15 +107,37 @@ impl Asked {
     /// 01's refusals, in its order.
     pub fn refusal(&self) -> Option<Refusal> {
         let large = match self.op {
-            RENDER => self.samples > MOST_SAMPLES || self.shelf != shelf_words(self.samples),
-            _ => self.position.checked_add(self.samples).is_none_or(|end| end > MOST_SAMPLES),
+            CONTINUE => self.position.checked_add(self.samples).is_none_or(|end| end > MOST_SAMPLES),
+            _ => self.samples > MOST_SAMPLES || self.shelf != shelf_words(self.samples),
         };
         if !is_settings(self.settings) {
             Some((6, 0))
         } else if large {
             Some((7, 0))
+        } else if self.op == RERENDER {
+            let new = || score_fault(&self.score).map(|(number, place)| (number + 16, place));
+            score_fault(&self.old).or_else(new).or_else(|| self.is_lost().then_some((8, 0)))
         } else {
             score_fault(&self.score).or_else(|| self.is_astray().then_some((10, 0)))
+        }
+    }
+
+    /// Whether the entry that a re-render starts from is no state at its mark.
+    fn is_lost(&self) -> bool {
+        mark_of(&self.old, &self.score, self.samples).is_some_and(|mark| {
+            let below = records(&self.score).iter().filter(|record| record.position < mark).count();
+            let entry = (self.samples + 12 * (mark / MARK)) as usize;
+            let words: &Words = self.left[entry..entry + 12].try_into().unwrap();
+            !(is_state(words) && words[5] >> 16 == below as u64)
+        })
+    }
+
+    /// The first sample, and the first word of the shelf, that the call writes.
+    fn start(&self) -> (u64, u64) {
+        match mark_of(&self.old, &self.score, self.samples) {
+            _ if self.op != RERENDER => (0, 0),
+            Some(mark) => (mark, 12 * (mark / MARK)),
+            None => (self.samples, self.shelf),
         }
     }
 
@@ -118,6 +159,10 @@ impl Asked {
         let state = if self.op == RENDER { Player::fresh(self.settings).words() } else { self.state };
         let mut words = vec![number, place as u64, 0];
         words.extend(state);
+        if self.op == RERENDER {
+            words.extend(&self.left);
+            return words;
+        }
         words.extend(vec![UNWRITTEN.to_bits(); self.samples as usize]);
         words.extend(vec![UNWRITTEN_WORD; self.shelf as usize]);
         words
@@ -126,17 +171,24 @@ impl Asked {
     fn played(&self) -> Vec<u64> {
         let (settings, score) = (self.settings, records(&self.score));
         let mut player = match self.op {
-            RENDER => Player::fresh(settings),
-            _ => Player::at(settings, &self.state),
+            CONTINUE => Player::at(settings, &self.state),
+            _ => Player::fresh(settings),
         };
-        let played = player.play(&score, self.position, self.samples);
+        let mut played = player.play(&score, self.position, self.samples);
         assert!(played.samples.iter().all(|&sample| f64::from_bits(sample).is_finite()));
-        if self.op == RENDER {
+        if self.op != CONTINUE {
             let same = untouched(settings, &score, self.samples);
             assert!(same.is_none_or(|samples| samples == played.samples), "the untouched copies part ways");
         }
-        let mut words = vec![0, 0, self.samples];
-        words.extend(player.words());
+        let (from, entry) = self.start();
+        let (samples, shelf) = self.left.split_at(if self.op == RERENDER { self.samples as usize } else { 0 });
+        let first = entry as usize..shelf.len().min(entry as usize + 12);
+        assert!(shelf[first.clone()] == played.shelf[first], "an entry parts ways");
+        played.samples.splice(..from as usize, samples[..from as usize].iter().copied());
+        played.shelf.splice(..entry as usize, shelf[..entry as usize].iter().copied());
+        let mut words = vec![0, 0, self.samples - from];
+        // A re-render hands back no state.
+        words.extend(if self.op == RERENDER { self.state } else { player.words() });
         words.extend(played.samples);
         words.extend(played.scales.into_iter().take(self.scales() as usize));
         words.extend(played.shelf.into_iter().take(self.shelf as usize));
@@ -147,6 +199,27 @@ impl Asked {
 /// The words of the shelf that 01 asks for.
 pub fn shelf_words(samples: u64) -> u64 {
     12 * samples.div_ceil(MARK)
+}
+
+/// Where a re-render starts, by 01; none where it writes nothing.
+pub fn mark_of(old: &[u8], new: &[u8], length: u64) -> Option<u64> {
+    let (mut olds, mut news) = (old.chunks(RECORD), new.chunks(RECORD));
+    let lowest = loop {
+        match (olds.next(), news.next()) {
+            (None, None) => return None,
+            (a, b) if a == b => {}
+            (a, b) => break a.into_iter().chain(b).map(|record| word_of(&record[2..6])).min()?,
+        }
+    };
+    (lowest < length).then_some(lowest / MARK * MARK)
+}
+
+/// So many bytes of some words, and the words after those that they fill.
+fn bytes_and_rest(words: &[u64], size: u64) -> (Vec<u8>, &[u64]) {
+    let (filled, rest) = words.split_at(size.div_ceil(8) as usize);
+    let mut bytes: Vec<u8> = filled.iter().flat_map(|word| word.to_le_bytes()).collect();
+    bytes.truncate(size as usize);
+    (bytes, rest)
 }
 
 fn word_of(bytes: &[u8]) -> u64 {

@@ -7,8 +7,8 @@ use crate::render_asked::{packed_words, Asked, CONTINUE, LAST, MOST_SAMPLES};
 use crate::waveform_rows::{duties, not_a_unit, TINY};
 use crate::waveform_rows::{PULSE, SAWTOOTH, SINE, SQUARE, TRIANGLE};
 
-const SAW: Wave = (SAWTOOTH, 0.0);
-const WAVES: [Wave; 5] = [(SINE, 0.0), (SQUARE, 0.0), SAW, (TRIANGLE, 0.0), (PULSE, 0.3)];
+pub const SAW: Wave = (SAWTOOTH, 0.0);
+pub const WAVES: [Wave; 5] = [(SINE, 0.0), (SQUARE, 0.0), SAW, (TRIANGLE, 0.0), (PULSE, 0.3)];
 
 pub fn all() -> Vec<Vec<u64>> {
     let mut list = edges_of_length();
@@ -40,7 +40,7 @@ fn at_marks(samples: u64) -> Vec<Record> {
 }
 
 /// High notes that sound on up to the marks, where the phase has grown over a whole block, and records at them.
-fn over_marks() -> Vec<Record> {
+pub fn over_marks() -> Vec<Record> {
     let mut score = vec![on(0, 112, 127), on(100, 100, 90), on(4096, 119, 77), off(4096, 112), off(6000, 119)];
     score.extend([on(7000, 112, 50), on(8000, 120, 100), reset(8192), on(8192, 115, 60), off(9000, 115)]);
     score
@@ -58,7 +58,7 @@ fn edges_of_length() -> Vec<Asked> {
 }
 
 /// High, low and loud notes, a fall back, a release.
-fn tune() -> Vec<Record> {
+pub fn tune() -> Vec<Record> {
     vec![
         on(0, 60, 100),
         on(3, 127, 127),

@@ -20,7 +20,7 @@ pub fn row(chance: &mut Chance) -> Vec<u64> {
     asked.words()
 }
 
-fn random_render(chance: &mut Chance) -> Asked {
+pub fn random_render(chance: &mut Chance) -> Asked {
     let samples = random_length(chance);
     let wave = random_wave(chance);
     let mut asked = Asked::whole(random_rate(chance), wave, samples, &random_score(samples, chance));
@@ -150,7 +150,7 @@ fn random_part(render: &Asked, chance: &mut Chance) -> Asked {
 }
 
 /// A state with one thing changed, within its range or not.
-fn moved(mut state: Words, chance: &mut Chance) -> Words {
+pub fn moved(mut state: Words, chance: &mut Chance) -> Words {
     let outside = [-TINY, -1.0, near(1.0, 1), 11.5, 1000.0, 12544.5, f64::INFINITY, f64::NAN];
     let word = chance.below(12) as usize;
     let most = match word {
@@ -197,7 +197,7 @@ fn spoil(asked: &mut Asked, chance: &mut Chance) {
     }
 }
 
-fn spoil_score(score: &mut Vec<u8>, chance: &mut Chance) {
+pub fn spoil_score(score: &mut Vec<u8>, chance: &mut Chance) {
     if score.is_empty() {
         return score.push(0x56);
     }

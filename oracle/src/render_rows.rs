@@ -6,10 +6,13 @@
 //!
 //! `continue` takes a position and a state and has no shelf; only Pulse has a duty. The samples are 42 each before
 //! the call, the bytes of the shelf 42 too. A NaN in a given state is 7FF8000000000000, and comes back so.
+//!
+//! `re-render` has the bytes of its old score for a position, and after its score, which is the new one, the old one, and
+//! every sample and every word of the shelf as the call finds them. It neither takes nor hands back a state: 0.
 
 use crate::render_asked::{Asked, GIVEN};
-use crate::rows::{self, Part};
-use crate::{render_edges, render_random};
+use crate::rows::Part;
+use crate::{render_edges, render_edits};
 
 pub const PART: Part = Part {
     name: "render",
@@ -17,8 +20,8 @@ pub const PART: Part = Part {
     words: 40,
     more_at: Some(1),
     number_at: Some(GIVEN),
-    ops: &["render", "continue"],
-    edges: render_edges::all,
-    random: |chance| rows::each(chance, render_random::row),
+    ops: &["render", "continue", "re-render"],
+    edges: || [render_edges::all(), render_edits::edges()].concat(),
+    random: render_edits::among,
     answer: |row| Asked::of(row).answer(),
 };

@@ -10,6 +10,7 @@
 
 #define UNWRITTEN 42.0
 #define MOST_OPS 3
+#define RERENDER 2 /* the op of render that is one */
 
 /* The numbers that are met are a set of bits for each op. */
 struct tally {
@@ -106,30 +107,40 @@ static void block_row(struct rows *rows, struct tally *tally) {
     free(out);
 }
 
-/* A row of render: what is given, and where its answers stand. */
+/* A row of render: what is given, and where its answers stand. A re-render has an old score too, and the samples and
+ * words that it finds. */
 struct asked {
     struct gav_settings settings;
     struct records records;
-    const uint8_t *score;
-    size_t n, len, words;
+    uint8_t *score, *old;
+    size_t n, len, old_len, words;
     uint64_t position;
-    const uint64_t *state, *answer, *samples, *scales, *shelf;
+    const uint64_t *state, *found, *answer, *samples, *scales, *shelf;
 };
 
+/* So many bytes, in whole words from here on. */
+static uint8_t *take_bytes(const uint64_t **here, size_t len) {
+    uint8_t *bytes = room(len);
+    for (size_t i = 0; i < len; i++) bytes[i] = (uint8_t)((*here)[i / 8] >> 8 * (i % 8));
+    *here += (len + 7) / 8;
+    return bytes;
+}
+
 static void read_asked(struct rows *rows, struct asked *a) {
-    const uint64_t *row = take(rows, 40), *more = take(rows, row[1]);
-    bool is_sine = row[3] == GAV_SINE && row[25] == 0;
+    const uint64_t *row = take(rows, 40), *here = take(rows, row[1]);
+    bool is_sine = row[3] == GAV_SINE && row[25] == 0, is_edit = row[0] == RERENDER;
     a->settings = (struct gav_settings){(uint32_t)row[2], (uint32_t)row[3], number(row[4]), number(row[5]),
                                         number(row[6]),   number(row[7]),   number(row[8])};
     a->n = (size_t)row[9], a->len = (size_t)row[10], a->words = (size_t)row[11];
     a->position = row[12], a->state = row + 13, a->answer = row + 25;
-    a->samples = more + (a->len + 7) / 8;
+    a->old_len = is_edit ? (size_t)row[12] : 0;
+    a->score = take_bytes(&here, a->len);
+    a->old = take_bytes(&here, a->old_len);
+    a->found = here;
+    a->samples = is_edit ? here + a->n + a->words : here;
     a->scales = is_sine ? a->samples + a->n : NULL;
     a->shelf = a->samples + (is_sine ? 2 : 1) * a->n;
-    uint8_t *score = room(a->len);
-    for (size_t i = 0; i < a->len; i++) score[i] = (uint8_t)(more[i / 8] >> 8 * (i % 8));
-    a->score = score;
-    a->records = (struct records){score, a->len / RECORD};
+    a->records = (struct records){a->score, a->len / RECORD};
 }
 
 /* The samples one by one from a state, beside those that the call made; and the state after them. */
@@ -165,6 +176,23 @@ static bool same_call(struct tally *tally, const struct asked *a, bool is_render
            (is_render || same_words(after, state, GAV_STATE_WORDS));
 }
 
+/* A re-render, over the samples and words that the row has for it: what lies before its start stays. */
+static bool same_edit(struct tally *tally, const struct asked *a, double *out, uint64_t *shelf) {
+    memcpy(out, a->found, a->n * sizeof *out);
+    memcpy(shelf, a->found + a->n, a->words * sizeof *shelf);
+    uint64_t answer =
+        reference_rerender(&a->settings, a->old, a->old_len, a->score, a->len, out, a->n, shelf, a->words);
+    bool fine = answer == says((unsigned)a->answer[0], a->answer[1], a->answer[2]);
+    size_t start = a->n - gav_count(answer);
+    fine &= same_words(out, a->samples, a->scales ? start : a->n);
+    for (size_t i = start; a->scales && i < a->n; i++) {
+        double off = fabs(out[i] - number(a->samples[i]));
+        if (off > tally->largest) tally->largest = off;
+        fine &= off <= 0.000001 * number(a->scales[i]);
+    }
+    return fine;
+}
+
 static void render_row(struct rows *rows, struct tally *tally) {
     uint64_t op = rows->next[0];
     struct asked a;
@@ -173,12 +201,13 @@ static void render_row(struct rows *rows, struct tally *tally) {
     uint64_t *shelf = room(a.words * sizeof *shelf);
     for (size_t i = 0; i < a.n; i++) out[i] = UNWRITTEN;
     memset(shelf, 0x2A, a.words * sizeof *shelf);
-    bool fine = same_call(tally, &a, op == 0, out, shelf);
+    bool fine = op == RERENDER ? same_edit(tally, &a, out, shelf) : same_call(tally, &a, op == 0, out, shelf);
     tally->met[op % MOST_OPS] |= 1u << a.answer[0];
     tally->equal += fine && (a.scales || same_words(out, a.samples, a.n)) && same_words(shelf, a.shelf, a.words);
     free(out);
     free(shelf);
-    free((void *)a.score);
+    free(a.score);
+    free(a.old);
 }
 
 /* Each part with the numbers that each of its ops must be met with. */
@@ -190,7 +219,7 @@ static const struct part {
 } PARTS[] = {
     {"pitch", false, pitch_row, {1 | 1 << 9}},
     {"blocks", true, block_row, {1 | 1 << 6 | 1 << 9, 1 | 1 << 6 | 1 << 9, 1 | 1 << 6 | 1 << 9}},
-    {"render", true, render_row, {0xFF, 0xFF | 1 << 10}},
+    {"render", true, render_row, {0xFF, 0xFF | 1 << 10, 0x1FF | 0x1F << 17}},
 };
 
 static bool hold(const struct part *part, struct rows rows) {

@@ -45,14 +45,12 @@ fn is_called(row: &[u8], out: &mut [f64]) -> bool {
     }
 }
 
-fn is_oscillated(row: &[u8], given: OscillatorBlock, out: &mut [f64]) -> bool {
-    let mut block = given;
+fn is_oscillated(row: &[u8], mut block: OscillatorBlock, out: &mut [f64]) -> bool {
     let start = Radians(fields::float_at(row, 48));
     block.phase = start;
     let got = block.process(words::u32_at(row, 24), out);
     let answer = got.answer;
-    let after = got.block;
-    is_outcome(row, answer, after.phase.0)
+    is_outcome(row, answer, got.block.phase.0)
 }
 
 fn own_oscillator(row: &[u8]) -> OscillatorBlock {
@@ -67,14 +65,12 @@ fn set_oscillator(row: &[u8]) -> OscillatorBlock {
         .set_midi_frequency(fields::float_at(row, 32))
 }
 
-fn is_modulated(row: &[u8], given: LfoBlock, out: &mut [f64]) -> bool {
-    let mut block = given;
+fn is_modulated(row: &[u8], mut block: LfoBlock, out: &mut [f64]) -> bool {
     let start = Radians(fields::float_at(row, 48));
     block.phase = start;
     let got = block.process(words::u32_at(row, 24), out);
     let answer = got.answer;
-    let after = got.block;
-    is_outcome(row, answer, after.phase.0)
+    is_outcome(row, answer, got.block.phase.0)
 }
 
 fn given_lfo(row: &[u8]) -> LfoBlock {

@@ -22,8 +22,7 @@ pub fn is_equal(row: &[u8]) -> bool {
 fn is_called(row: &[u8], out: &mut [f64]) -> bool {
     let got = called(row, given(row), out);
     let answer = got.answer;
-    let block = got.block;
-    let envelope = block.envelope;
+    let envelope = got.block.envelope;
     fields::is_counted(row, 88, answer) & is_state(row, envelope)
 }
 

@@ -58,6 +58,24 @@ pub fn waveform_of(code: u64, duty: f64) -> Waveform {
     }
 }
 
+// The words from a byte of the row on, as many as there is room for.
+pub fn put_words(row: &[u8], first: usize, kept: &mut [u64]) {
+    let mut i = 0;
+    while i < kept.len() {
+        kept[i] = words::u64_at(row, after(first, i));
+        i += 1;
+    }
+}
+
+// The same as floats.
+pub fn put_floats(row: &[u8], first: usize, samples: &mut [f64]) {
+    let mut i = 0;
+    while i < samples.len() {
+        samples[i] = float_at(row, after(first, i));
+        i += 1;
+    }
+}
+
 // Whether the words from a byte of the row on are these.
 pub fn are_words(row: &[u8], first: usize, kept: &[u64]) -> bool {
     let mut i = 0;

@@ -166,10 +166,8 @@ fn tell_nothing() {
 
 fn tell(name: u64, tally: Tally) {
     tell_name(name);
-    io::write_all(STDOUT_FILENO, b": ");
-    io::print_decimal(STDOUT_FILENO, tally.rows);
-    io::write_all(STDOUT_FILENO, b" rows, ");
-    io::print_decimal(STDOUT_FILENO, tally.equal);
+    tell_number(b": ", tally.rows);
+    tell_number(b" rows, ", tally.equal);
     match name {
         SINE => tell_measure(b" within 0.000001, largest difference ", tally.farthest),
         BLOCKS | RENDER => tell_measure(b" equal, largest difference of a sine ", tally.farthest),
@@ -179,10 +177,14 @@ fn tell(name: u64, tally: Tally) {
     }
 }
 
-fn tell_measure(words: &[u8], farthest: f64) {
-    io::write_all(STDOUT_FILENO, words);
-    io::print_decimal(STDOUT_FILENO, nearness::billionths(farthest) as u64);
+fn tell_measure(before: &[u8], farthest: f64) {
+    tell_number(before, nearness::billionths(farthest) as u64);
     io::write_all(STDOUT_FILENO, b" billionths\n");
+}
+
+fn tell_number(before: &[u8], number: u64) {
+    io::write_all(STDOUT_FILENO, before);
+    io::print_decimal(STDOUT_FILENO, number);
 }
 
 fn tell_name(name: u64) {

@@ -8,22 +8,8 @@ use phase::Stepped;
 
 pub const ROW: usize = 36;
 
-// What a call gave, as numbers.
-struct Outcome {
-    number: u64,
-    value: u32,
-    phase: u32,
-    increment: u32,
-}
-
 pub fn is_equal(row: &[u8]) -> bool {
-    let op = words::u32_at(row, 0);
-    let got = called(op, given(row), float_at(row, 12), float_at(row, 16));
-    (op < 8)
-        & (got.number == words::u32_at(row, 20) as u64)
-        & (got.value == words::u32_at(row, 24))
-        & (got.phase == words::u32_at(row, 28))
-        & (got.increment == words::u32_at(row, 32))
+    is_called(row, given(row))
 }
 
 fn given(row: &[u8]) -> PhaseAccumulator {
@@ -37,61 +23,60 @@ fn float_at(row: &[u8], at: usize) -> f32 {
     words::f32_of(words::u32_at(row, at))
 }
 
-fn called(op: u32, given: PhaseAccumulator, a: f32, b: f32) -> Outcome {
-    match op {
-        0 | 1 | 5 | 6 => changed(set(op, given, a, b)),
-        2 | 4 => shown(asked(op, given), given),
-        3 => stepped(given.next()),
-        _ => of_state(0, 0, PhaseAccumulator::new()),
+// Whether the call answers and leaves what it must.
+fn is_called(row: &[u8], given: PhaseAccumulator) -> bool {
+    match words::u32_at(row, 0) {
+        0 | 1 | 5 | 6 => is_changed(row, set(row, given)),
+        2 => is_shown(row, given.increment(), given),
+        3 => is_stepped(row, given.next()),
+        4 => is_shown(row, given.phase(), given),
+        7 => is_outcome(row, 0, 0, PhaseAccumulator::new()),
+        _ => false,
     }
 }
 
-fn set(op: u32, given: PhaseAccumulator, a: f32, b: f32) -> Changed {
-    match op {
-        0 => given.set_frequency(a, b),
+fn set(row: &[u8], given: PhaseAccumulator) -> Changed {
+    let a = float_at(row, 12);
+    match words::u32_at(row, 0) {
+        0 => given.set_frequency(a, float_at(row, 16)),
         1 => given.set_increment(Cycles(a)),
         5 => given.set_phase(Cycles(a)),
         _ => given.reset(),
     }
 }
 
-fn asked(op: u32, given: PhaseAccumulator) -> Shown {
-    match op {
-        2 => given.increment(),
-        _ => given.phase(),
-    }
+fn is_changed(row: &[u8], got: Changed) -> bool {
+    let answer = got.answer;
+    let accumulator = got.accumulator;
+    is_outcome(row, fields::number_of(answer), 0, accumulator)
 }
 
-fn changed(c: Changed) -> Outcome {
-    let answer = c.answer;
-    let accumulator = c.accumulator;
-    of_state(fields::number_of(answer), 0, accumulator)
-}
-
-fn shown(s: Shown, given: PhaseAccumulator) -> Outcome {
-    let answer = s.answer;
-    of_state(
+// A getter hands back no state: the one that was given.
+fn is_shown(row: &[u8], got: Shown, given: PhaseAccumulator) -> bool {
+    let answer = got.answer;
+    is_outcome(
+        row,
         fields::number_of(answer),
-        words::f32_bits(s.cycles.0),
+        words::f32_bits(got.cycles.0),
         given,
     )
 }
 
-fn stepped(s: Stepped) -> Outcome {
-    let answer = s.answer;
-    let accumulator = s.accumulator;
-    of_state(
+fn is_stepped(row: &[u8], got: Stepped) -> bool {
+    let answer = got.answer;
+    let accumulator = got.accumulator;
+    is_outcome(
+        row,
         fields::number_of(answer),
-        words::f32_bits(s.cycles.0),
+        words::f32_bits(got.cycles.0),
         accumulator,
     )
 }
 
-fn of_state(number: u64, value: u32, state: PhaseAccumulator) -> Outcome {
-    Outcome {
-        number,
-        value,
-        phase: words::f32_bits(state.phase.0),
-        increment: words::f32_bits(state.increment.0),
-    }
+// The number, what is shown, and the state after.
+fn is_outcome(row: &[u8], number: u64, value: u32, after: PhaseAccumulator) -> bool {
+    (number == words::u32_at(row, 20) as u64)
+        & (value == words::u32_at(row, 24))
+        & (words::f32_bits(after.phase.0) == words::u32_at(row, 28))
+        & (words::f32_bits(after.increment.0) == words::u32_at(row, 32))
 }

@@ -1,6 +1,7 @@
 // The original's renders, driven span by span: a row is 40 u64, then its score, its samples and its shelf, all compared bit for
 // bit: the answer, the state after, every sample and every word of the shelf; but a sine, which is ours, must only be within
-// 0.000001 times level times velocity.
+// 0.000001 times level times velocity. A re-render's row has, before the samples that it must leave, its old score and the
+// samples and the shelf that it finds.
 use crate::fields;
 use crate::tally;
 use crate::tally::Finding;
@@ -54,8 +55,7 @@ fn judged(row: &[u8], told: bool, out: &[f64], shelf: &[u64]) -> Finding {
 }
 
 fn places_of(row: &[u8], count: usize, kept: usize) -> Places {
-    let score = words::u64_at(row, 80) as usize;
-    let samples = fields::after(ROW, score / 8 + (score % 8 + 7) / 8);
+    let samples = first_sample(row, count, kept);
     let scales = fields::after(samples, count);
     let mut shelf = scales;
     if is_measured(row) {
@@ -69,11 +69,34 @@ fn places_of(row: &[u8], count: usize, kept: usize) -> Places {
     }
 }
 
+fn first_sample(row: &[u8], count: usize, kept: usize) -> usize {
+    if words::u64_at(row, 0) == 2 {
+        return fields::after(fields::after(first_found(row), count), kept);
+    }
+    after_score(row)
+}
+
+// Where a re-render's row has the first sample that the call finds.
+fn first_found(row: &[u8]) -> usize {
+    fields::after(after_score(row), words_in(words::u64_at(row, 96) as usize))
+}
+
+// The byte after the score and its zeros.
+fn after_score(row: &[u8]) -> usize {
+    fields::after(ROW, words_in(words::u64_at(row, 80) as usize))
+}
+
+// How many words so many bytes fill.
+fn words_in(bytes: usize) -> usize {
+    bytes / 8 + (bytes % 8 + 7) / 8
+}
+
 // Whether the call answers what it must, and the state after it is the one that it must be.
 fn is_called(row: &[u8], out: &mut [f64], shelf: &mut [u64]) -> bool {
     match words::u64_at(row, 0) {
         0 => is_rendered(row, out, shelf),
         1 => is_continued(row, out),
+        2 => is_rerendered(row, out, shelf),
         _ => false,
     }
 }
@@ -95,10 +118,31 @@ fn is_continued(row: &[u8], out: &mut [f64]) -> bool {
     is_outcome(row, got)
 }
 
-// As much of the score as there is.
+// A re-render hands back no state.
+fn is_rerendered(row: &[u8], out: &mut [f64], shelf: &mut [u64]) -> bool {
+    find(row, out, shelf);
+    let answer = rerender::rerender(settings_of(row), old_of(row), score_of(row), out, shelf);
+    is_answer(row, answer)
+}
+
+fn find(row: &[u8], out: &mut [f64], shelf: &mut [u64]) {
+    let first = first_found(row);
+    fields::put_floats(row, first, out);
+    fields::put_words(row, fields::after(first, out.len()), shelf);
+}
+
 fn score_of(row: &[u8]) -> &[u8] {
-    let first = fields::at_most(ROW as u64, row.len());
-    let size = fields::at_most(words::u64_at(row, 80), row.len() - first);
+    bytes_at(row, ROW, words::u64_at(row, 80))
+}
+
+fn old_of(row: &[u8]) -> &[u8] {
+    bytes_at(row, after_score(row), words::u64_at(row, 96))
+}
+
+// So many bytes of a row, or as many as there are.
+fn bytes_at(row: &[u8], at: usize, count: u64) -> &[u8] {
+    let first = fields::at_most(at as u64, row.len());
+    let size = fields::at_most(count, row.len() - first);
     let end = first + size;
     &row[first..end]
 }
@@ -117,20 +161,8 @@ fn settings_of(row: &[u8]) -> Settings {
 }
 
 fn state_of(row: &[u8]) -> State {
-    let entry = [
-        words::u64_at(row, 104),
-        words::u64_at(row, 112),
-        words::u64_at(row, 120),
-        words::u64_at(row, 128),
-        words::u64_at(row, 136),
-        words::u64_at(row, 144),
-        words::u64_at(row, 152),
-        words::u64_at(row, 160),
-        words::u64_at(row, 168),
-        words::u64_at(row, 176),
-        words::u64_at(row, 184),
-        words::u64_at(row, 192),
-    ];
+    let mut entry = [0u64; 12];
+    fields::put_words(row, 104, &mut entry);
     shelf::decode(&entry).state
 }
 
