@@ -1,85 +1,39 @@
-// The calls under the pad's settings, a slowly falling sawtooth: on so many records of a list, the first n samples of an
-// output and the first m words of a shelf.
-ghost use Prim.Native.Nat.{_≤_};
+// The calls under the pad's settings, a slowly falling sawtooth, of the scores of lists. Outputs come in pairs, and so do their
+// shelves: the first half is what is tried, the second what it should be.
 use crate::records;
 
-pub fn check(list: &[u64], count: usize) -> u64 {
-    let score = records::bytes(list, count);
-    let size = size_of(count);
+pub fn check(list: &[u64]) -> u64 {
+    let score = records::bytes(list);
+    let size = records::size(list);
     desk::gav_check_score(&score[0..size])
 }
 
-pub fn render(
-    list: &[u64],
-    count: usize,
-    n: usize,
-    m: usize,
-    out: &mut [f64],
-    shelf: &mut [u64],
-) -> u64 {
-    let score = records::bytes(list, count);
-    let size = size_of(count);
-    let samples = at_most(n, out.len());
-    let words = at_most(m, shelf.len());
-    desk::gav_render(
-        8000,
-        2,
-        0.5,
-        0.01,
-        10.0,
-        0.2,
-        5.0,
-        &score[0..size],
-        &mut out[0..samples],
-        &mut shelf[0..words],
-    )
+// Into the first half.
+pub fn render(list: &[u64], pair: &mut [f64], shelves: &mut [u64]) -> u64 {
+    let n = pair.len() / 2;
+    let m = shelves.len() / 2;
+    whole(list, &mut pair[0..n], &mut shelves[0..m])
 }
 
-pub fn rerender(
-    old: &[u64],
-    old_count: usize,
-    new: &[u64],
-    new_count: usize,
-    n: usize,
-    m: usize,
-    out: &mut [f64],
-    shelf: &mut [u64],
-) -> u64 {
-    let before = records::bytes(old, old_count);
-    let after = records::bytes(new, new_count);
-    let was = size_of(old_count);
-    let is = size_of(new_count);
-    let samples = at_most(n, out.len());
-    let words = at_most(m, shelf.len());
-    desk::gav_rerender(
-        8000,
-        2,
-        0.5,
-        0.01,
-        10.0,
-        0.2,
-        5.0,
-        &before[0..was],
-        &after[0..is],
-        &mut out[0..samples],
-        &mut shelf[0..words],
-    )
+// Into the second half.
+pub fn render_beside(list: &[u64], pair: &mut [f64], shelves: &mut [u64]) -> u64 {
+    let n = pair.len() / 2;
+    let m = shelves.len() / 2;
+    whole(list, &mut pair[n..], &mut shelves[m..])
 }
 
-// From a state before a position, into n samples of an output after the first ones.
-pub fn go_on(
-    list: &[u64],
-    count: usize,
-    state: &mut [u64],
-    position: u64,
-    first: usize,
-    n: usize,
-    out: &mut [f64],
-) -> u64 {
-    let score = records::bytes(list, count);
-    let size = size_of(count);
-    let start = at_most(first, out.len());
-    let end = start + at_most(n, out.len() - start);
+// Of the first half.
+pub fn rerender(old: &[u64], new: &[u64], pair: &mut [f64], shelves: &mut [u64]) -> u64 {
+    let n = pair.len() / 2;
+    let m = shelves.len() / 2;
+    again(old, new, &mut pair[0..n], &mut shelves[0..m])
+}
+
+// A part from a state before a position.
+pub fn go_on(list: &[u64], state: &mut [u64], position: u64, part: &mut [f64]) -> u64 {
+    let score = records::bytes(list);
+    let size = records::size(list);
+    let some = &score[0..size];
     desk::gav_continue(
         8000,
         2,
@@ -88,10 +42,10 @@ pub fn go_on(
         10.0,
         0.2,
         5.0,
-        &score[0..size],
+        some,
         state,
         position,
-        &mut out[start..end],
+        part,
     )
 }
 
@@ -103,20 +57,19 @@ pub fn at_rest(acted: u64) -> [u64; 12] {
     state
 }
 
-fn size_of(count: usize) -> usize
-    ensures { λ r. ⌜ r ≤ 40970 ⌝ }
-{
-    if count < 4097 {
-        return 10 * count;
-    }
-    40970
+fn whole(list: &[u64], out: &mut [f64], shelf: &mut [u64]) -> u64 {
+    let score = records::bytes(list);
+    let size = records::size(list);
+    let some = &score[0..size];
+    desk::gav_render(8000, 2, 0.5, 0.01, 10.0, 0.2, 5.0, some, out, shelf)
 }
 
-fn at_most(wanted: usize, most: usize) -> usize
-    ensures { λ r. ⌜ r ≤ most ⌝ }
-{
-    if wanted < most {
-        return wanted;
-    }
-    most
+fn again(old: &[u64], new: &[u64], out: &mut [f64], shelf: &mut [u64]) -> u64 {
+    let before = records::bytes(old);
+    let after = records::bytes(new);
+    let was = records::size(old);
+    let is = records::size(new);
+    let first = &before[0..was];
+    let last = &after[0..is];
+    desk::gav_rerender(8000, 2, 0.5, 0.01, 10.0, 0.2, 5.0, first, last, out, shelf)
 }

@@ -93,74 +93,57 @@ const BITS: [u64; 56] = [
     0xffff_ffff_ffff_ffff,
 ];
 
-// What several changes came to: how many samples and words are wrong, and the check number of what is left.
-struct Found {
-    wrong: u64,
-    number: u64,
-}
-
 pub fn played() {
-    let mut out = [0.0; 4400];
-    let mut shelf = [0u64; 24];
-    calls::render(&OLD, 5, 4400, 24, &mut out, &mut shelf);
-    told::text(b"20 doctored entries within the limits, re-rendered and continued: ");
-    all(0, WITHIN, 4096, &shelf);
+    let mut pair = [0.0; 8800];
+    let mut shelves = [0u64; 48];
+    calls::render(&OLD, &mut pair, &mut shelves);
+    calls::render_beside(&OLD, &mut pair, &mut shelves);
+    told::text(b"20 doctored entries within the limits, re-render / continued / what differs: ");
+    all(0, WITHIN, shelves, &mut pair);
     told::text(b"36 doctored entries outside: ");
-    all(WITHIN, CHANGES, 4400, &shelf);
+    all(WITHIN, CHANGES, shelves, &mut pair);
 }
 
-// Before `stay` everything should be rubbish still.
-fn all(from: usize, to: usize, stay: usize, shelf: &[u64]) {
-    let mut found = Found {
-        wrong: 0,
-        number: 0,
-    };
+fn all(from: usize, to: usize, shelves: [u64; 48], pair: &mut [f64; 8800]) {
+    let mut number = 0;
     let mut k = from;
     while k < to {
-        found = one(found, k, stay, shelf);
+        number = compared::mixed(number, one(changed(shelves, k), pair));
         k += 1;
     }
-    told::count(found.wrong, b" samples and words wrong; check number ");
-    told::count(found.number, b"\n");
+    told::text(b"check number ");
+    told::count(number, b"\n");
 }
 
-// Both calls over rubbish: what the re-render makes of the entry, the continuing call makes of the state.
-fn one(found: Found, k: usize, stay: usize, shelf: &[u64]) -> Found {
-    let mut out = [0.0; 4400];
-    let mut part = [0.0; 4400];
-    let mut honest = [0u64; 24];
-    compared::spoil(4400, &mut out);
-    compared::spoil(4400, &mut part);
-    compared::spoil_but(1, shelf, 24, &mut honest);
-    let doctored = changed(honest, k);
-    let mut words = doctored;
-    let again = calls::rerender(&OLD, 5, &NEW, 5, 4400, 24, &mut out, &mut words);
-    let kept = compared::words(&words, &doctored, 0);
-    let on = from_entry(&mut words, &mut part);
-    told::count(again % 256, b"/");
-    told::count(on % 256, b" ");
-    let wrong = compared::samples(&out, &part, stay) | compared::samples(&part, &out, stay) | kept;
-    Found {
-        wrong: std::num::wrapping_add_u64(found.wrong, wrong),
-        number: compared::mixed(found.number, compared::check_number(&part, &words)),
-    }
+// What the re-render makes of the entry in the first half, the continuing call makes of the state in the second.
+fn one(doctored: [u64; 48], pair: &mut [f64; 8800]) -> u64 {
+    let mut shelves = doctored;
+    told::count(calls::rerender(&OLD, &NEW, pair, &mut shelves) % 256, b"/");
+    let kept = compared::words(&shelves);
+    told::count(continued(pair, &mut shelves) % 256, b"/");
+    told::count(compared::samples(pair) | kept, b" ");
+    compared::check_number(pair, &shelves)
 }
 
-fn from_entry(shelf: &mut [u64], out: &mut [f64]) -> u64 {
-    if shelf.len() < 24 {
+fn continued(pair: &mut [f64], shelves: &mut [u64]) -> u64 {
+    if pair.len() < 8800 {
         return 0;
     }
-    calls::go_on(&NEW, 5, &mut shelf[12..24], 4096, 4096, 304, out)
+    if shelves.len() < 48 {
+        return 0;
+    }
+    calls::go_on(&NEW, &mut shelves[36..48], 4096, &mut pair[8496..8800])
 }
 
-// The word of each change is a letter: a is the first of the entry.
-fn changed(shelf: [u64; 24], change: usize) -> [u64; 24] {
+// The word of each change, in both halves, is a letter: a is the first of the entry.
+fn changed(shelves: [u64; 48], change: usize) -> [u64; 48] {
     let words = b"aaabbbbccddeffggghhiaaaaacccddeeggghhiiijklffffffffffbbb";
-    let mut next = shelf;
+    let mut next = shelves;
     if change < CHANGES {
         let word = 11 + (words[change] % 32) as usize;
         if word < 24 {
             next[word] = BITS[change];
+            next[24 + word] = BITS[change];
         }
     }
     next

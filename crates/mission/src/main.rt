@@ -1,16 +1,16 @@
 // What 01 says to run, and what the voice exists for: the falling pad. Each line of standard output names what was run and
-// tells what the calls said, as number, place and count, and how many samples and words are not as they should be. The calls
-// are those that C makes. What is proved of all input, chains of edits and parts among it, is not run again.
+// tells what the calls said, as number, place and count, and how many samples and words differ from those that they should be.
+// The calls are those that C makes. What is proved of all input, chains of edits and parts among it, is not run again.
 //
-// | 01                                                       | here                                          |
-// |----------------------------------------------------------|-----------------------------------------------|
-// | "4,096 and 4,097 records; notes 127 and 128"             | scores.rt                                     |
-// | "N = 0, 4,096, 4,097"                                    | lengths.rt                                    |
-// | "sustain 1.0"                                            | sustain.rt                                    |
-// | "random scores, against the Rust called span by span"    | left to the replay and to the test at scale   |
-// | demand 3, and the pad that lost its level in five edits  | pad.rt                                        |
-// | "An entry is a state if ..", 8 and 10                    | doctored.rt                                   |
-// | "A continuing call that would pass 16,777,216 is 7"      | positions.rt                                  |
+// | 01                                                      | here                                          |
+// |---------------------------------------------------------|-----------------------------------------------|
+// | "4,096 and 4,097 records; notes 127 and 128"            | scores.rt                                     |
+// | "N = 0, 4,096, 4,097"                                   | lengths.rt                                    |
+// | "sustain 1.0"                                           | sustain.rt                                    |
+// | "random scores, against the Rust called span by span"   | left to the replay and to the test at scale   |
+// | demand 3, and the pad that lost its level in five edits | pad.rt                                        |
+// | "An entry is a state if ..", 8 and 10                   | doctored.rt                                   |
+// | "A continuing call that would pass 16,777,216 is 7"     | positions.rt                                  |
 mod calls;
 mod compared;
 mod doctored;

@@ -2,42 +2,56 @@
 use crate::edits;
 use crate::told;
 
+// A chord and its highest key's end; the end of another key; and a record that never acts, so that every score has six.
+const LOW: u64 = 0_1_048_100;
+
+const MIDDLE: u64 = 0_1_055_090;
+
+const HIGH: u64 = 0_1_060_080;
+
+const LAST: u64 = 16000_2_060_000;
+
+const UP: u64 = 15000_2_064_000;
+
+const NONE: u64 = 20000_2_060_000;
+
 pub fn played() {
-    let mut out = [0.0; 20000];
-    let mut shelf = [0u64; 60];
-    let mut zero = [0.0; 20000];
-    let mut marks = [0u64; 60];
-    edited(&mut out, &mut shelf, &mut zero, &mut marks);
+    let mut pair = [0.0; 40000];
+    let mut shelves = [0u64; 120];
+    told::text(b"a falling pad: ");
+    edits::begun(&score(0), &mut pair, &mut shelves);
+    told::text(b"its first sample and word spoiled, so that 1 of each differs from here on:\n");
+    pair[0] = 100000.0;
+    shelves[0] = 1;
+    edited(&mut pair, &mut shelves);
 }
 
-// A chord whose highest key is lifted late. A key is added, and then its end; it is moved to a mark, made quieter, removed.
-fn edited(
-    out: &mut [f64; 20000],
-    shelf: &mut [u64; 60],
-    zero: &mut [f64; 20000],
-    marks: &mut [u64; 60],
-) {
-    let a = 0_1_048_100;
-    let b = 0_1_055_090;
-    let c = 0_1_060_080;
-    let up = 15000_2_064_000;
-    let last = 16000_2_060_000;
-    let chord = [a, b, c, last];
-    let added = [a, b, c, 9000_1_064_110, last];
-    let ended = [a, b, c, 9000_1_064_110, up, last];
-    let moved = [a, b, c, 8192_1_064_110, up, last];
-    let quieter = [a, b, c, 8192_1_064_040, up, last];
-    let removed = [a, b, c, up, last];
-    told::text(b"a falling pad: ");
-    edits::begun(&chord, 20000, 60, out, shelf, zero, marks);
-    told::text(b"  a key added at 9000: ");
-    edits::edit(&chord, &added, 2, 20000, 60, out, shelf, zero, marks);
-    told::text(b"  lifted at 15000: ");
-    edits::edit(&added, &ended, 3, 20000, 60, out, shelf, zero, marks);
-    told::text(b"  moved to 8192: ");
-    edits::edit(&ended, &moved, 2, 20000, 60, out, shelf, zero, marks);
-    told::text(b"  quieter: ");
-    edits::edit(&moved, &quieter, 2, 20000, 60, out, shelf, zero, marks);
-    told::text(b"  removed: ");
-    edits::edit(&quieter, &removed, 2, 20000, 60, out, shelf, zero, marks);
+fn edited(pair: &mut [f64; 40000], shelves: &mut [u64; 120]) {
+    let mut k = 0;
+    while k < 5 {
+        named(k);
+        edits::edit(&score(k), &score(k + 1), pair, shelves);
+        k += 1;
+    }
+}
+
+fn score(k: u64) -> [u64; 6] {
+    match k {
+        0 => [LOW, MIDDLE, HIGH, LAST, NONE, NONE],
+        1 => [LOW, MIDDLE, HIGH, 9000_1_064_110, LAST, NONE],
+        2 => [LOW, MIDDLE, HIGH, 9000_1_064_110, UP, LAST],
+        3 => [LOW, MIDDLE, HIGH, 8192_1_064_110, UP, LAST],
+        4 => [LOW, MIDDLE, HIGH, 8192_1_064_040, UP, LAST],
+        _ => [LOW, MIDDLE, HIGH, UP, LAST, NONE],
+    }
+}
+
+fn named(k: u64) {
+    match k {
+        0 => told::text(b"  a key added at 9000: "),
+        1 => told::text(b"  its end at 15000: "),
+        2 => told::text(b"  moved to 8192: "),
+        3 => told::text(b"  quieter: "),
+        _ => told::text(b"  removed: "),
+    }
 }

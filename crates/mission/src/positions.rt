@@ -5,13 +5,15 @@ use crate::told;
 
 const LAST: u64 = 16_777_216;
 
-const EARLY: u64 = 4_096;
+const LATE: [u64; 3] = [16777152_1_064_127, 16777215_2_064_000, 16777216_1_069_001];
+
+const EARLY: [u64; 3] = [4032_1_064_127, 4095_2_064_000, 4096_1_069_001];
 
 pub fn played() {
-    up_to(2, 0);
-    up_to(1, 1);
-    up_to(0, 64);
-    up_to(0, 300);
+    up_to(0, 2, &mut [0.0; 0]);
+    up_to(1, 1, &mut [0.0; 2]);
+    up_to(64, 0, &mut [0.0; 128]);
+    up_to(300, 0, &mut [0.0; 600]);
     told::text(b"continued past 16777216: ");
     past(LAST + 1);
     past(0xffff_ffff);
@@ -22,30 +24,34 @@ pub fn played() {
 }
 
 // So many samples up to the last position, before which so many records have acted, and so many from one sample later.
-fn up_to(acted: u64, n: usize) {
-    let score = [16777152_1_064_127, 16777215_2_064_000, 16777216_1_069_001];
-    let early = [4032_1_064_127, 4095_2_064_000, 4096_1_069_001];
-    let mut part = [0.0; 300];
-    let mut like = [0.0; 300];
+fn up_to(samples: u64, acted: u64, pair: &mut [f64]) {
+    let position = std::num::wrapping_sub_u64(LAST, samples);
+    let early = std::num::wrapping_sub_u64(4096, samples);
+    beside(acted, early, pair);
+    told::count(samples, b" samples up to 16777216: ");
+    tried(b"continued ", acted, position, pair);
+    tried(
+        b"one sample later ",
+        acted,
+        std::num::wrapping_add_u64(position, 1),
+        pair,
+    );
+    told::text(b"\n");
+}
+
+fn beside(acted: u64, position: u64, pair: &mut [f64]) {
+    let n = pair.len() / 2;
     let mut state = calls::at_rest(acted);
-    let mut same = calls::at_rest(acted);
-    let position = std::num::wrapping_sub_u64(LAST, n as u64);
-    let before = std::num::wrapping_sub_u64(EARLY, n as u64);
-    let said = calls::go_on(&score, 3, &mut state, position, 0, n, &mut part);
-    calls::go_on(&early, 3, &mut same, before, 0, n, &mut like);
-    told::count(n as u64, b" samples up to 16777216: ");
-    told::call(b"continued ", said, &part, &like, 0);
-    let after = std::num::wrapping_add_u64(position, 1);
-    let late = calls::go_on(&score, 3, &mut state, after, 0, n, &mut part);
-    told::call(b"one sample later ", late, &part, &like, 0);
-    told::end(&part, &state, &same, 0);
+    calls::go_on(&EARLY, &mut state, position, &mut pair[n..]);
+}
+
+fn tried(call: &[u8], acted: u64, position: u64, pair: &mut [f64]) {
+    let n = pair.len() / 2;
+    let mut state = calls::at_rest(acted);
+    let said = calls::go_on(&LATE, &mut state, position, &mut pair[0..n]);
+    told::call(call, said, pair);
 }
 
 fn past(position: u64) {
-    let mut state = calls::at_rest(0);
-    let mut part = [0.0; 3];
-    told::answer(
-        b"",
-        calls::go_on(&[0], 0, &mut state, position, 0, 3, &mut part),
-    );
+    tried(b"", 0, position, &mut [0.0; 6]);
 }

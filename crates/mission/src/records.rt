@@ -1,34 +1,70 @@
 // Scores from lists of records, without the code that is tried. A record is a number whose digits are the position, the kind,
-// three of the note and three of the velocity, as 17_1_047_090.
+// three of the note and three of the velocity, as 17_1_047_090. Where a list begins with a smaller number, there are so many
+// records: the list's, after its first as often as it takes.
+ghost use Prim.Native.Nat.{_≤_};
 
-// So many records: the list's, after its first as often as it takes.
-pub fn bytes(list: &[u64], count: usize) -> [u8; 40970] {
-    let mut bytes = [0u8; 40970];
-    write(list, count, &mut bytes);
+// One record more than a score may have.
+const BYTES: usize = 40970;
+
+pub fn bytes(list: &[u64]) -> [u8; BYTES] {
+    let mut bytes = [0u8; BYTES];
+    write(list, count(list), &mut bytes);
     bytes
 }
 
-fn write(list: &[u64], count: usize, bytes: &mut [u8]) {
+// How many of the bytes are the list's.
+pub fn size(list: &[u64]) -> usize
+    ensures { λ r. ⌜ r ≤ 40970 ⌝ }
+{
+    let records = count(list);
+    if records < 4097 {
+        return 10 * records;
+    }
+    BYTES
+}
+
+fn count(list: &[u64]) -> usize {
+    if list.len() == 0 {
+        return 0;
+    }
+    if list[0] < 1_000_000 {
+        return list[0] as usize;
+    }
+    list.len()
+}
+
+fn write(list: &[u64], records: usize, bytes: &mut [u8]) {
     let mut k = 0;
     while k < bytes.len() {
-        bytes[k] = byte_of(at(list, count, k / 10), k % 10);
+        bytes[k] = byte_of(at(list, records, k / 10), k % 10);
         k += 1;
     }
 }
 
 // Record i of so many.
-fn at(list: &[u64], count: usize, i: usize) -> u64 {
+fn at(list: &[u64], records: usize, i: usize) -> u64 {
+    if records <= i {
+        return 0;
+    }
+    let left = records - i;
+    if left < list.len() {
+        return list[list.len() - left];
+    }
+    first(list)
+}
+
+fn first(list: &[u64]) -> u64 {
     if list.len() == 0 {
         return 0;
     }
-    if count <= i {
-        return 0;
+    let number = list[0];
+    if list.len() == 1 {
+        return number;
     }
-    let left = count - i;
-    if list.len() < left {
-        return list[0];
+    if number < 1_000_000 {
+        return list[1];
     }
-    list[list.len() - left]
+    number
 }
 
 // Byte j of a record's ten.

@@ -1,61 +1,49 @@
 // Scores of 4,096 and 4,097 records, and with notes 127 and 128: what each call says of them, and what is heard.
 use crate::calls;
-use crate::compared;
 use crate::told;
 
+// What stands in the output before.
+const BEFORE: [u64; 1] = [0_1_033_033];
+
+const TWO: [u64; 2] = [0_1_040_100, 50_1_069_127];
+
+const ONE: [u64; 1] = [7_1_127_090];
+
 pub fn played() {
-    let two = [0_1_040_100, 50_1_069_127];
     told::text(b"4096 records, 4095 of them one key: ");
-    asked(&two, 4096, &two, 0);
+    asked(&[4096, 0_1_040_100, 50_1_069_127], &TWO, &TWO);
     told::text(b"4097 records: ");
-    asked(&two, 4097, &two, 300);
+    asked(&[4097, 0_1_040_100, 50_1_069_127], &TWO, &BEFORE);
     told::text(b"note 127: ");
-    asked(&[7_1_060_100, 7_1_127_090], 2, &[7_1_127_090], 0);
+    asked(&[7_1_060_100, 7_1_127_090], &ONE, &ONE);
     told::text(b"note 128: ");
-    asked(&[7_1_060_100, 7_1_128_090], 2, &[7_1_127_090], 300);
+    asked(&[7_1_060_100, 7_1_128_090], &ONE, &BEFORE);
 }
 
-// A score over rubbish, of which so much stays; the rest should be that of a score that sounds alike, since a key that goes
-// down at the sample where others went down sounds as it does alone.
-fn asked(score: &[u64], count: usize, like: &[u64], stay: usize) {
-    let mut out = [0.0; 300];
-    let mut shelf = [0u64; 12];
-    let mut zero = [0.0; 300];
-    let mut marks = [0u64; 12];
-    told::answer(b"check ", calls::check(score, count));
-    answered(
-        score,
-        count,
-        like,
-        stay,
-        &mut out,
-        &mut shelf,
-        &mut zero,
-        &mut marks,
-    );
+// A score that sounds like another, since a key that goes down at the sample where others went down sounds as it does alone;
+// and what should stand in the output after each call.
+fn asked(score: &[u64], like: &[u64], after: &[u64]) {
+    let mut pair = [0.0; 600];
+    let mut shelves = [0u64; 24];
+    calls::render(&BEFORE, &mut pair, &mut shelves);
+    calls::render_beside(after, &mut pair, &mut shelves);
+    answered(score, like, &mut pair, &mut shelves);
 }
 
-fn answered(
-    score: &[u64],
-    count: usize,
-    like: &[u64],
-    stay: usize,
-    out: &mut [f64; 300],
-    shelf: &mut [u64; 12],
-    zero: &mut [f64; 300],
-    marks: &mut [u64; 12],
-) {
-    calls::render(like, like.len(), 300, 12, zero, marks);
-    compared::spoil(300, out);
-    compared::spoil_but(1, marks, 12, shelf);
-    let whole = calls::render(score, count, 300, 12, out, shelf);
-    told::call(b"render ", whole, out, zero, stay);
-    let from = calls::rerender(score, count, like, like.len(), 300, 12, out, shelf);
-    told::call(b"re-render from it ", from, out, zero, stay);
-    let into = calls::rerender(like, like.len(), score, count, 300, 12, out, shelf);
-    told::call(b"into it ", into, out, zero, stay);
+fn answered(score: &[u64], like: &[u64], pair: &mut [f64; 600], shelves: &mut [u64; 24]) {
+    told::answer(b"check ", calls::check(score));
+    let whole = calls::render(score, pair, shelves);
+    told::call(b"render ", whole, pair);
+    let from = calls::rerender(score, like, pair, shelves);
+    told::call(b"re-render from it ", from, pair);
+    let into = calls::rerender(like, score, pair, shelves);
+    told::call(b"into it ", into, pair);
+    told::call(b"continued ", continued(score, pair), pair);
+    told::end(pair, shelves);
+}
+
+fn continued(score: &[u64], pair: &mut [f64]) -> u64 {
+    let n = pair.len() / 2;
     let mut state = calls::at_rest(0);
-    let part = calls::go_on(score, count, &mut state, 0, 0, 300, out);
-    told::call(b"continued ", part, out, zero, stay);
-    told::end(out, shelf, marks, stay);
+    calls::go_on(score, &mut state, 0, &mut pair[0..n])
 }

@@ -19,17 +19,14 @@ pub fn answer(call: &[u8], said: u64) {
     count(said / 0x1_0000_0000, b", ");
 }
 
-// What a call said, and how many samples are not as they should be.
-pub fn call(call: &[u8], said: u64, got: &[f64], wanted: &[f64], start: usize) {
+// What a call said, and how many samples of the pair differ.
+pub fn call(call: &[u8], said: u64, pair: &[f64]) {
     answer(call, said);
-    count(compared::samples(got, wanted, start), b" samples wrong; ");
+    count(compared::samples(pair), b" samples differ; ");
 }
 
-// How many words are not as they should be, and the check number of what is heard and kept.
-pub fn end(heard: &[f64], got: &[u64], wanted: &[u64], start: usize) {
-    count(
-        compared::words(got, wanted, start),
-        b" words wrong; check number ",
-    );
-    count(compared::check_number(heard, got), b"\n");
+// How many words of the shelves differ, and the check number of all.
+pub fn end(pair: &[f64], shelves: &[u64]) {
+    count(compared::words(shelves), b" words differ; check number ");
+    count(compared::check_number(pair, shelves), b"\n");
 }

@@ -1,15 +1,14 @@
--- `mission::compared::words` is safe and ends: what is left of the words falls. Assumes nothing.
+-- `mission::compared::words` is safe and ends: what is left of the first half falls. Assumes nothing.
 use borrow.Author.Needs.{needs}
 use Prim.Native.Nat.{_-_}
-use lib.ListN.{length}
 use Rattle.mission.proofs.compared.words.Statement.{statement}
 use Rattle.mission.proofs.compared.words.Tie as tie
 
 abbrev Inv-loop : tie.InvT-loop
-Inv-loop got wanted start unlike₀ i₀ unlike i = Unit
+Inv-loop shelves m unlike₀ i₀ unlike i = Unit
 
 abbrev μ-loop : tie.MeasureT-loop
-μ-loop got wanted start unlike₀ i₀ unlike i = length got - i
+μ-loop shelves m unlike₀ i₀ unlike i = m - i
 
 pub words-spec : {M : Type 1} → statement M
 words-spec =
@@ -20,7 +19,9 @@ words-spec =
     (λ c. search needs)
     (λ c. search needs)
     (λ c. search needs)
-    (λ c κs. search needs)
+    (λ c. search needs)
+    (λ c. search needs)
+    (λ c. search needs)
     (λ c κs. search needs)
     (λ c. search needs)
     (λ c. search needs)

@@ -5,10 +5,10 @@ use Rattle.mission.proofs.doctored.all.Statement.{statement}
 use Rattle.mission.proofs.doctored.all.Tie as tie
 
 abbrev Inv-loop : tie.InvT-loop
-Inv-loop from to stay shelf found₀ k₀ t7 t8 found k = Unit
+Inv-loop from to shelves pair₀ number₀ k₀ t7 t8 pair number k = Unit
 
 abbrev μ-loop : tie.MeasureT-loop
-μ-loop from to stay shelf found₀ k₀ t7 t8 found k = to - k
+μ-loop from to shelves pair₀ number₀ k₀ t7 t8 pair number k = to - k
 
 pub all-spec : {M : Type 1} → statement M
 all-spec =
@@ -17,6 +17,8 @@ all-spec =
     Inv-loop
     μ-loop
     (λ c. search needs)
+    (λ c κs. search needs)
+    (λ c κs. search needs)
     (λ c κs. search needs)
     (λ c. search needs)
     (λ c. search needs)

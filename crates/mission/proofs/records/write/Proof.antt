@@ -7,10 +7,10 @@ use Rattle.mission.proofs.records.write.Statement.{statement}
 use Rattle.mission.proofs.records.write.Tie as tie
 
 abbrev Inv-loop : tie.InvT-loop
-Inv-loop list count bytes₀ k₀ bytes k = length bytes ≡ length bytes₀
+Inv-loop list records bytes₀ k₀ bytes k = length bytes ≡ length bytes₀
 
 abbrev μ-loop : tie.MeasureT-loop
-μ-loop list count bytes₀ k₀ bytes k = length bytes₀ - k
+μ-loop list records bytes₀ k₀ bytes k = length bytes₀ - k
 
 pub write-spec : {M : Type 1} → statement M
 write-spec =
