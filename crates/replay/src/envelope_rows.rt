@@ -11,11 +11,10 @@ use envelope::Processed;
 pub const ROW: usize = 200;
 
 pub fn is_equal(row: &[u8]) -> bool {
-    let length = words::u64_at(row, 48);
-    let lent = fields::at_most(length, 8);
+    let lent = fields::at_most(words::u64_at(row, 48), 8);
     let mut slots = [fields::UNWRITTEN; 8];
     let told = is_called(row, &mut slots[0..lent]);
-    told & (words::u64_at(row, 0) < 5) & (length < 9) & fields::are_slots(row, 136, &slots)
+    told & (words::u64_at(row, 0) < 5) & fields::are_slots(row, 136, &slots)
 }
 
 // Whether the call answers and leaves what it must.

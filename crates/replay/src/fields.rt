@@ -24,6 +24,11 @@ pub fn after(at: usize, words: usize) -> usize {
     std::num::wrapping_add_usize(at, words << 3)
 }
 
+// The byte so many words before another.
+pub fn before(at: usize, words: usize) -> usize {
+    std::num::wrapping_sub_usize(at, words << 3)
+}
+
 pub fn float_at(row: &[u8], at: usize) -> f64 {
     words::f64_of(words::u64_at(row, at))
 }

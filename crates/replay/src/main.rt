@@ -63,12 +63,9 @@ fn replay(row: &mut [u8]) {
 // Replays and tells a part; whether there was one.
 fn is_part(row: &mut [u8]) -> bool {
     let got = filled(row, 0, HEAD);
-    if got == 0 {
-        return false;
-    }
     let name = words::u64_at(row, 0);
     if (got < HEAD) | (first_of(name) == 0) {
-        tell_nothing();
+        tell_no_part(got);
         return false;
     }
     tell(name, replayed(name, words::u64_at(row, 8), row));
@@ -160,8 +157,11 @@ fn is_equal(name: u64, row: &[u8]) -> bool {
     }
 }
 
-fn tell_nothing() {
-    io::write_all(STDOUT_FILENO, b"no part\n");
+// Where the input ends there is nothing to tell.
+fn tell_no_part(got: usize) {
+    if got > 0 {
+        io::write_all(STDOUT_FILENO, b"no part\n");
+    }
 }
 
 fn tell(name: u64, tally: Tally) {

@@ -20,21 +20,13 @@ pub const MORE: usize = 8;
 // What each word of the shelf holds before a call: no entry has that stage.
 const UNKEPT: u64 = 0x2a2a_2a2a_2a2a_2a2a;
 
-// Where a row has its samples, of a sine the scales, and its shelf, and where the row ends, in bytes.
-struct Places {
-    samples: usize,
-    scales: usize,
-    shelf: usize,
-    end: usize,
-}
-
 pub fn compared(row: &[u8]) -> Finding {
     let mut out = [fields::UNWRITTEN; 10000];
     let mut shelf = [UNKEPT; 48];
     compared_in(row, &mut out, &mut shelf)
 }
 
-// As much is lent as the row says, or as there is: then the row has another end.
+// As much is lent as the row says, or as there is.
 fn compared_in(row: &[u8], out: &mut [f64], shelf: &mut [u64]) -> Finding {
     let samples = fields::at_most(words::u64_at(row, 72), out.len());
     let kept = fields::at_most(words::u64_at(row, 88), shelf.len());
@@ -42,38 +34,23 @@ fn compared_in(row: &[u8], out: &mut [f64], shelf: &mut [u64]) -> Finding {
     judged(row, told, &out[0..samples], &shelf[0..kept])
 }
 
+// The shelf is the last that a row has; before it stand the samples, of a sine the scales between.
 fn judged(row: &[u8], told: bool, out: &[f64], shelf: &[u64]) -> Finding {
-    let places = places_of(row, out.len(), shelf.len());
-    let found = compared_samples(row, places, out);
+    let end = fields::after(ROW, words::u64_at(row, MORE) as usize);
+    let first = fields::before(end, shelf.len());
+    let found = compared_samples(row, fields::before(first, out.len()), out);
     Finding {
-        equal: told
-            & (places.end == fields::after(ROW, words::u64_at(row, MORE) as usize))
-            & found.equal
-            & fields::are_words(row, places.shelf, shelf),
+        equal: told & found.equal & fields::are_words(row, first, shelf),
         farthest: found.farthest,
     }
 }
 
-fn places_of(row: &[u8], count: usize, kept: usize) -> Places {
-    let samples = first_sample(row, count, kept);
-    let scales = fields::after(samples, count);
-    let mut shelf = scales;
-    if is_measured(row) {
-        shelf = fields::after(scales, count);
+// A sine is measured where the original was asked; a refusal has left every number as it was.
+fn compared_samples(row: &[u8], last: usize, samples: &[f64]) -> Finding {
+    if (words::u64_at(row, 24) == 0) & (words::u64_at(row, 200) == 0) {
+        return fields::measured(row, fields::before(last, samples.len()), last, 8, samples);
     }
-    Places {
-        samples,
-        scales,
-        shelf,
-        end: fields::after(shelf, kept),
-    }
-}
-
-fn first_sample(row: &[u8], count: usize, kept: usize) -> usize {
-    if words::u64_at(row, 0) == 2 {
-        return fields::after(fields::after(first_found(row), count), kept);
-    }
-    after_score(row)
+    tally::exactly(fields::are_floats(row, last, samples))
 }
 
 // Where a re-render's row has the first sample that the call finds.
@@ -185,16 +162,4 @@ fn is_answer(row: &[u8], answer: Answer) -> bool {
 fn is_state(row: &[u8], state: State) -> bool {
     let entry = shelf::encode(state);
     fields::are_words(row, 224, &entry)
-}
-
-// A sine is measured where the original was asked; a refusal has left every number as it was.
-fn compared_samples(row: &[u8], places: Places, samples: &[f64]) -> Finding {
-    if is_measured(row) {
-        return fields::measured(row, places.samples, places.scales, 8, samples);
-    }
-    tally::exactly(fields::are_floats(row, places.samples, samples))
-}
-
-fn is_measured(row: &[u8]) -> bool {
-    (words::u64_at(row, 24) == 0) & (words::u64_at(row, 200) == 0)
 }

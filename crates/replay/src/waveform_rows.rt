@@ -7,11 +7,10 @@ use waveform::Waveform;
 pub const ROW: usize = 136;
 
 pub fn is_equal(row: &[u8]) -> bool {
-    let length = words::u64_at(row, 48);
-    let lent = fields::at_most(length, 8);
+    let lent = fields::at_most(words::u64_at(row, 48), 8);
     let mut slots = [fields::UNWRITTEN; 8];
     let told = is_called(row, &mut slots[0..lent]);
-    told & (length < 9) & fields::are_slots(row, 72, &slots)
+    told & fields::are_slots(row, 72, &slots)
 }
 
 // Whether the call answers what it must.
