@@ -126,13 +126,13 @@ fn one(doctored: [u64; 48], pair: &mut [f64; 8800]) -> u64 {
 }
 
 fn continued(pair: &mut [f64], shelves: &mut [u64]) -> u64 {
-    if pair.len() < 8800 {
+    if pair.len() < 8496 {
         return 0;
     }
-    if shelves.len() < 48 {
+    if shelves.len() < 36 {
         return 0;
     }
-    calls::go_on(&NEW, &mut shelves[36..48], 4096, &mut pair[8496..8800])
+    calls::go_on(&NEW, &mut shelves[36..], 4096, &mut pair[8496..])
 }
 
 // The word of each change, in both halves, is a letter: a is the first of the entry.

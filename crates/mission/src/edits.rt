@@ -4,17 +4,14 @@ use crate::told;
 
 // The first score, in both halves.
 pub fn begun(score: &[u64], pair: &mut [f64], shelves: &mut [u64]) {
-    let said = calls::render(score, pair, shelves);
     calls::render_beside(score, pair, shelves);
-    told::call(b"render ", said, pair);
+    told::render(score, pair, shelves);
     told::end(pair, shelves);
 }
 
 // The second half has a render of the old score first, and then one of the new.
 pub fn edit(old: &[u64], new: &[u64], pair: &mut [f64], shelves: &mut [u64]) {
-    let said = calls::rerender(old, new, pair, shelves);
-    told::call(b"re-render, beside the old score ", said, pair);
-    let whole = calls::render_beside(new, pair, shelves);
-    told::call(b"beside a render from zero ", whole, pair);
+    told::rerender(old, new, pair, shelves);
+    told::render_beside(new, pair, shelves);
     told::end(pair, shelves);
 }

@@ -24,7 +24,16 @@ mod sustain;
 mod told;
 
 fn main() {
+    told::text(
+        b"what a call said is number, place, count, then samples that differ from what they should be\n",
+    );
+    told::text(
+        b"a score by check, render, re-render from it, re-render into it, continuing call:\n",
+    );
     scores::played();
+    told::text(
+        b"an edit by re-render beside the old score, and beside a render of the new one from zero:\n",
+    );
     lengths::played();
     sustain::played();
     pad::played();

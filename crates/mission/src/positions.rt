@@ -14,7 +14,7 @@ pub fn played() {
     up_to(1, 1, &mut [0.0; 2]);
     up_to(64, 0, &mut [0.0; 128]);
     up_to(300, 0, &mut [0.0; 600]);
-    told::text(b"continued past 16777216: ");
+    told::text(b"3 samples continued past 16777216: ");
     past(LAST + 1);
     past(0xffff_ffff);
     past(0x1_0000_0000);
@@ -26,16 +26,13 @@ pub fn played() {
 // So many samples up to the last position, before which so many records have acted, and so many from one sample later.
 fn up_to(samples: u64, acted: u64, pair: &mut [f64]) {
     let position = std::num::wrapping_sub_u64(LAST, samples);
-    let early = std::num::wrapping_sub_u64(4096, samples);
-    beside(acted, early, pair);
-    told::count(samples, b" samples up to 16777216: ");
-    tried(b"continued ", acted, position, pair);
-    tried(
-        b"one sample later ",
-        acted,
-        std::num::wrapping_add_u64(position, 1),
-        pair,
+    told::count(
+        samples,
+        b" samples continued up to 16777216, and one sample later: ",
     );
+    beside(acted, std::num::wrapping_sub_u64(4096, samples), pair);
+    tried(acted, position, pair);
+    tried(acted, std::num::wrapping_add_u64(position, 1), pair);
     told::text(b"\n");
 }
 
@@ -45,13 +42,15 @@ fn beside(acted: u64, position: u64, pair: &mut [f64]) {
     calls::go_on(&EARLY, &mut state, position, &mut pair[n..]);
 }
 
-fn tried(call: &[u8], acted: u64, position: u64, pair: &mut [f64]) {
+fn tried(acted: u64, position: u64, pair: &mut [f64]) {
     let n = pair.len() / 2;
     let mut state = calls::at_rest(acted);
-    let said = calls::go_on(&LATE, &mut state, position, &mut pair[0..n]);
-    told::call(call, said, pair);
+    told::call(
+        calls::go_on(&LATE, &mut state, position, &mut pair[0..n]),
+        pair,
+    );
 }
 
 fn past(position: u64) {
-    tried(b"", 0, position, &mut [0.0; 6]);
+    tried(0, position, &mut [0.0; 6]);
 }

@@ -20,7 +20,7 @@ pub fn played() {
     asked(&[7_1_060_100, 7_1_128_090], &ONE, &BEFORE);
 }
 
-// A score that sounds like another, since a key that goes down at the sample where others went down sounds as it does alone;
+// By the check, the render, the re-render from it and into it, and the continuing call. A score that sounds like another, since a key that goes down at the sample where others went down sounds as it does alone;
 // and what should stand in the output after each call.
 fn asked(score: &[u64], like: &[u64], after: &[u64]) {
     let mut pair = [0.0; 600];
@@ -31,19 +31,16 @@ fn asked(score: &[u64], like: &[u64], after: &[u64]) {
 }
 
 fn answered(score: &[u64], like: &[u64], pair: &mut [f64; 600], shelves: &mut [u64; 24]) {
-    told::answer(b"check ", calls::check(score));
-    let whole = calls::render(score, pair, shelves);
-    told::call(b"render ", whole, pair);
-    let from = calls::rerender(score, like, pair, shelves);
-    told::call(b"re-render from it ", from, pair);
-    let into = calls::rerender(like, score, pair, shelves);
-    told::call(b"into it ", into, pair);
-    told::call(b"continued ", continued(score, pair), pair);
+    told::answer(calls::check(score));
+    told::render(score, pair, shelves);
+    told::rerender(score, like, pair, shelves);
+    told::rerender(like, score, pair, shelves);
+    continued(score, pair);
     told::end(pair, shelves);
 }
 
-fn continued(score: &[u64], pair: &mut [f64]) -> u64 {
+fn continued(score: &[u64], pair: &mut [f64]) {
     let n = pair.len() / 2;
     let mut state = calls::at_rest(0);
-    calls::go_on(score, &mut state, 0, &mut pair[0..n])
+    told::call(calls::go_on(score, &mut state, 0, &mut pair[0..n]), pair);
 }

@@ -1,4 +1,5 @@
-// What a line tells.
+// What a line tells: what a call said, as number, place and count, and after a call on a pair how many samples of it differ.
+use crate::calls;
 use crate::compared;
 use libc::STDOUT_FILENO;
 
@@ -6,23 +7,32 @@ pub fn text(words: &[u8]) {
     io::write_all(STDOUT_FILENO, words);
 }
 
-pub fn count(n: u64, what: &[u8]) {
+pub fn count(n: u64, after: &[u8]) {
     io::print_decimal(STDOUT_FILENO, n);
-    io::write_all(STDOUT_FILENO, what);
+    io::write_all(STDOUT_FILENO, after);
 }
 
-// What a call said: number, place, count.
-pub fn answer(call: &[u8], said: u64) {
-    text(call);
+pub fn answer(said: u64) {
     count(said % 256, b" ");
     count(said / 256 % 0x100_0000, b" ");
     count(said / 0x1_0000_0000, b", ");
 }
 
-// What a call said, and how many samples of the pair differ.
-pub fn call(call: &[u8], said: u64, pair: &[f64]) {
-    answer(call, said);
-    count(compared::samples(pair), b" samples differ; ");
+pub fn call(said: u64, pair: &[f64]) {
+    answer(said);
+    count(compared::samples(pair), b" differ; ");
+}
+
+pub fn render(score: &[u64], pair: &mut [f64], shelves: &mut [u64]) {
+    call(calls::render(score, pair, shelves), pair);
+}
+
+pub fn render_beside(score: &[u64], pair: &mut [f64], shelves: &mut [u64]) {
+    call(calls::render_beside(score, pair, shelves), pair);
+}
+
+pub fn rerender(old: &[u64], new: &[u64], pair: &mut [f64], shelves: &mut [u64]) {
+    call(calls::rerender(old, new, pair, shelves), pair);
 }
 
 // How many words of the shelves differ, and the check number of all.
