@@ -30,7 +30,7 @@ decayLevel decay sustain e = one ⊖ (one ⊖ sustain) ⊗ (e .«stage_time» �
 abbrev pub releaseLevel : Float → Envelope → Float
 releaseLevel release e = e .«release_level» ⊗ (one ⊖ e .«stage_time» ⊘ release)
 
--- of any stage, before its end is looked at
+-- of any stage, before its end is looked at. This and the next serve private functions, which make the rules below of them; no public statement cites the two
 abbrev pub levelOf : EnvelopeStage → Adsr → Envelope → Float
 levelOf Idle k e = naught
 levelOf Attack k e = attackLevel (k .attack) e

@@ -38,7 +38,7 @@ counted acted = cond (ltb acted 18446744073709551615) (acted + 1) acted
 abbrev pub freshOf : ℕ → State
 freshOf acted = record { phase = radians naught; envelope = envelope.freshOf; frequency = concert; velocity = naught; keys = freshKeys; acted = acted }
 
--- ---- the state with a part of it changed: a field more is named here and above, and nowhere below
+-- ---- the state with a part of it changed. A field more is named in these, in `freshOf`, in `withActed` of ButActed.antt and in shelf's `stateOf`, which say all fields
 abbrev pub withPhase : State → Float → State
 withPhase v p = record { phase = radians p; envelope = v .envelope; frequency = v .frequency; velocity = v .velocity; keys = v .keys; acted = v .acted }
 
