@@ -16,6 +16,7 @@ import shutil
 import subprocess
 import tempfile
 import threading
+import time
 from concurrent.futures import ThreadPoolExecutor
 from pathlib import Path
 from typing import NamedTuple
@@ -260,6 +261,15 @@ def current(crates):
         raise ValueError(ran.stdout + ran.stderr)
 
 
+def await_proof(crate):
+    """Beside a gate, whose file RT_CI_ENDED names: waits until rt ci has proved the crate. ValueError where it ends without."""
+    ended = Path(os.environ["RT_CI_ENDED"])
+    while not (ROOT / "target/stamp" / crate).is_file():
+        if ended.exists() and not (ROOT / "target/stamp" / crate).is_file():
+            raise ValueError(f"rt ci did not prove {crate}")
+        time.sleep(1)
+
+
 def in_memory():
     """A folder for files that a check writes and removes by the thousand: in memory, where there are 4 GB to be had."""
     place = "/dev/shm"
@@ -269,18 +279,29 @@ def in_memory():
 
 
 def try_all(programs):
-    """Tries the programs, two checks at a time, those of crates that stand on many first; what became of each."""
+    """Tries the programs, two checks at a time; what became of each. Beside a gate each crate's as soon as rt ci has proved the
+    crate, from the lowest on; else those of crates that stand on many first, as they take longest."""
     if not programs:
         return
-    crates = sorted({program.crate for program in programs})
-    current(crates)
+    beside = "RT_CI_ENDED" in os.environ
+    crates = {program.crate for program in programs}
     with tempfile.TemporaryDirectory(prefix="wrong-", dir=in_memory()) as room, ThreadPoolExecutor(AT_A_TIME) as pool:
         checker = Checker(room)
-        weight = {crate: len(checker.needs[crate]) for crate in crates}
-        checker.learn_seeds(min(crates, key=weight.get))
+        lowest_first = sorted(crates, key=list(checker.needs).index)
+        if beside:
+            await_proof(lowest_first[0])
+        else:
+            current(lowest_first)
+        checker.learn_seeds(lowest_first[0])
+        rank = {crate: i for i, crate in enumerate(lowest_first if beside else lowest_first[::-1])}
+
+        def tried(batch):
+            if beside:
+                await_proof(next(iter(batch.values())).crate)
+            return checker.tried(batch)
+
         try:
-            dearest_first = sorted(batches(programs), key=lambda batch: -weight[next(iter(batch.values())).crate])
-            for tried in pool.map(checker.tried, dearest_first):
-                yield from tried
+            for all_of_it in pool.map(tried, sorted(batches(programs), key=lambda batch: rank[next(iter(batch.values())).crate])):
+                yield from all_of_it
         finally:
             pool.shutdown(cancel_futures=True)
