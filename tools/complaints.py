@@ -34,10 +34,12 @@ COMPLAINT = re.compile(
 )
 
 
-def said(log, tried):
-    """The first complaint of a log, and why it is no fact that fails, or None."""
+def said(log, tried, is_meant=lambda place: True):
+    """The first complaint of a log that is meant, by its place in the crate, and why it is no fact that fails, or None."""
     for found in COMPLAINT.finditer(log):
         shown = found[0].removeprefix("note: ").split("\n")[0].split(f"/{tried}/", 1)[-1][:300]
+        if not is_meant(shown):
+            continue
         if found["note"]:
             return shown, None
         message = " ".join(found["error"].split())

@@ -28,6 +28,9 @@ AT_A_TIME = 2  # a check takes up to 2 GB
 SECONDS = 900  # and none takes so long
 FORM = re.compile(r"says: (?P<says>\S.*)\n(?:gate: (?P<gate>yes|listed)\n)?(?:file: \S+\n(?:old: .+\nnew:(?: .*)?\n)+)+")
 EDIT = re.compile(r"^(file|old|new):(?: (.*))?$", re.M)
+# What begins a function, of a type or not, or another item of a file.
+ITEM = re.compile(r"^(?:impl (?P<type>\w+)|(?P<inner> +)?(?:pub )?(?:extern \"C\" )?fn (?P<fn>\w+)|(?:pub )?(?:const|struct|enum) )", re.M)
+PLACE = re.compile(r"(?:(src/\S+\.rt):(\d+):|proofs/(\S+)/Proof\.antt:)")
 
 
 class Program(NamedTuple):
@@ -43,7 +46,6 @@ class Tried(NamedTuple):
     fault: str  # empty where a fact refused it
     complaint: str  # the first
     seeded: bool
-    seconds: float
 
 
 def files(folder):
@@ -79,9 +81,9 @@ def texts_of(folder):
     return {f.relative_to(folder).as_posix(): f.read_bytes().decode("utf-8") for f in found}
 
 
-def made(program):
-    """The files of the program's crate with its edits made. ValueError where one does not fit."""
-    texts = texts_of(ROOT / "crates" / program.crate)
+def made(program, texts=None):
+    """The files of the program's crate, or those given, with its edits made. ValueError where one does not fit."""
+    texts = dict(texts or texts_of(ROOT / "crates" / program.crate))
     for name, old, new in program.edits:
         if not re.match("(?:src|specs)/", name) or name not in texts:
             raise misfit(program.file, f"{name} is no file of src/ or specs/")
@@ -94,13 +96,62 @@ def made(program):
     return texts
 
 
+def function_at(name, text, place):
+    """The function of a file in which a place of its text lies, as the folder of its proof; None where none does."""
+    items = [item for item in ITEM.finditer(text) if item.start() <= place]
+    if not items or not items[-1]["fn"]:
+        return None
+    types = [item["type"] for item in items if item["type"]] if items[-1]["inner"] else []
+    modules = [] if name in ("src/lib.rt", "src/main.rt") else [Path(name).stem]
+    return "/".join([*modules, *types[-1:], items[-1]["fn"]])
+
+
+def function_of(program):
+    """The one function that a program changes; None where it changes several, or anything else."""
+    texts = texts_of(ROOT / "crates" / program.crate)
+    found = set()
+    for name, old, _ in program.edits:
+        start = texts[name].find(old)
+        found.add(function_at(name, texts[name], start + len(old)) if name.startswith("src/") else None)
+    return found.pop() if len(found) == 1 else None
+
+
+def batches(programs):
+    """The programs in lists, each of one crate and of as many functions as programs: one check tries all of a list, since a
+    function's proof knows the others by their contracts alone, which no such program changes."""
+    lists = {}
+    for program in programs:
+        function = function_of(program)
+        of_crate = lists.setdefault(program.crate, [])
+        fitting = [batch for batch in of_crate if function and None not in batch and function not in batch]
+        if fitting:
+            fitting[0][function] = program
+        else:
+            of_crate.append({function: program})
+    return [batch for of_crate in lists.values() for batch in of_crate]
+
+
+def is_of(function, texts):
+    """A test of a complaint's place: whether it lies in the function or in its proof."""
+
+    def test(shown):
+        place = PLACE.match(shown)
+        if not place or place[3]:
+            return place is not None and place[3] == function
+        lines = texts[place[1]].split("\n")
+        return function_at(place[1], texts[place[1]], len("\n".join(lines[: int(place[2])]))) == function
+
+    return test
+
+
 class Checker:
     """Checks copies of crates in a folder outside the repository, over what target/ has of the crates below them.
 
     A check of one function's edit need not prove the others again: it may start from the modules of the crate that were
     checked when target/rlib/CRATE.rlib was made, its seed, which rattle takes from a folder of its own in the one that
     --incremental names. What a program is refused for is judged by the complaint; whatever a fact does not refuse over the
-    seed is checked again from nothing, and that counts.
+    seed is checked again from nothing, and that counts. Programs of different functions are tried by one check, and each is
+    judged by the complaints of its own function.
     """
 
     def __init__(self, room):
@@ -153,7 +204,7 @@ class Checker:
         return ran.returncode, (ran.stdout + ran.stderr).decode("utf-8", "replace")
 
     def check(self, crate, texts, seeded):
-        """Why no fact refuses the texts, empty where one does; the first complaint; whether the seed was taken."""
+        """The exit status, the log, the folder that was checked, and whether the seed was taken."""
         home = self.folder(texts)
         words = self.words(crate, home)
         if seeded:
@@ -161,25 +212,46 @@ class Checker:
             words += ["--incremental", home / "kept"]
         status, log = self.run(words)
         shutil.rmtree(home)
-        complaint, no_fact = said(log, str(home).strip("/"))
-        taken = re.search(f"^crate {crate}: modules loaded=[1-9]", log, re.M) is not None
-        if status == 0:
-            return "it is proved: no statement rules it out", "", taken
-        if status is None:
-            return f"no verdict in {SECONDS} s", "", taken
-        if status != 1 or not re.search("^logic=not-proved", log, re.M):
-            return f"it did not reach the prover, or the prover could not tell (exit {status})", complaint or log[-300:], taken
-        return no_fact or "", complaint, taken
+        return status, log, str(home).strip("/"), re.search(f"^crate {crate}: modules loaded=[1-9]", log, re.M) is not None
 
-    def tried(self, program):
-        began = time.time()
+    def judged(self, status, log, home, is_meant=lambda place: True):
+        """Why no fact refuses what was checked, empty where one does; and the first complaint that is meant."""
+        complaint, no_fact = said(log, home, is_meant)
+        if status == 0:
+            return "it is proved: no statement rules it out", ""
+        if status is None:
+            return f"no verdict in {SECONDS} s", ""
+        if status != 1 or not re.search("^logic=not-proved", log, re.M):
+            return f"it did not reach the prover, or the prover could not tell (exit {status})", complaint or log[-300:]
+        return no_fact or "", complaint
+
+    def alone(self, program):
+        """What becomes of one program: over the seed, and from nothing where no fact refuses it so."""
         texts = made(program)
         if self.seeds and self.seed_of(program.crate).is_dir():
-            fault, complaint, taken = self.check(program.crate, texts, True)
+            status, log, home, taken = self.check(program.crate, texts, True)
+            fault, complaint = self.judged(status, log, home)
             if not fault and taken:
-                return Tried(program, "", complaint, True, time.time() - began)
-        fault, complaint, _ = self.check(program.crate, texts, False)
-        return Tried(program, fault, complaint, False, time.time() - began)
+                return Tried(program, "", complaint, True)
+        status, log, home, _ = self.check(program.crate, texts, False)
+        return Tried(program, *self.judged(status, log, home), False)
+
+    def tried(self, batch):
+        """What becomes of the programs of a batch: of all in one check, and of each alone that no fact of its own refuses."""
+        programs = list(batch.values())
+        crate = programs[0].crate
+        if len(programs) == 1 or not (self.seeds and self.seed_of(crate).is_dir()):
+            return [self.alone(program) for program in programs]
+        texts = texts_of(ROOT / "crates" / crate)
+        for program in programs:
+            texts = made(program, texts)
+        status, log, home, taken = self.check(crate, texts, True)
+        all_of_it = []
+        for function, program in batch.items():
+            fault, complaint = self.judged(status, log, home, is_of(function, texts))
+            refused = taken and not fault
+            all_of_it.append(Tried(program, "", complaint, True) if refused else self.alone(program))
+        return all_of_it
 
 
 def current(crates):
@@ -187,6 +259,15 @@ def current(crates):
     ran = subprocess.run(["rt", "check", *crates], cwd=ROOT, capture_output=True, text=True)
     if ran.returncode != 0:
         raise ValueError(ran.stdout + ran.stderr)
+
+
+def await_proof(crate):
+    """Beside a gate, whose file RT_CI_ENDED names: waits until rt ci has proved the crate. ValueError where it ends without."""
+    ended = Path(os.environ["RT_CI_ENDED"])
+    while not (ROOT / "target/stamp" / crate).is_file():
+        if ended.exists() and not (ROOT / "target/stamp" / crate).is_file():
+            raise ValueError(f"rt ci did not prove {crate}")
+        time.sleep(1)
 
 
 def in_memory():
@@ -198,16 +279,29 @@ def in_memory():
 
 
 def try_all(programs):
-    """Tries the programs, two at a time, those of crates that stand on many first; what became of each."""
+    """Tries the programs, two checks at a time; what became of each. Beside a gate each crate's as soon as rt ci has proved the
+    crate, from the lowest on; else those of crates that stand on many first, as they take longest."""
     if not programs:
         return
-    crates = sorted({program.crate for program in programs})
-    current(crates)
+    beside = "RT_CI_ENDED" in os.environ
+    crates = {program.crate for program in programs}
     with tempfile.TemporaryDirectory(prefix="wrong-", dir=in_memory()) as room, ThreadPoolExecutor(AT_A_TIME) as pool:
         checker = Checker(room)
-        weight = {crate: len(checker.needs[crate]) for crate in crates}
-        checker.learn_seeds(min(crates, key=weight.get))
+        lowest_first = sorted(crates, key=list(checker.needs).index)
+        if beside:
+            await_proof(lowest_first[0])
+        else:
+            current(lowest_first)
+        checker.learn_seeds(lowest_first[0])
+        rank = {crate: i for i, crate in enumerate(lowest_first if beside else lowest_first[::-1])}
+
+        def tried(batch):
+            if beside:
+                await_proof(next(iter(batch.values())).crate)
+            return checker.tried(batch)
+
         try:
-            yield from pool.map(checker.tried, sorted(programs, key=lambda program: -weight[program.crate]))
+            for all_of_it in pool.map(tried, sorted(batches(programs), key=lambda batch: rank[next(iter(batch.values())).crate])):
+                yield from all_of_it
         finally:
             pool.shutdown(cancel_futures=True)
