@@ -3,6 +3,7 @@
 A file crates/NAME/must-fail/LABEL.edit (rt tries it) or crates/NAME/wrong/LABEL.edit has these lines, in this order:
 
     says: what is wrong, in one line
+    of: phase::PhaseAccumulator::reset           (the function that is wrong then; more may follow, after commas)
     gate: yes                                    (in wrong/ alone; `listed`: only `tools/mutants --listed` tries it)
     file: src/lib.rt                             (of src/ or of specs/)
     old: a text of one line, which stands in the file once
@@ -26,7 +27,10 @@ from complaints import said
 ROOT = Path(__file__).resolve().parent.parent
 AT_A_TIME = 2  # a check takes up to 2 GB
 SECONDS = 900  # and none takes so long
-FORM = re.compile(r"says: (?P<says>\S.*)\n(?:gate: (?P<gate>yes|listed)\n)?(?:file: \S+\n(?:old: .+\nnew:(?: .*)?\n)+)+")
+FORM = re.compile(
+    r"says: (?P<says>\S.*)\nof: (?P<of>[\w:]+(?:, [\w:]+)*)\n(?:gate: (?P<gate>yes|listed)\n)?"
+    r"(?:file: \S+\n(?:old: .+\nnew:(?: .*)?\n)+)+"
+)
 EDIT = re.compile(r"^(file|old|new):(?: (.*))?$", re.M)
 
 
@@ -34,6 +38,7 @@ class Program(NamedTuple):
     file: Path
     crate: str
     says: str
+    of: list
     gate: str
     edits: list
 
@@ -70,7 +75,7 @@ def read(file):
             old = value
         else:
             edits.append((name, old, value))
-    return Program(file, file.parent.parent.name, form["says"], form["gate"] or "", edits)
+    return Program(file, file.parent.parent.name, form["says"], form["of"].split(", "), form["gate"] or "", edits)
 
 
 def texts_of(folder):
