@@ -480,14 +480,22 @@ def entry(texts, specs, rows, function, wrong):
 
 def printed(texts):
     """The whole index."""
-    specs, rows, lines = Specs(texts), calls(texts), []
+    specs, rows, lines, kinds, gates = Specs(texts), calls(texts), [], [], []
     for crate in crates(texts):
         held, wrong = list(public(texts, crate)), list(wrong_programs(texts, crate))
+        kinds += [kind_of(rows, function.name) for function in held]
+        gates += [one.gate for one in wrong]
         if held:
             lines.append(f"\n## {crate}")
         for function in held:
             lines += entry(texts, specs, rows, function, wrong)
-    return HEAD + "\n".join(lines) + "\n"
+    return HEAD + f"\n{counted(kinds, 'public functions')}\n{counted(gates, 'wrong programs')}\n" + "\n".join(lines) + "\n"
+
+
+def counted(words, what):
+    """How many there are, in all and of each."""
+    each = [f"{words.count(word)} {word}" for word in sorted(set(words))]
+    return f"{len(words)} {what}: {'; '.join(each)}."
 
 
 # ---- what does not hold
@@ -509,6 +517,8 @@ def faults(texts):
     for name, times in seen.items():
         if times > 1:
             yield f"{name}: {times} public functions have this name"
+    for name in sorted(set(SHARED) - set(seen)):
+        yield f"{name}: tools/ties.py names its theorem, and there is no such public function"
     for name, held in rows.items():
         if name not in seen:
             yield f"{name}: the table of calls names it, and there is no such public function"
