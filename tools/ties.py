@@ -45,6 +45,7 @@ TOKEN = re.compile(
     re.S,
 )
 COMMENT = re.compile(r"//[^\n]*|/\*.*?\*/", re.S)
+ARROW = re.compile(r"\s*->.*?(?=\s*(?:\b(?:ensures|requires)\b|\{))", re.S)
 CLAUSE = re.compile(r"\s*(?P<key>\w+)\s*\{")
 FORMULA = re.compile(r"λ (\w+)\. ⌜ (.*) ⌝", re.S)
 USE = re.compile(r"^(?:ghost )?use ([^\s{};]+?)(?:\.\{([^}]*)\}| as (\S+?))?;?$", re.M)
@@ -141,7 +142,7 @@ def signature(name, path, text):
         else:
             piece += sign
     at, answers, clauses = end + 1, False, []
-    if arrow := re.compile(r"\s*->\s*(?:[^\s\[{]+|\[[^]]*\])").match(text, at):
+    if arrow := ARROW.match(text, at):
         at, answers = arrow.end(), True
     while clause := CLAUSE.match(text, at):
         end = closing(text, clause.end() - 1)
