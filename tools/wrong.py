@@ -9,7 +9,8 @@ A file crates/NAME/must-fail/LABEL.edit (rt tries it) or crates/NAME/wrong/LABEL
     old: a text of one line, which stands in the file once
     new: what stands there instead
 
-More pairs of `old:` and `new:` may follow, and more files; each edit is made on what those before it left.
+In wrong/ a text may have more lines, each behind an `old:` or a `new:` of its own. More pairs of `old:` and `new:` may
+follow, and more files; each edit is made on what those before it left.
 """
 import os
 import re
@@ -29,7 +30,7 @@ AT_A_TIME = 2  # a check takes up to 2 GB
 SECONDS = 900  # and none takes so long
 FORM = re.compile(
     r"says: (?P<says>\S.*)\nof: (?P<of>[\w:]+(?:, [\w:]+)*)\n(?:gate: (?P<gate>yes|listed)\n)?"
-    r"(?:file: \S+\n(?:old: .+\nnew:(?: .*)?\n)+)+"
+    r"(?:file: \S+\n(?:(?:old: .+\n)+(?:new:(?: .*)?\n)+)+)+"
 )
 EDIT = re.compile(r"^(file|old|new):(?: (.*))?$", re.M)
 
@@ -40,7 +41,7 @@ class Program(NamedTuple):
     says: str
     of: list
     gate: str
-    edits: list
+    edits: list  # of file, old and new
 
 
 class Tried(NamedTuple):
@@ -67,14 +68,19 @@ def read(file):
         raise misfit(file, "its lines are not those that the head of tools/wrong.py names, in that order")
     if (form["gate"] is not None) != (file.parent.name == "wrong"):
         raise misfit(file, "a line `gate:` stands in every file of wrong/, and in no other")
-    name, old, edits = "", "", []
+    if file.parent.name == "must-fail" and re.search(r"^(old|new):.*\n\1:", text, re.M):
+        raise misfit(file, "rt reads one line of an `old:` and of a `new:`")
+    name, before, edits = "", "", []
     for key, value in EDIT.findall(text):
         if key == "file":
             name = value
+        elif key == before:  # another line of the same text
+            edits[-1][key] += "\n" + value
         elif key == "old":
-            old = value
+            edits.append({"file": name, "old": value})
         else:
-            edits.append((name, old, value))
+            edits[-1]["new"] = value
+        before = key
     return Program(file, file.parent.parent.name, form["says"], form["of"].split(", "), form["gate"] or "", edits)
 
 
@@ -87,7 +93,7 @@ def texts_of(folder):
 def made(program):
     """The files of the program's crate with its edits made. ValueError where one does not fit."""
     texts = texts_of(ROOT / "crates" / program.crate)
-    for name, old, new in program.edits:
+    for name, old, new in (edit.values() for edit in program.edits):
         if not re.match("(?:src|specs)/", name) or name not in texts:
             raise misfit(program.file, f"{name} is no file of src/ or specs/")
         times = texts[name].count(old)
