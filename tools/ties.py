@@ -4,10 +4,12 @@ A public function of a library crate has one `ensures` and no `requires`. Its th
 crate's proofs/Unique.antt, `set_phase` `set-phase-unique`, or the one that SHARED names. The theorem has two hypotheses. Each
 is the contract's formula, for other names of what it is said of: every variable of the theorem stands for one and the same
 part of the formula in both, but those that stand for the outcome (the result, and what is left in each lent buffer), which
-are two, and which the conclusion says to be equal, all of them.
+are two, and which the conclusion says to be equal, all of them. Two variables stand for two parts, and everything that the
+function takes has a part in the formula.
 
-The table under "The calls" in docs/PROMISES.md is written by hand. A row names a function, its kind, and the definitions that
-its contract must cite after `≡`, in that order. A public function that has no row is a helper.
+The table under "The calls" in docs/PROMISES.md is written by hand. A row has a function, its kind, what its contract must say
+behind `≡`, with x for `now (x .entry)`, and the file of the definition that this begins with. A public function that has no row
+is a helper.
 """
 import hashlib
 import re
@@ -304,10 +306,10 @@ def contract(function, names):
     return shaped(tree(text)), cited
 
 
-def after_equals(cited):
-    """Those definitions that stand after the equation's sign; all where there is none."""
-    signs = [i for i, (_, name) in enumerate(cited) if name == "_≡_"]
-    return cited[signs[0] + 1 :] if signs else cited
+def outcome_of(text):
+    """What a formula says behind `≡`, with x for `now (x .entry)`."""
+    text = text.partition(" ≡ ")[2].replace("«", "").replace("»", "")
+    return re.sub(r"now \((\w+) \.entry\)", r"\1", re.sub(r"\(now \((\w+) \.entry\)\)", r"\1", text))
 
 
 def parted(words, sign):
@@ -352,10 +354,11 @@ def fits(pattern, shape, meant):
     return pattern == shape
 
 
-def has_outcome(shape):
+def parts_of(shape, kind):
+    """The names of the parts of a formula that are of a kind: taken, or outcome."""
     if isinstance(shape, list):
-        return any(map(has_outcome, shape))
-    return isinstance(shape, tuple) and shape[0] == "outcome"
+        return [name for inner in shape for name in parts_of(inner, kind)]
+    return [shape[1]] if isinstance(shape, tuple) and shape[0] == kind else []
 
 
 def told_apart(function, shape, type_, names):
@@ -372,9 +375,12 @@ def told_apart(function, shape, type_, names):
             return f"`{variable}` stands in no hypothesis: it is an assumption"
     outcome = [("outcome", "result")] if function.answers else []
     outcome += [("outcome", name) for name in function.lent]
+    for meant in (one, two):
+        if any(list(meant.values()).count(part) > 1 for part in meant.values()):
+            return "two of its variables stand for one part of the formula"
     for variable in {**one, **two}:
         if variable in one and variable in two:
-            if one[variable] != two[variable] or has_outcome(one[variable]):
+            if one[variable] != two[variable] or parts_of(one[variable], "outcome"):
                 return f"`{variable}` stands for two things, or for both outcomes"
         elif {**one, **two}[variable] not in outcome:
             return f"`{variable}` stands in one hypothesis alone, and is no outcome"
@@ -414,7 +420,8 @@ def unique_of(texts, crate):
 
 class Call(NamedTuple):
     kind: str
-    cites: list  # name, and the file where one is named
+    outcome: str
+    file: str  # of the definition that the outcome begins with
 
 
 def calls(texts):
@@ -423,9 +430,8 @@ def calls(texts):
     found = {}
     for line in text.splitlines():
         cells = [cell.strip() for cell in line.strip("|").split(" | ")]
-        if line.startswith("| `") and len(cells) >= 3:
-            cites = re.findall(r"`([^`]+)`(?: of (\w+/specs/\w+\.antt))?", cells[2])
-            found.setdefault(cells[0].strip("`"), []).append(Call(cells[1], cites))
+        if line.startswith("| `") and len(cells) >= 4:
+            found.setdefault(cells[0].strip("| `"), []).append(Call(cells[1], cells[2].strip("`"), cells[3]))
     return found
 
 
@@ -540,8 +546,11 @@ def function_faults(texts, specs, rows, crate, function):
         if path.startswith("crates/") and not (path.split("/")[2] == "specs" and specs.declares(path, name)):
             yield f"its contract cites `{name}`, which {path} does not declare, or which stands outside specs/"
     yield from theorem_faults(texts, crate, function, shape)
+    missed = sorted(set(function.takes) - set(parts_of(shape, "taken")))
+    if missed:
+        yield f"its contract says nothing of {', '.join(missed)}"
     if function.name in rows:
-        yield from call_faults(rows[function.name][0], after_equals(cited))
+        yield from call_faults(rows[function.name][0], formula(function)[1], names)
 
 
 def theorem_faults(texts, crate, function, shape):
@@ -558,15 +567,16 @@ def theorem_faults(texts, crate, function, shape):
             yield f"`{name}` does not say that its contract decides the outcome: {why}"
 
 
-def call_faults(row, cited):
-    """The definitions of the project that the contract cites are those of the row."""
-    own = [(path, name) for path, name in cited if not path.startswith("logic ")]
-    if [name for _, name in own] != [name for name, _ in row.cites] or not own:
-        yield f"its contract cites {[name for _, name in own]}, and the table of calls {[name for name, _ in row.cites]}"
+def call_faults(row, text, names):
+    """The contract says what the row says."""
+    outcome = outcome_of(text)
+    if not outcome or outcome != row.outcome:
+        yield f"its contract says `{outcome}`, and the table of calls `{row.outcome}`"
         return
-    for (path, name), (_, file) in zip(own, row.cites):
-        if path.startswith("crates/") and path != f"crates/{file}":
-            yield f"`{name}` stands in {path}, and the table of calls says {file or 'no file'}"
+    first = outcome.split()[0].strip("(")
+    path = (names.of(first) or ("no file", first))[0]
+    if path != f"crates/{row.file}":
+        yield f"`{first}` stands in {path}, and the table of calls says {row.file}"
 
 
 def wrong_faults(texts, crate):
