@@ -55,6 +55,7 @@ SIGNATURE = r"(?:(?:pub|abbrev|unfoldable) )+(?:(?:record|data) )?(?:pub )?"
 DECLARATION = re.compile(rf"^{SIGNATURE}(\S+) ?(?=[:({{])", re.M)
 THEOREM = re.compile(r"^pub (\S+-unique) :(.*?)^\1(?= |$)", re.S | re.M)
 OPEN, CLOSE = "({", ")}"
+RESULT = "the result"  # no parameter has such a name
 PLAIN = {"×", "→", "now"}  # words of the logic itself
 
 
@@ -280,10 +281,10 @@ def contract(function, names):
         if isinstance(word, list):
             return shaped(word)
         if word == result and word != "_":
-            return ("outcome", "result")
+            return ("outcome", RESULT)
         if word in function.takes:
             return ("taken", word)
-        if word.startswith(".") or re.fullmatch(r"[\d_x]+", word) or word in PLAIN:
+        if word.startswith(".") or re.fullmatch(r"\d\w*", word) or word in PLAIN:
             return word
         known = names.of(word)
         if known is None:
@@ -373,7 +374,7 @@ def told_apart(function, shape, type_, names):
     for variable in variables:
         if variable not in one and variable not in two:
             return f"`{variable}` stands in no hypothesis: it is an assumption"
-    outcome = [("outcome", "result")] if function.answers else []
+    outcome = [("outcome", RESULT)] if function.answers else []
     outcome += [("outcome", name) for name in function.lent]
     for meant in (one, two):
         if any(list(meant.values()).count(part) > 1 for part in meant.values()):
