@@ -1,5 +1,5 @@
 /* Gavberin for C and C++: a proved synthesiser voice with one oscillator, an envelope and held notes. What each call does is
- * stated and proved in crates/desk; docs/PROMISES.md is the index. `make lib` builds build/libgavberin.a and
+ * stated and proved in crates/desk; docs/INDEX.md is the index. `make lib` builds build/libgavberin.a and
  * build/libgavberin.so, `make install` puts them where a compiler finds them; examples/ has three hosts. Only gav_words and
  * what is inline below are plain C and not proved.
  *

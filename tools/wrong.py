@@ -3,12 +3,14 @@
 A file crates/NAME/must-fail/LABEL.edit (rt tries it) or crates/NAME/wrong/LABEL.edit has these lines, in this order:
 
     says: what is wrong, in one line
+    of: phase::PhaseAccumulator::reset           (the function that is wrong then; more may follow, after commas)
     gate: yes                                    (in wrong/ alone; `listed`: only `tools/mutants --listed` tries it)
     file: src/lib.rt                             (of src/ or of specs/)
     old: a text of one line, which stands in the file once
     new: what stands there instead
 
-More pairs of `old:` and `new:` may follow, and more files; each edit is made on what those before it left.
+In wrong/ a text may have more lines, each behind an `old:` or a `new:` of its own. More pairs of `old:` and `new:` may
+follow, and more files; each edit is made on what those before it left.
 """
 import os
 import re
@@ -26,7 +28,10 @@ from complaints import said
 ROOT = Path(__file__).resolve().parent.parent
 AT_A_TIME = 2  # a check takes up to 2 GB
 SECONDS = 900  # and none takes so long
-FORM = re.compile(r"says: (?P<says>\S.*)\n(?:gate: (?P<gate>yes|listed)\n)?(?:file: \S+\n(?:old: .+\nnew:(?: .*)?\n)+)+")
+FORM = re.compile(
+    r"says: (?P<says>\S.*)\nof: (?P<of>[\w:]+(?:, [\w:]+)*)\n(?:gate: (?P<gate>yes|listed)\n)?"
+    r"(?:file: \S+\n(?:(?:old: .+\n)+(?:new:(?: .*)?\n)+)+)+"
+)
 EDIT = re.compile(r"^(file|old|new):(?: (.*))?$", re.M)
 # What begins a function, of a type or not, or another item of a file.
 ITEM = re.compile(r"^(?:impl (?P<type>\w+)|(?P<inner> +)?(?:pub )?(?:extern \"C\" )?fn (?P<fn>\w+)|(?:pub )?(?:const|struct|enum) )", re.M)
@@ -37,8 +42,9 @@ class Program(NamedTuple):
     file: Path
     crate: str
     says: str
+    of: list
     gate: str
-    edits: list
+    edits: list  # of file, old and new
 
 
 class Tried(NamedTuple):
@@ -64,15 +70,20 @@ def read(file):
         raise misfit(file, "its lines are not those that the head of tools/wrong.py names, in that order")
     if (form["gate"] is not None) != (file.parent.name == "wrong"):
         raise misfit(file, "a line `gate:` stands in every file of wrong/, and in no other")
-    name, old, edits = "", "", []
+    if file.parent.name == "must-fail" and re.search(r"^(old|new):.*\n\1:", text, re.M):
+        raise misfit(file, "rt reads one line of an `old:` and of a `new:`")
+    name, before, edits = "", "", []
     for key, value in EDIT.findall(text):
         if key == "file":
             name = value
+        elif key == before:  # another line of the same text
+            edits[-1][key] += "\n" + value
         elif key == "old":
-            old = value
+            edits.append({"file": name, "old": value})
         else:
-            edits.append((name, old, value))
-    return Program(file, file.parent.parent.name, form["says"], form["gate"] or "", edits)
+            edits[-1]["new"] = value
+        before = key
+    return Program(file, file.parent.parent.name, form["says"], form["of"].split(", "), form["gate"] or "", edits)
 
 
 def texts_of(folder):
@@ -84,7 +95,7 @@ def texts_of(folder):
 def made(program, texts=None):
     """The files of the program's crate, or those given, with its edits made. ValueError where one does not fit."""
     texts = dict(texts or texts_of(ROOT / "crates" / program.crate))
-    for name, old, new in program.edits:
+    for name, old, new in (edit.values() for edit in program.edits):
         if not re.match("(?:src|specs)/", name) or name not in texts:
             raise misfit(program.file, f"{name} is no file of src/ or specs/")
         times = texts[name].count(old)
@@ -107,12 +118,14 @@ def function_at(name, text, place):
 
 
 def function_of(program):
-    """The one function that a program changes; None where it changes several, or anything else."""
+    """The one function whose body a program changes; None where it changes several, or anything else."""
     texts = texts_of(ROOT / "crates" / program.crate)
     found = set()
-    for name, old, _ in program.edits:
+    for name, old, _ in (edit.values() for edit in program.edits):
+        if not name.startswith("src/") or re.search(r"\b(?:fn|ensures|requires|ghost)\b", old):
+            return None
         start = texts[name].find(old)
-        found.add(function_at(name, texts[name], start + len(old)) if name.startswith("src/") else None)
+        found |= {function_at(name, texts[name], start), function_at(name, texts[name], start + len(old))}
     return found.pop() if len(found) == 1 else None
 
 
