@@ -8,7 +8,8 @@ use lib.Ieee.{Float, binary32, ofBits}
 use Rattle.answers.specs.declared.Answer.the-variants.{Done, Refused}
 use Rattle.answers.specs.declared.Refusal.the-variants.{Argument}
 use Rattle.answers.specs.declared.Value.{Value}
-use Rattle.answers.specs.Value.{valueIf}
+use Rattle.answers.specs.Order.{unless}
+use Rattle.answers.specs.Value.{valueOr}
 use Rattle.pitch.specs.Patterns.{patterns}
 use Rattle.pitch.specs.declared.Frequency.{Frequency}
 
@@ -28,4 +29,4 @@ abbrev pub midiNoteToFrequencyOf : ℕ → Frequency
 midiNoteToFrequencyOf note = frequencyIf (isNote note) (frequencyOf note)
 
 abbrev pub midiNoteToFrequencyF64Of : ℕ → Value
-midiNoteToFrequencyF64Of note = valueIf (isNote note) Argument (frequencyOf note)
+midiNoteToFrequencyF64Of note = valueOr (unless (isNote note) Argument) (frequencyOf note)
