@@ -2,7 +2,8 @@
 // output, and the reduction after it. They differ in their highest frequency, and the oscillator's depth is 1. Left out, as 01
 // says: parameters and their modulation, noise, and the simd path.
 ghost use mathlib.Core.Path.{_≡_};
-ghost use Rattle.blocks.specs.Block.{isTone, isStart, refusedOf, leaves, runOf};
+ghost use Rattle.answers.specs.Outcome.{leaves};
+ghost use Rattle.blocks.specs.Block.{isTone, isStart, refusedOf, runOf};
 ghost use Rattle.floats.specs.Range.{within};
 ghost use Rattle.floats.specs.Double.{naught};
 use answers::Answer;

@@ -3,13 +3,17 @@
 // 01 says: `Block`, parameter names and modulation, and `prepare`.
 ghost use mathlib.Core.Path.{_≡_};
 ghost use mathlib.Core.Bool.{not};
+ghost use mathlib.Core.List.{_++_};
 ghost use lib.ListN.{length};
 ghost use lib.Ieee.{isNan};
 ghost use Rattle.floats.specs.Range.{within};
 ghost use Rattle.envelope.specs.Limits.{isAdsr, isRate, isEnvelope, clampOf, clampedOf, sampleTimeOf};
 ghost use Rattle.envelope.specs.Stages.{movedOf, levelOf, endsAt, stepOf, nextIn, endedIn, freshOf, triggeredOf, restsIn, releasedOf};
 ghost use Rattle.envelope.specs.Running.{Filled};
-ghost use Rattle.envelope.specs.Calls.{judgedOf, changedOf, newOf, noteOnOf, noteOffOf, resetOf, leaves, processOf};
+ghost use Rattle.answers.specs.declared.Refusal.the-variants.{Setting, Argument};
+ghost use Rattle.answers.specs.Order.{unless};
+ghost use Rattle.answers.specs.Outcome.{leaves};
+ghost use Rattle.envelope.specs.Calls.{answerOr, changedOf, newOf, noteOnOf, noteOffOf, resetOf, processOf};
 use answers::Answer;
 use answers::Refusal;
 
@@ -317,7 +321,7 @@ fn is_number(x: f64) -> bool
 
 // The first refusal that holds, or done.
 fn judged(usable: bool, sound: bool, count: usize) -> Answer
-    ensures { λ r. ⌜ r ≡ judgedOf usable sound count ⌝ }
+    ensures { λ r. ⌜ r ≡ answerOr (unless usable Setting ++ unless sound Argument) count ⌝ }
 {
     if usable {
         if sound {

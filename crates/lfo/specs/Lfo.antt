@@ -4,11 +4,12 @@ use mathlib.Core.List.{List}
 use Prim.Native.Nat.{ℕ}
 use lib.Ieee.{Float, binary64, ofBits}
 use Rattle.floats.specs.Double.{naught}
+use Rattle.answers.specs.Outcome.{Outcome, leaves}
 use Rattle.waveform.specs.declared.Radians.{Radians}
 use Rattle.waveform.specs.declared.Waveform.{Waveform}
 use Rattle.waveform.specs.Waveform.{radians}
 use Rattle.blocks.specs.declared.Tone.{Tone}
-use Rattle.blocks.specs.Block as blocks
+use Rattle.blocks.specs.declared.Ran.{Ran}
 use Rattle.blocks.specs.Block.{runOf}
 use Rattle.lfo.specs.declared.LfoBlock.{LfoBlock}
 use Rattle.lfo.specs.declared.Processed.{Processed}
@@ -27,18 +28,10 @@ withPhase b p = record { frequency = b .frequency; depth = b .depth; phase = p; 
 abbrev pub toneOf : LfoBlock → Tone
 toneOf b = record { frequency = b .frequency; depth = b .depth; phase = b .phase; waveform = b .waveform }
 
--- what it leaves: its result, and the lent numbers
-pub record Outcome : Type 0 where
-  pub result : Processed
-  pub lent : List Float
-
-abbrev pub leaves : Processed → List Float → Outcome
-leaves r xs = record { result = r; lent = xs }
-
 -- what a run leaves, handed on: the block has the phase after it
-abbrev pub handedOf : LfoBlock → blocks.Outcome → Outcome
+abbrev pub handedOf : LfoBlock → Outcome Ran → Outcome Processed
 handedOf b o = leaves (record { answer = o .result .answer; block = withPhase b (o .result .phase) }) (o .lent)
 
 -- every lent number is a value times the depth
-abbrev pub processOf : LfoBlock → ℕ → List Float → Outcome
+abbrev pub processOf : LfoBlock → ℕ → List Float → Outcome Processed
 processOf b rate xs = handedOf b (runOf (toneOf b) highest rate xs)

@@ -1,7 +1,8 @@
 // lfo.rs of the original: a block of a slow waveform times a depth. State goes in by value and is handed back. Left out, as 01
 // says: `Block`, parameter names and modulation, noise and its seed, the simd path.
 ghost use mathlib.Core.Path.{_≡_};
-ghost use Rattle.lfo.specs.Lfo.{newOf, withPhase, leaves, processOf};
+ghost use Rattle.answers.specs.Outcome.{leaves};
+ghost use Rattle.lfo.specs.Lfo.{newOf, withPhase, processOf};
 ghost use Rattle.waveform.specs.Waveform.{radians};
 ghost use Rattle.floats.specs.Double.{naught};
 use answers::Answer;

@@ -2,7 +2,8 @@
 // State goes in by value and is handed back. Left out, as 01 says: `Block`, parameter names and modulation, and with them the
 // pitch offset; noise and its seed; the simd path.
 ghost use mathlib.Core.Path.{_≡_};
-ghost use Rattle.oscillator.specs.Oscillator.{newOf, withMidi, withWaveform, withPhase, playedOf, leaves, processOf};
+ghost use Rattle.answers.specs.Outcome.{leaves};
+ghost use Rattle.oscillator.specs.Oscillator.{newOf, withMidi, withWaveform, withPhase, playedOf, processOf};
 ghost use Rattle.oscillator.specs.declared.MidiFrequency.the-variants.{Unset, Set};
 ghost use Rattle.waveform.specs.Waveform.{radians};
 ghost use Rattle.floats.specs.Double.{naught};

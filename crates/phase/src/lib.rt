@@ -3,7 +3,9 @@
 // out. The voice itself counts in radians and does not use it.
 ghost use mathlib.Core.Path.{_≡_};
 ghost use lib.Ieee.Scale.{finite};
-ghost use Rattle.phase.specs.Phase.{isState, wrapOf, withPhase, withIncrement, changedIf, shownIf, steppedIf};
+ghost use Rattle.answers.specs.Order.{unless};
+ghost use Rattle.answers.specs.declared.Refusal.the-variants.{Argument};
+ghost use Rattle.phase.specs.Phase.{isState, wrapOf, withPhase, withIncrement, changedOr, shownOr, steppedOr};
 ghost use Rattle.phase.specs.Phase.{newOf, setFrequencyOf, setIncrementOf, incrementOf, nextOf, phaseOf, setPhaseOf, resetOf};
 use answers::Answer;
 use answers::Refusal;
@@ -150,7 +152,7 @@ fn with_increment(a: PhaseAccumulator, increment: f32) -> PhaseAccumulator
 
 // The state after, or a refusal with the state as it came.
 fn changed_if(ok: bool, before: PhaseAccumulator, after: PhaseAccumulator) -> Changed
-    ensures { λ r. ⌜ r ≡ changedIf ok before after ⌝ }
+    ensures { λ r. ⌜ r ≡ changedOr (unless ok Argument) before after ⌝ }
 {
     if ok {
         return Changed {
@@ -166,7 +168,7 @@ fn changed_if(ok: bool, before: PhaseAccumulator, after: PhaseAccumulator) -> Ch
 
 // The number, or a refusal with +0.
 fn shown_if(ok: bool, cycles: f32) -> Shown
-    ensures { λ r. ⌜ r ≡ shownIf ok cycles ⌝ }
+    ensures { λ r. ⌜ r ≡ shownOr (unless ok Argument) cycles ⌝ }
 {
     if ok {
         return Shown {
@@ -182,7 +184,7 @@ fn shown_if(ok: bool, cycles: f32) -> Shown
 
 // The number and the state after, or a refusal with +0 and the state as it came.
 fn stepped_if(ok: bool, cycles: f32, came: PhaseAccumulator, moved: PhaseAccumulator) -> Stepped
-    ensures { λ r. ⌜ r ≡ steppedIf ok cycles came moved ⌝ }
+    ensures { λ r. ⌜ r ≡ steppedOr (unless ok Argument) cycles came moved ⌝ }
 {
     if ok {
         return Stepped {
