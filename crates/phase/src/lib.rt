@@ -2,16 +2,12 @@
 // handed back; what the original asserts or leaves open is refused (document 01, number 9). The original's traits are left
 // out. The voice itself counts in radians and does not use it.
 ghost use mathlib.Core.Path.{_≡_};
-ghost use lib.Ieee.Scale.{finite};
 ghost use Rattle.answers.specs.Order.{unless};
 ghost use Rattle.answers.specs.declared.Refusal.the-variants.{Argument};
 ghost use Rattle.phase.specs.Phase.{isState, wrapOf, withPhase, withIncrement, changedOr, shownOr, steppedOr};
 ghost use Rattle.phase.specs.Phase.{newOf, setFrequencyOf, setIncrementOf, incrementOf, nextOf, phaseOf, setPhaseOf, resetOf};
 use answers::Answer;
 use answers::Refusal;
-
-// The largest finite f32.
-const LARGEST: f32 = 340282346638528859811704183484516925440.0;
 
 // A number of cycles: a phase in cycles is no phase in radians.
 pub struct Cycles(pub f32);
@@ -58,10 +54,10 @@ impl PhaseAccumulator {
     {
         let increment = frequency / sample_rate;
         let ok = is_state(self)
-            & is_finite(frequency)
-            & is_finite(sample_rate)
+            & floats::is_finite_f32(frequency)
+            & floats::is_finite_f32(sample_rate)
             & (0.0 < sample_rate)
-            & is_finite(increment);
+            & floats::is_finite_f32(increment);
         changed_if(ok, self, with_increment(self, increment))
     }
 
@@ -69,7 +65,7 @@ impl PhaseAccumulator {
     pub fn set_increment(self, increment: Cycles) -> Changed
         ensures { λ r. ⌜ r ≡ setIncrementOf self increment ⌝ }
     {
-        let ok = is_state(self) & is_finite(increment.0);
+        let ok = is_state(self) & floats::is_finite_f32(increment.0);
         changed_if(ok, self, with_increment(self, increment.0))
     }
 
@@ -97,7 +93,7 @@ impl PhaseAccumulator {
     pub fn set_phase(self, phase: Cycles) -> Changed
         ensures { λ r. ⌜ r ≡ setPhaseOf self phase ⌝ }
     {
-        let ok = is_state(self) & is_finite(phase.0);
+        let ok = is_state(self) & floats::is_finite_f32(phase.0);
         changed_if(ok, self, with_phase(self, wrap(phase.0)))
     }
 
@@ -114,13 +110,7 @@ fn is_state(a: PhaseAccumulator) -> bool
     ensures { λ r. ⌜ r ≡ isState a ⌝ }
 {
     let phase = a.phase.0;
-    (0.0 <= phase) & (phase <= 1.0) & is_finite(a.increment.0)
-}
-
-fn is_finite(x: f32) -> bool
-    ensures { λ r. ⌜ r ≡ finite x ⌝ }
-{
-    (-LARGEST <= x) & (x <= LARGEST)
+    (0.0 <= phase) & (phase <= 1.0) & floats::is_finite_f32(a.increment.0)
 }
 
 // x less its floor: of a finite x from 0 to 1, both ends reached.
