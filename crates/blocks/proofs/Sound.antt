@@ -12,24 +12,24 @@ use lib.Ieee.{Float, nan, binary64, ofBits, ofInt, round, mul, div, lt, le, fits
 use lib.Ieee.Fits.{and-i, and-l, and-r}
 use lib.Ieee.Order.{round-mono}
 use lib.Ieee.Scale.{finite}
-use Rattle.floats.specs.Range.{nonneg, within}
-use Rattle.floats.specs.Double.{naught, one}
+use Rattle.floats.specs.Range.{nonneg}
+use Rattle.floats.specs.Double.{naught}
 use Rattle.floats.proofs.Literals.{lit0-is}
 use Rattle.floats.proofs.Order.{fle-trans, lt-le, le→ge0, under, nonneg→finite}
 use Rattle.floats.proofs.Rounds.{ge0-round}
+use Rattle.domain.specs.Domain.{isRate, highestTone, isFrequency, isDepth, thousand, isRadians}
 use Rattle.answers.specs.declared.Answer.the-variants.{Done}
 use Rattle.answers.specs.declared.Refusal.the-variants.{Setting, Argument}
 use Rattle.answers.specs.Order.{unless}
 use Rattle.answers.specs.Outcome.{Outcome}
 use Rattle.answers.proofs.First.{both-passed, none-refused}
-use Rattle.envelope.specs.Limits.{isRate}
 use Rattle.waveform.specs.declared.Radians.{Radians}
 use Rattle.waveform.specs.Waveform.{tau, isWaveform, incrementOf}
 use Rattle.waveform.specs.Filled.{phaseFrom, valueAt, samplesFrom}
-use Rattle.waveform.proofs.Normal.{highest, increment-le, increment-nonneg, step-in, reduce-nonneg, reduce-below}
+use Rattle.waveform.proofs.Normal.{increment-le, increment-nonneg, step-in, reduce-nonneg, reduce-below}
 use Rattle.waveform.proofs.Steps.{samples-length}
 use Rattle.waveform.proofs.Values.{Near, far, sixteen, phase-near, samples-finite}
-use Rattle.blocks.specs.Block.{thousand, isSetting, isStart, isTone, phaseAfter, runOf}
+use Rattle.blocks.specs.Block.{isSetting, isTone, phaseAfter, runOf}
 use Rattle.blocks.specs.declared.Ran.{Ran}
 use Rattle.blocks.specs.declared.Tone.{Tone}
 
@@ -41,30 +41,30 @@ rate-finite rate h =
     (under (round binary64 false rate 1) (round binary64 false 192000 1) (ge0-round binary64 rate 1) tt (round-mono binary64 rate 1 192000 1 (lit< tt) (lit< tt) (nat.mul-le-mul-right 1 h)))
 
 -- ---- an accepted tone
-module _ (t : Tone) (top : Float) (rate : ℕ) (w : T (fits binary64 (t .phase .0))) (m : T (le top highest)) (s : T (isSetting rate (t .waveform))) (a : T (isTone t top)) where
+module _ (t : Tone) (top : Float) (rate : ℕ) (w : T (fits binary64 (t .phase .0))) (m : T (le top highestTone)) (s : T (isSetting rate (t .waveform))) (a : T (isTone t top)) where
   abbrev depth-ok : Bool
-  depth-ok = within naught one (t .depth)
+  depth-ok = isDepth (t .depth)
 
   abbrev frequency-ok : Bool
-  frequency-ok = within naught top (t .frequency)
+  frequency-ok = isFrequency top (t .frequency)
 
   abbrev step : Float
   step = incrementOf (t .frequency) rate
 
   depth-in : T depth-ok
   unfolding isTone
-  depth-in = and-l depth-ok frequency-ok (and-l (depth-ok && frequency-ok) (isStart (t .phase)) a)
+  depth-in = and-l depth-ok frequency-ok (and-l (depth-ok && frequency-ok) (isRadians (t .phase .0)) a)
 
-  frequency-in : T (within naught highest (t .frequency))
+  frequency-in : T (isFrequency highestTone (t .frequency))
   unfolding isTone
   frequency-in =
-      let h = and-r depth-ok frequency-ok (and-l (depth-ok && frequency-ok) (isStart (t .phase)) a) in
+      let h = and-r depth-ok frequency-ok (and-l (depth-ok && frequency-ok) (isRadians (t .phase .0)) a) in
       let f = t .frequency in
-      and-i (le naught f) (le f highest) (and-l (le naught f) (le f top) h) (fle-trans f top highest (and-r (le naught f) (le f top) h) m)
+      and-i (le naught f) (le f highestTone) (and-l (le naught f) (le f top) h) (fle-trans f top highestTone (and-r (le naught f) (le f top) h) m)
 
-  start-in : T (isStart (t .phase))
+  start-in : T (isRadians (t .phase .0))
   unfolding isTone
-  start-in = and-r (depth-ok && frequency-ok) (isStart (t .phase)) a
+  start-in = and-r (depth-ok && frequency-ok) (isRadians (t .phase .0)) a
 
   start-near : Near (t .phase .0)
   start-near =
@@ -109,7 +109,7 @@ pub record Sound (xs : List Float) (p : Radians) : Type 0 where
   pub phase-from : T (nonneg (p .0))
   pub phase-below : T (lt (p .0) tau)
 
-module _ (t : Tone) (top : Float) (rate : ℕ) (xs : List Float) (w : T (fits binary64 (t .phase .0))) (m : T (le top highest)) where
+module _ (t : Tone) (top : Float) (rate : ℕ) (xs : List Float) (w : T (fits binary64 (t .phase .0))) (m : T (le top highestTone)) where
   pub run-sound : (n : ℕ) → runOf t top rate xs .result .answer ≡ Done n → Sound (runOf t top rate xs .lent) (runOf t top rate xs .result .phase)
   unfolding runOf
   run-sound n d =

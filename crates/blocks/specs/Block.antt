@@ -7,15 +7,13 @@ use mathlib.Core.Bool.{Bool, _&&_}
 use mathlib.Core.List.{List, _++_}
 use Prim.Native.Nat.{ℕ}
 use lib.ListN.{length}
-use lib.Ieee.{Float, binary64, ofBits, lt, le}
-use Rattle.floats.specs.Range.{within}
-use Rattle.floats.specs.Double.{naught, one}
+use lib.Ieee.{Float}
 use Rattle.answers.specs.declared.Answer.the-variants.{Done, Refused}
 use Rattle.answers.specs.declared.Refusal.{Refusal}
 use Rattle.answers.specs.declared.Refusal.the-variants.{Setting, Argument}
 use Rattle.answers.specs.Order.{unless, firstOf}
 use Rattle.answers.specs.Outcome.{Outcome, leaves}
-use Rattle.envelope.specs.Limits.{isRate}
+use Rattle.domain.specs.Domain.{isRate, isFrequency, isDepth, isRadians}
 use Rattle.waveform.specs.declared.Radians.{Radians}
 use Rattle.waveform.specs.declared.Waveform.{Waveform}
 use Rattle.waveform.specs.Waveform.{isWaveform, reduceOf, incrementOf, radians}
@@ -23,20 +21,14 @@ use Rattle.waveform.specs.Filled.{phaseFrom, samplesFrom}
 use Rattle.blocks.specs.declared.Ran.{Ran}
 use Rattle.blocks.specs.declared.Tone.{Tone}
 
-abbrev pub thousand : Float
-thousand = ofBits binary64 0x408f_4000_0000_0000
-
 -- ---- what is accepted
 -- else 6
 abbrev pub isSetting : ℕ → Waveform → Bool
 isSetting rate w = isRate rate && isWaveform w
 
-abbrev pub isStart : Radians → Bool
-isStart p = le naught (p .0) && lt (p .0) thousand
-
 -- else 9
 unfoldable pub isTone : Tone → Float → Bool
-isTone t highest = within naught one (t .depth) && within naught highest (t .frequency) && isStart (t .phase)
+isTone t highest = isDepth (t .depth) && isFrequency highest (t .frequency) && isRadians (t .phase .0)
 
 -- ---- what a run leaves
 abbrev pub refusedOf : Refusal → Radians → Ran

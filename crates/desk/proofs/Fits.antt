@@ -19,7 +19,7 @@ use Rattle.answers.specs.Numbers.{faultNumber, faultPlace, refusalNumber, refus
 use Rattle.answers.specs.Order.{unless}
 use Rattle.answers.specs.Value.{valueOr}
 use Rattle.floats.specs.Double.{naught}
-use Rattle.polyblep.specs.Calls.{isPhase}
+use Rattle.domain.specs.Domain.{isPhase}
 use Rattle.render.specs.Calls.{renderAnswer, renderedOf, renderOf, isStretch, isGiven, continueAnswer, continuedOf, continueOf}
 use Rattle.render.specs.Order as render
 use Rattle.render.specs.Order.{most, scored, judgedOf, isRoom}

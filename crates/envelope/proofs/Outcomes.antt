@@ -6,7 +6,8 @@ use Prim.Native.Nat.{ℕ}
 use lib.Dec.{T}
 use lib.ListN.{length}
 use lib.Ieee.{Float}
-use Rattle.envelope.specs.Limits.{isAdsr, isRate, isEnvelope, clampedOf, sampleTimeOf}
+use Rattle.domain.specs.Domain.{isRate}
+use Rattle.envelope.specs.Limits.{isAdsr, isEnvelope, clampedOf, sampleTimeOf}
 use Rattle.envelope.specs.Running.{Filled}
 use Rattle.answers.specs.declared.Refusal.the-variants.{Setting, Argument}
 use Rattle.answers.specs.Order.{unless}

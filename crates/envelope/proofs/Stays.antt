@@ -14,7 +14,8 @@ use Rattle.answers.specs.declared.Refusal.the-variants.{Setting, Argument}
 use Rattle.answers.specs.Order.{unless}
 use Rattle.answers.specs.Outcome.{Outcome}
 use Rattle.answers.proofs.First.{both-passed, first-keeps}
-use Rattle.envelope.specs.Limits.{isAdsr, isRate, isEnvelope, clampedOf, sampleTimeOf}
+use Rattle.domain.specs.Domain.{isRate}
+use Rattle.envelope.specs.Limits.{isAdsr, isEnvelope, clampedOf, sampleTimeOf}
 use Rattle.envelope.specs.Stages.{freshOf, stepOf, triggeredOf, releasedOf}
 use Rattle.envelope.specs.Running.{envelopeFrom, levelsFrom}
 use Rattle.envelope.specs.Calls.{changedOf, newOf, noteOnOf, noteOffOf, resetOf, processOf}

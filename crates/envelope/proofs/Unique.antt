@@ -4,7 +4,7 @@ use mathlib.Core.Bool.{Bool}
 use mathlib.Core.List.{List}
 use Prim.Native.Nat.{ℕ}
 use lib.Ieee.{Float}
-use Rattle.envelope.specs.Limits.{isAdsr, isRate, isEnvelope, clampedOf, sampleTimeOf}
+use Rattle.envelope.specs.Limits.{isAdsr, isEnvelope, clampedOf, sampleTimeOf}
 use Rattle.envelope.specs.Stages.{stepOf, freshOf, triggeredOf, releasedOf}
 use Rattle.envelope.specs.Scaled.{Scaled}
 use Rattle.answers.specs.Outcome.{leaves}
@@ -44,9 +44,6 @@ released-unique e r t p q = p ∙ sym q
 
 pub is-adsr-unique : (k : Adsr) (r t : Bool) → r ≡ isAdsr k → t ≡ isAdsr k → r ≡ t
 is-adsr-unique k r t p q = p ∙ sym q
-
-pub is-rate-unique : (rate : ℕ) (r t : Bool) → r ≡ isRate rate → t ≡ isRate rate → r ≡ t
-is-rate-unique rate r t p q = p ∙ sym q
 
 pub is-envelope-unique : (e : Envelope) (r t : Bool) → r ≡ isEnvelope e → t ≡ isEnvelope e → r ≡ t
 is-envelope-unique e r t p q = p ∙ sym q

@@ -12,7 +12,8 @@ use Rattle.answers.specs.declared.Refusal.{Refusal}
 use Rattle.answers.specs.declared.Refusal.the-variants.{Setting, Argument}
 use Rattle.answers.specs.Order.{unless, firstOf}
 use Rattle.answers.specs.Outcome.{Outcome, leaves}
-use Rattle.envelope.specs.Limits.{isAdsr, isRate, isEnvelope, clampedOf, sampleTimeOf}
+use Rattle.domain.specs.Domain.{isRate}
+use Rattle.envelope.specs.Limits.{isAdsr, isEnvelope, clampedOf, sampleTimeOf}
 use Rattle.envelope.specs.Stages.{freshOf, triggeredOf, releasedOf}
 use Rattle.envelope.specs.Running.{envelopeFrom, levelsFrom}
 use Rattle.envelope.specs.declared.Envelope.{Envelope}

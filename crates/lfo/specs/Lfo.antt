@@ -2,8 +2,9 @@
 -- leaves is in blocks' specs/Block.antt. A setting is judged by the call that uses it, which is `process`: the other calls refuse nothing. Definitions only.
 use mathlib.Core.List.{List}
 use Prim.Native.Nat.{ℕ}
-use lib.Ieee.{Float, binary64, ofBits}
+use lib.Ieee.{Float}
 use Rattle.floats.specs.Double.{naught}
+use Rattle.domain.specs.Domain.{highestLfo}
 use Rattle.answers.specs.Outcome.{Outcome, leaves}
 use Rattle.waveform.specs.declared.Radians.{Radians}
 use Rattle.waveform.specs.declared.Waveform.{Waveform}
@@ -13,10 +14,6 @@ use Rattle.blocks.specs.declared.Ran.{Ran}
 use Rattle.blocks.specs.Block.{runOf}
 use Rattle.lfo.specs.declared.LfoBlock.{LfoBlock}
 use Rattle.lfo.specs.declared.Processed.{Processed}
-
--- 100
-abbrev pub highest : Float
-highest = ofBits binary64 0x4059_0000_0000_0000
 
 abbrev pub newOf : Float → Float → Waveform → LfoBlock
 newOf frequency depth w = record { frequency = frequency; depth = depth; phase = radians naught; waveform = w }
@@ -34,4 +31,4 @@ handedOf b o = leaves (record { answer = o .result .answer; block = withPhase b 
 
 -- every lent number is a value times the depth
 abbrev pub processOf : LfoBlock → ℕ → List Float → Outcome Processed
-processOf b rate xs = handedOf b (runOf (toneOf b) highest rate xs)
+processOf b rate xs = handedOf b (runOf (toneOf b) highestLfo rate xs)

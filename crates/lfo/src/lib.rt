@@ -10,9 +10,6 @@ use blocks::Tone;
 use waveform::Radians;
 use waveform::Waveform;
 
-// The highest frequency that is accepted, in Hz.
-const HIGHEST: f64 = 100.0;
-
 pub struct LfoBlock {
     pub frequency: f64,
     pub depth: f64,
@@ -61,7 +58,7 @@ impl LfoBlock {
             phase,
             waveform,
         };
-        let ran = blocks::run(tone, HIGHEST, rate, out);
+        let ran = blocks::run(tone, domain::HIGHEST_LFO, rate, out);
         let answer = ran.answer;
         let phase = ran.phase;
         let mut block = self;

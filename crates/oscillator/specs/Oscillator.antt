@@ -6,10 +6,10 @@ use mathlib.Core.Bool.{_&&_}
 use mathlib.Core.List.{List, _++_}
 use Prim.Native.Nat.{ℕ}
 use lib.ListN.{length}
-use lib.Ieee.{Float, binary64, ofBits}
+use lib.Ieee.{Float}
 use Rattle.runs.specs.Runs.{listed}
-use Rattle.floats.specs.Range.{within}
 use Rattle.floats.specs.Double.{naught}
+use Rattle.domain.specs.Domain.{highestTone, isFrequency, isRadians}
 use Rattle.answers.specs.declared.Refusal.the-variants.{Setting, Argument}
 use Rattle.answers.specs.Order.{unless}
 use Rattle.answers.specs.Outcome.{Outcome, leaves}
@@ -18,15 +18,11 @@ use Rattle.waveform.specs.declared.Waveform.{Waveform}
 use Rattle.waveform.specs.Waveform.{incrementOf, radians}
 use Rattle.waveform.specs.Filled.{phaseFrom, valueAt}
 use Rattle.blocks.specs.declared.Ran.{Ran}
-use Rattle.blocks.specs.Block.{isSetting, isStart, outcomeOr, phaseAfter}
+use Rattle.blocks.specs.Block.{isSetting, outcomeOr, phaseAfter}
 use Rattle.oscillator.specs.declared.MidiFrequency.{MidiFrequency}
 use Rattle.oscillator.specs.declared.MidiFrequency.the-variants.{Unset, Set}
 use Rattle.oscillator.specs.declared.OscillatorBlock.{OscillatorBlock}
 use Rattle.oscillator.specs.declared.Processed.{Processed}
-
--- 20,000
-abbrev pub highest : Float
-highest = ofBits binary64 0x40d3_8800_0000_0000
 
 -- ---- the calls that refuse nothing
 abbrev pub newOf : Float → Waveform → OscillatorBlock
@@ -63,7 +59,7 @@ unfoldable pub ranOf : OscillatorBlock → ℕ → List Float → Outcome Ran
 ranOf b rate xs =
     let n = length xs in
     let step = incrementOf (playedOf b) rate in
-    outcomeOr (unless (isSetting rate (b .waveform)) Setting ++ unless (within naught highest (playedOf b) && isStart (b .phase)) Argument) (b .phase) xs (phaseAfter step (b .phase) n) (valuesFrom (b .waveform) step (b .phase .0) n)
+    outcomeOr (unless (isSetting rate (b .waveform)) Setting ++ unless (isFrequency highestTone (playedOf b) && isRadians (b .phase .0)) Argument) (b .phase) xs (phaseAfter step (b .phase) n) (valuesFrom (b .waveform) step (b .phase .0) n)
 
 abbrev pub processOf : OscillatorBlock → ℕ → List Float → Outcome Processed
 processOf b rate xs = handedOf b (ranOf b rate xs)

@@ -12,9 +12,6 @@ use blocks::Tone;
 use waveform::Radians;
 use waveform::Waveform;
 
-// The highest frequency that is accepted, in Hz.
-const HIGHEST: f64 = 20000.0;
-
 // The frequency of a note, in Hz, or none.
 pub enum MidiFrequency {
     Unset,
@@ -95,7 +92,7 @@ impl OscillatorBlock {
             phase,
             waveform,
         };
-        let ran = blocks::run(tone, HIGHEST, rate, out);
+        let ran = blocks::run(tone, domain::HIGHEST_TONE, rate, out);
         let answer = ran.answer;
         let phase = ran.phase;
         let mut block = self;

@@ -11,13 +11,14 @@ use borrow.Author.Tests.{le-leb}
 use Rattle.floats.specs.Range.{lit0, lit1}
 use Rattle.floats.specs.Double.{naught, one}
 use Rattle.floats.proofs.Literals.{lit0-is, lit1-is}
+use Rattle.domain.specs.Domain.{highestPitch, isPitch}
 use Rattle.answers.specs.declared.Answer.the-variants.{Done}
 use Rattle.answers.specs.declared.Refusal.{Refusal}
 use Rattle.answers.specs.declared.Refusal.the-variants.{Argument}
 use Rattle.answers.specs.Order.{unless}
 use Rattle.answers.proofs.First.{none-refused}
 use Rattle.voice.specs.Keys.{pressedOf, liftedOf, isKeys}
-use Rattle.voice.specs.Voice.{isLoud, isPitched, isVoice, isMidi, isReleased, changedOr, offOr, struck, heardOf}
+use Rattle.voice.specs.Voice.{isLoud, isVoice, isMidi, isReleased, changedOr, offOr, struck, heardOf}
 use Rattle.voice.specs.Voice as voice
 use Rattle.voice.specs.declared.VoiceState.{VoiceState}
 use Rattle.voice.specs.declared.Changed.{Changed}
@@ -38,7 +39,6 @@ use Rattle.state.specs.declared.State.{State}
 use Rattle.state.specs.declared.Event.{Event}
 use Rattle.state.specs.declared.Event.the-variants as event
 use Rattle.state.specs.State.{concert, freshOf, liftedBy, actOf}
-use Rattle.state.specs.Limits.{highest}
 use Rattle.state.specs.Calls.{Alike, voiceCall, envelopeCall, phaseThen}
 use Rattle.state.proofs.Limits.{is-true, Kept, EventIn}
 
@@ -57,7 +57,7 @@ same-pitch : concert ≡ voice.concert
 unfolding ofBits
 same-pitch = refl
 
-same-top : highest ≡ voice.highest
+same-top : highestPitch binary64 ≡ highestPitch binary32
 unfolding ofBits
 same-top = refl
 
@@ -140,7 +140,7 @@ module _ (P : Float → Type 0) (v : State) (k : Kept P v) (w : VoiceState) (b :
   unfolding isVoice
   voice-in =
       is-true (isVoice w)
-      (and-i (isKeys (w .keys) && isLoud (w .velocity)) (isPitched (w .frequency))
+      (and-i (isKeys (w .keys) && isLoud (w .velocity)) (isPitch binary32 (w .frequency))
       (and-i (isKeys (w .keys)) (isLoud (w .velocity)) (rw (a .keys) at (k .keys-in)) (rw (a .velocity, same-naught, same-one) at (k .velocity-in)))
       (rw (a .frequency, same-naught, same-top) at (k .pitch-in)))
 

@@ -5,16 +5,17 @@ use mathlib.Core.List.{List, [], _∷_}
 use Prim.Native.Nat.{ℕ, _≤_}
 use native.Mathlib.Omega.{arith}
 use lib.Dec.{T, leb→le}
-use lib.Ieee.{ofBits, lt, le}
+use lib.Ieee.{binary32, ofBits, lt, le}
 use lib.Ieee.Fits.{and-i, and-l, and-r}
 use Rattle.answers.specs.declared.Answer.the-variants.{Done}
 use Rattle.answers.specs.declared.Refusal.the-variants.{Argument}
 use Rattle.answers.specs.Order.{unless}
 use Rattle.answers.proofs.First.{passed, first-keeps}
+use Rattle.domain.specs.Domain.{isPitch}
 use Rattle.pitch.specs.Pitch.{frequencyOf}
 use Rattle.pitch.proofs.Rules.{frequency-in}
 use Rattle.voice.specs.Keys.{pressedOf, liftedOf, atMost, isKeys}
-use Rattle.voice.specs.Voice.{isLoud, isPitched, isVoice, isMidi, isReleased, struck, heardOf, offOr, newOf, noteOnOf, noteOffOf, resetOf}
+use Rattle.voice.specs.Voice.{isLoud, isVoice, isMidi, isReleased, struck, heardOf, offOr, newOf, noteOnOf, noteOffOf, resetOf}
 use Rattle.voice.specs.declared.keys.Keys.{Keys}
 use Rattle.voice.specs.declared.keys.NoteOff.{NoteOff}
 use Rattle.voice.specs.declared.keys.NoteOff.the-variants.{Released, FellBack, NoChange}
@@ -25,25 +26,25 @@ use Rattle.voice.proofs.Actions.{BackRanged, pressed-keeps, lifted-keep
 use Rattle.voice.proofs.Loudness.{velocity-in}
 
 -- ---- the test by its parts, there and back
-voice-i : (s : VoiceState) → T (isKeys (s .keys)) → T (isLoud (s .velocity)) → T (isPitched (s .frequency)) → T (isVoice s)
+voice-i : (s : VoiceState) → T (isKeys (s .keys)) → T (isLoud (s .velocity)) → T (isPitch binary32 (s .frequency)) → T (isVoice s)
 unfolding isVoice
-voice-i s k v f = and-i (isKeys (s .keys) && isLoud (s .velocity)) (isPitched (s .frequency)) (and-i (isKeys (s .keys)) (isLoud (s .velocity)) k v) f
+voice-i s k v f = and-i (isKeys (s .keys) && isLoud (s .velocity)) (isPitch binary32 (s .frequency)) (and-i (isKeys (s .keys)) (isLoud (s .velocity)) k v) f
 
 module _ (s : VoiceState) (t : T (isVoice s)) where
   pub voice-keys : T (isKeys (s .keys))
   unfolding isVoice
-  voice-keys = and-l (isKeys (s .keys)) (isLoud (s .velocity)) (and-l (isKeys (s .keys) && isLoud (s .velocity)) (isPitched (s .frequency)) t)
+  voice-keys = and-l (isKeys (s .keys)) (isLoud (s .velocity)) (and-l (isKeys (s .keys) && isLoud (s .velocity)) (isPitch binary32 (s .frequency)) t)
 
   pub voice-loud : T (isLoud (s .velocity))
   unfolding isVoice
-  voice-loud = and-r (isKeys (s .keys)) (isLoud (s .velocity)) (and-l (isKeys (s .keys) && isLoud (s .velocity)) (isPitched (s .frequency)) t)
+  voice-loud = and-r (isKeys (s .keys)) (isLoud (s .velocity)) (and-l (isKeys (s .keys) && isLoud (s .velocity)) (isPitch binary32 (s .frequency)) t)
 
-  pub voice-pitched : T (isPitched (s .frequency))
+  pub voice-pitched : T (isPitch binary32 (s .frequency))
   unfolding isVoice
-  voice-pitched = and-r (isKeys (s .keys) && isLoud (s .velocity)) (isPitched (s .frequency)) t
+  voice-pitched = and-r (isKeys (s .keys) && isLoud (s .velocity)) (isPitch binary32 (s .frequency)) t
 
 -- ---- what sounds is within the limits
-pitched : (n : ℕ) → n ≤ 127 → T (isPitched (frequencyOf n))
+pitched : (n : ℕ) → n ≤ 127 → T (isPitch binary32 (frequencyOf n))
 unfolding ofBits
 pitched n h = frequency-in n (omega arith)
 

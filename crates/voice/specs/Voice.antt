@@ -8,8 +8,9 @@ use Prim.Native.Nat.{ℕ}
 use lib.Dec.{leb}
 use lib.IntN.{pos}
 use lib.ListN.{length}
-use lib.Ieee.{Float, binary32, ofBits, ofInt, div, lt, le}
+use lib.Ieee.{Float, binary32, ofBits, ofInt, div}
 use Rattle.floats.specs.Range.{lit0, lit1, within}
+use Rattle.domain.specs.Domain.{isPitch}
 use Rattle.pitch.specs.Pitch.{frequencyOf}
 use Rattle.answers.specs.declared.Answer.the-variants.{Done, Refused}
 use Rattle.answers.specs.declared.Refusal.{Refusal}
@@ -31,12 +32,9 @@ use Rattle.voice.specs.Keys.{heldOf, freshKeys, pressedOf, liftedOf, isK
 unfoldable pub velocityOf : ℕ → Float
 velocityOf v = div binary32 (ofInt binary32 (pos v)) (ofBits binary32 0x42fe_0000)
 
--- 440 and 12,544
+-- 440
 abbrev pub concert : Float
 concert = ofBits binary32 0x43dc_0000
-
-abbrev pub highest : Float
-highest = ofBits binary32 0x4644_0000
 
 -- ---- the domain
 abbrev pub isMidi : ℕ → Bool
@@ -45,11 +43,8 @@ isMidi n = leb n 127
 abbrev pub isLoud : Float → Bool
 isLoud x = within (lit0 binary32) (lit1 binary32) x
 
-abbrev pub isPitched : Float → Bool
-isPitched x = lt (lit0 binary32) x && le x highest
-
 unfoldable pub isVoice : VoiceState → Bool
-isVoice s = isKeys (s .keys) && isLoud (s .velocity) && isPitched (s .frequency)
+isVoice s = isKeys (s .keys) && isLoud (s .velocity) && isPitch binary32 (s .frequency)
 
 -- ---- answers, unless the call is refused: then the state as it came, and no or 0 for what was asked
 abbrev pub changedOr : List Refusal → VoiceState → VoiceState → Changed
