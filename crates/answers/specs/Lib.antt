@@ -1,2 +1,4 @@
 pub mod Numbers
+pub mod Order
+pub mod Outcome
 pub mod Value

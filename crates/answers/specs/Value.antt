@@ -1,10 +1,11 @@
 -- A single number beside its answer. 01, "What a call says": "A refusal returns number, place, count 0 and any single value as +0". Definitions only.
-use mathlib.Core.Bool.{Bool, true, false}
+use mathlib.Core.List.{List}
 use lib.Ieee.{Float, binary64, ofBits}
+use Rattle.answers.specs.Order.{firstOf}
 use Rattle.answers.specs.declared.Answer.the-variants.{Done, Refused}
 use Rattle.answers.specs.declared.Refusal.{Refusal}
 use Rattle.answers.specs.declared.Value.{Value}
 
-abbrev pub valueIf : Bool → Refusal → Float → Value
-valueIf true refusal x = record { answer = Done 0; value = x }
-valueIf false refusal x = record { answer = Refused refusal; value = ofBits binary64 0 }
+-- the number, unless the call is refused
+abbrev pub valueOr : List Refusal → Float → Value
+valueOr refusals x = firstOf refusals (λ (why : Refusal). record { answer = Refused why; value = ofBits binary64 0 }) (record { answer = Done 0; value = x })

@@ -3,7 +3,8 @@
 // several share.
 ghost use mathlib.Core.Path.{_≡_};
 ghost use Prim.Native.Nat.{_≤_};
-ghost use Rattle.answers.specs.Value.{valueIf};
+ghost use Rattle.answers.specs.Order.{unless};
+ghost use Rattle.answers.specs.Value.{valueOr};
 ghost use Rattle.answers.specs.Numbers.{numbersOf, refusalNumber, refusalPlace, faultNumber, faultPlace};
 
 // What is wrong with a score; a fault of a record carries the record's index.
@@ -64,7 +65,7 @@ pub fn in_numbers(answer: Answer) -> Numbers
 
 // The number, or the refusal with +0.
 pub fn value_if(ok: bool, refusal: Refusal, value: f64) -> Value
-    ensures { λ r. ⌜ r ≡ valueIf ok refusal value ⌝ }
+    ensures { λ r. ⌜ r ≡ valueOr (unless ok refusal) value ⌝ }
 {
     if ok {
         return Value {

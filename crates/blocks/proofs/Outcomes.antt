@@ -8,11 +8,12 @@ use lib.ListN.{length}
 use lib.Ieee.{Float}
 use Rattle.answers.specs.declared.Answer.the-variants.{Done}
 use Rattle.answers.specs.declared.Refusal.the-variants.{Setting, Argument}
+use Rattle.answers.specs.Outcome.{leaves}
 use Rattle.waveform.specs.declared.Radians.{Radians}
 use Rattle.waveform.specs.Waveform.{reduceOf, incrementOf, radians}
 use Rattle.waveform.specs.Filled.{valueAt, Filled}
 use Rattle.waveform.proofs.Steps.{samples-length}
-use Rattle.blocks.specs.Block.{isSetting, isTone, leaves, refusedOf, runOf}
+use Rattle.blocks.specs.Block.{isSetting, isTone, refusedOf, runOf}
 use Rattle.blocks.specs.declared.Ran.{Ran}
 use Rattle.blocks.specs.declared.Tone.{Tone}
 

@@ -1,8 +1,8 @@
 -- A run that is done, for a highest frequency to 20,000 Hz: every sample is finite, and the phase after it lies from 0 up to, not including, TAU. The start phase is a value of an f64, which is what
 -- owning it tells. Assumes nothing.
-use mathlib.Core.Path.{_≡_, refl, sym, subst}
-use mathlib.Core.Bool.{Bool, true, false, _&&_}
-use mathlib.Core.List.{List}
+use mathlib.Core.Path.{_≡_, refl, subst}
+use mathlib.Core.Bool.{Bool, false, _&&_}
+use mathlib.Core.List.{List, [], _++_}
 use Prim.Native.Nat.{ℕ, _≤_, _<_}
 use native.Mathlib.Nat as nat
 use lib.IntN.{pos}
@@ -12,21 +12,25 @@ use lib.Ieee.{Float, nan, binary64, ofBits, ofInt, round, mul, div, lt, le, fits
 use lib.Ieee.Fits.{and-i, and-l, and-r}
 use lib.Ieee.Order.{round-mono}
 use lib.Ieee.Scale.{finite}
-use Rattle.floats.specs.Range.{nonneg, within}
-use Rattle.floats.specs.Double.{naught, one}
+use Rattle.floats.specs.Range.{nonneg}
+use Rattle.floats.specs.Double.{naught}
 use Rattle.floats.proofs.Literals.{lit0-is}
 use Rattle.floats.proofs.Order.{fle-trans, lt-le, le→ge0, under, nonneg→finite}
 use Rattle.floats.proofs.Rounds.{ge0-round}
-use Rattle.answers.specs.declared.Answer.{Answer}
-use Rattle.answers.specs.declared.Answer.the-variants.{Done, Refused}
-use Rattle.envelope.specs.Limits.{isRate}
+use Rattle.domain.specs.Domain.{isRate, highestTone, isFrequency, isDepth, thousand, isRadians}
+use Rattle.answers.specs.declared.Answer.the-variants.{Done}
+use Rattle.answers.specs.declared.Refusal.the-variants.{Setting, Argument}
+use Rattle.answers.specs.Order.{unless}
+use Rattle.answers.specs.Outcome.{Outcome}
+use Rattle.answers.proofs.First.{both-passed, none-refused}
 use Rattle.waveform.specs.declared.Radians.{Radians}
 use Rattle.waveform.specs.Waveform.{tau, isWaveform, incrementOf}
 use Rattle.waveform.specs.Filled.{phaseFrom, valueAt, samplesFrom}
-use Rattle.waveform.proofs.Normal.{highest, increment-le, increment-nonneg, step-in, reduce-nonneg, reduce-below}
+use Rattle.waveform.proofs.Normal.{increment-le, increment-nonneg, step-in, reduce-nonneg, reduce-below}
 use Rattle.waveform.proofs.Steps.{samples-length}
 use Rattle.waveform.proofs.Values.{Near, far, sixteen, phase-near, samples-finite}
-use Rattle.blocks.specs.Block.{thousand, isSetting, isStart, isTone, Outcome, outcomeOf, phaseAfter, runOf}
+use Rattle.blocks.specs.Block.{isSetting, isTone, phaseAfter, runOf}
+use Rattle.blocks.specs.declared.Ran.{Ran}
 use Rattle.blocks.specs.declared.Tone.{Tone}
 
 -- a rate as a float
@@ -37,30 +41,30 @@ rate-finite rate h =
     (under (round binary64 false rate 1) (round binary64 false 192000 1) (ge0-round binary64 rate 1) tt (round-mono binary64 rate 1 192000 1 (lit< tt) (lit< tt) (nat.mul-le-mul-right 1 h)))
 
 -- ---- an accepted tone
-module _ (t : Tone) (top : Float) (rate : ℕ) (w : T (fits binary64 (t .phase .0))) (m : T (le top highest)) (s : T (isSetting rate (t .waveform))) (a : T (isTone t top)) where
+module _ (t : Tone) (top : Float) (rate : ℕ) (w : T (fits binary64 (t .phase .0))) (m : T (le top highestTone)) (s : T (isSetting rate (t .waveform))) (a : T (isTone t top)) where
   abbrev depth-ok : Bool
-  depth-ok = within naught one (t .depth)
+  depth-ok = isDepth (t .depth)
 
   abbrev frequency-ok : Bool
-  frequency-ok = within naught top (t .frequency)
+  frequency-ok = isFrequency top (t .frequency)
 
   abbrev step : Float
   step = incrementOf (t .frequency) rate
 
   depth-in : T depth-ok
   unfolding isTone
-  depth-in = and-l depth-ok frequency-ok (and-l (depth-ok && frequency-ok) (isStart (t .phase)) a)
+  depth-in = and-l depth-ok frequency-ok (and-l (depth-ok && frequency-ok) (isRadians (t .phase .0)) a)
 
-  frequency-in : T (within naught highest (t .frequency))
+  frequency-in : T (isFrequency highestTone (t .frequency))
   unfolding isTone
   frequency-in =
-      let h = and-r depth-ok frequency-ok (and-l (depth-ok && frequency-ok) (isStart (t .phase)) a) in
+      let h = and-r depth-ok frequency-ok (and-l (depth-ok && frequency-ok) (isRadians (t .phase .0)) a) in
       let f = t .frequency in
-      and-i (le naught f) (le f highest) (and-l (le naught f) (le f top) h) (fle-trans f top highest (and-r (le naught f) (le f top) h) m)
+      and-i (le naught f) (le f highestTone) (and-l (le naught f) (le f top) h) (fle-trans f top highestTone (and-r (le naught f) (le f top) h) m)
 
-  start-in : T (isStart (t .phase))
+  start-in : T (isRadians (t .phase .0))
   unfolding isTone
-  start-in = and-r (depth-ok && frequency-ok) (isStart (t .phase)) a
+  start-in = and-r (depth-ok && frequency-ok) (isRadians (t .phase .0)) a
 
   start-near : Near (t .phase .0)
   start-near =
@@ -105,33 +109,19 @@ pub record Sound (xs : List Float) (p : Radians) : Type 0 where
   pub phase-from : T (nonneg (p .0))
   pub phase-below : T (lt (p .0) tau)
 
--- a refusal is not done
-abbrev IsDone : Answer → Type 0
-IsDone (Done n) = Unit {0}
-IsDone (Refused why) = ⊥
-
-module _ (t : Tone) (top : Float) (rate : ℕ) (xs : List Float) (w : T (fits binary64 (t .phase .0))) (m : T (le top highest)) where
-  abbrev afterwards : Radians
-  afterwards = phaseAfter (incrementOf (t .frequency) rate) (t .phase) (length xs)
-
-  abbrev written : List Float
-  written = samplesFrom (t .waveform) (incrementOf (t .frequency) rate) (t .depth) (t .phase .0) (length xs)
-
-  abbrev left : Bool → Bool → Outcome
-  left s a = outcomeOf s a (t .phase) xs afterwards written
-
+module _ (t : Tone) (top : Float) (rate : ℕ) (xs : List Float) (w : T (fits binary64 (t .phase .0))) (m : T (le top highestTone)) where
   pub run-sound : (n : ℕ) → runOf t top rate xs .result .answer ≡ Done n → Sound (runOf t top rate xs .lent) (runOf t top rate xs .result .phase)
   unfolding runOf
-  run-sound n = go (isSetting rate (t .waveform)) (isTone t top) refl refl
-    where
-      go : (s a : Bool) → isSetting rate (t .waveform) ≡ s → isTone t top ≡ a → left s a .result .answer ≡ Done n → Sound (left s a .lent) (left s a .result .phase)
-      go true true s a e =
-          let usable = subst T (sym s) tt in
-          let sound = subst T (sym a) tt in
-          record {
-            samples = λ (i : ℕ) (l : i < length written). tone-finite t top rate w m usable sound i (length xs) (rw (samples-length (valueAt (t .waveform) (incrementOf (t .frequency) rate)) (incrementOf (t .frequency) rate) (t .depth) (t .phase .0) (length xs)) at l);
-            phase-from = after-in t top rate w m usable sound (length xs) .0;
-            phase-below = after-in t top rate w m usable sound (length xs) .1;
-          }
-      go true false s a e = absurd (subst IsDone (sym e) tt)
-      go false a s b e = absurd (subst IsDone (sym e) tt)
+  run-sound n d =
+      let step = incrementOf (t .frequency) rate in
+      let usable = isSetting rate (t .waveform) in
+      let sound = isTone t top in
+      let e : unless usable Setting ++ unless sound Argument ≡ [] = none-refused (unless usable Setting ++ unless sound Argument) _ _ (λ (o : Outcome Ran). o .result .answer) n (λ why. refl) d in
+      let p = both-passed usable sound Setting Argument e in
+      rw e
+      (record {
+        samples = λ (i : ℕ) (l : i < length (samplesFrom (t .waveform) step (t .depth) (t .phase .0) (length xs))).
+            tone-finite t top rate w m (p .0) (p .1) i (length xs) (rw (samples-length (valueAt (t .waveform) step) step (t .depth) (t .phase .0) (length xs)) at l);
+        phase-from = after-in t top rate w m (p .0) (p .1) (length xs) .0;
+        phase-below = after-in t top rate w m (p .0) (p .1) (length xs) .1;
+      })

@@ -3,17 +3,17 @@
 -- "What a call says": "6 | rate, waveform's duty .. outside the domain"; "9 | any other argument of a ported call outside its domain", "9 after 6"; "0 | done; count .. samples written";
 -- "A refusal returns number, place, count 0 .., hands back state by value as it came, and writes nowhere". Ranges are comparisons of floats: a NaN is outside, and -0 counts as 0.
 -- The highest frequency is an argument. Definitions only.
-use mathlib.Core.Bool.{Bool, true, false, _&&_}
-use mathlib.Core.List.{List}
+use mathlib.Core.Bool.{Bool, _&&_}
+use mathlib.Core.List.{List, _++_}
 use Prim.Native.Nat.{ℕ}
 use lib.ListN.{length}
-use lib.Ieee.{Float, binary64, ofBits, lt, le}
-use Rattle.floats.specs.Range.{within}
-use Rattle.floats.specs.Double.{naught, one}
+use lib.Ieee.{Float}
 use Rattle.answers.specs.declared.Answer.the-variants.{Done, Refused}
 use Rattle.answers.specs.declared.Refusal.{Refusal}
 use Rattle.answers.specs.declared.Refusal.the-variants.{Setting, Argument}
-use Rattle.envelope.specs.Limits.{isRate}
+use Rattle.answers.specs.Order.{unless, firstOf}
+use Rattle.answers.specs.Outcome.{Outcome, leaves}
+use Rattle.domain.specs.Domain.{isRate, isFrequency, isDepth, isRadians}
 use Rattle.waveform.specs.declared.Radians.{Radians}
 use Rattle.waveform.specs.declared.Waveform.{Waveform}
 use Rattle.waveform.specs.Waveform.{isWaveform, reduceOf, incrementOf, radians}
@@ -21,45 +21,31 @@ use Rattle.waveform.specs.Filled.{phaseFrom, samplesFrom}
 use Rattle.blocks.specs.declared.Ran.{Ran}
 use Rattle.blocks.specs.declared.Tone.{Tone}
 
-abbrev pub thousand : Float
-thousand = ofBits binary64 0x408f_4000_0000_0000
-
 -- ---- what is accepted
 -- else 6
 abbrev pub isSetting : ℕ → Waveform → Bool
 isSetting rate w = isRate rate && isWaveform w
 
-abbrev pub isStart : Radians → Bool
-isStart p = le naught (p .0) && lt (p .0) thousand
-
 -- else 9
 unfoldable pub isTone : Tone → Float → Bool
-isTone t highest = within naught one (t .depth) && within naught highest (t .frequency) && isStart (t .phase)
+isTone t highest = isDepth (t .depth) && isFrequency highest (t .frequency) && isRadians (t .phase .0)
 
--- ---- what a run leaves: its result, and the lent numbers
-pub record Outcome : Type 0 where
-  pub result : Ran
-  pub lent : List Float
-
-abbrev pub leaves : Ran → List Float → Outcome
-leaves r xs = record { result = r; lent = xs }
-
+-- ---- what a run leaves
 abbrev pub refusedOf : Refusal → Radians → Ran
 refusedOf why p = record { answer = Refused why; phase = p }
 
--- from a phase p and lent numbers xs, to q and ys where nothing is wrong: the first that holds
-abbrev pub outcomeOf : (settings arguments : Bool) → Radians → List Float → Radians → List Float → Outcome
-outcomeOf false arguments p xs q ys = leaves (refusedOf Setting p) xs
-outcomeOf true false p xs q ys = leaves (refusedOf Argument p) xs
-outcomeOf true true p xs q ys = leaves (record { answer = Done (length xs); phase = q }) ys
+-- from a phase p and lent numbers xs to q and ys, unless the call is refused: then all is as it came
+abbrev pub outcomeOr : List Refusal → Radians → List Float → Radians → List Float → Outcome Ran
+outcomeOr refusals p xs q ys = firstOf refusals (λ (why : Refusal). leaves (refusedOf why p) xs) (leaves (record { answer = Done (length xs); phase = q }) ys)
 
 -- the phase after n samples, reduced
 abbrev pub phaseAfter : Float → Radians → ℕ → Radians
 phaseAfter step p n = radians (reduceOf (phaseFrom step (p .0) n))
 
 -- every lent number is a value times the depth
-unfoldable pub runOf : Tone → Float → ℕ → List Float → Outcome
+unfoldable pub runOf : Tone → Float → ℕ → List Float → Outcome Ran
 runOf t highest rate xs =
     let n = length xs in
     let step = incrementOf (t .frequency) rate in
-    outcomeOf (isSetting rate (t .waveform)) (isTone t highest) (t .phase) xs (phaseAfter step (t .phase) n) (samplesFrom (t .waveform) step (t .depth) (t .phase .0) n)
+    outcomeOr (unless (isSetting rate (t .waveform)) Setting ++ unless (isTone t highest) Argument) (t .phase) xs (phaseAfter step (t .phase) n)
+    (samplesFrom (t .waveform) step (t .depth) (t .phase .0) n)

@@ -2,9 +2,8 @@
 // output, and the reduction after it. They differ in their highest frequency, and the oscillator's depth is 1. Left out, as 01
 // says: parameters and their modulation, noise, and the simd path.
 ghost use mathlib.Core.Path.{_≡_};
-ghost use Rattle.blocks.specs.Block.{isTone, isStart, refusedOf, leaves, runOf};
-ghost use Rattle.floats.specs.Range.{within};
-ghost use Rattle.floats.specs.Double.{naught};
+ghost use Rattle.answers.specs.Outcome.{leaves};
+ghost use Rattle.blocks.specs.Block.{isTone, refusedOf, runOf};
 use answers::Answer;
 use answers::Refusal;
 use waveform::Radians;
@@ -29,7 +28,7 @@ pub fn run(tone: Tone, highest: f64, rate: u32, out: &mut [f64]) -> Ran
     ensures { λ r. ⌜ leaves r (now (out .exit)) ≡ runOf tone highest rate (now (out .entry)) ⌝ }
 {
     let shape = tone.waveform;
-    if !(envelope::is_rate(rate) & waveform::is_waveform(shape)) {
+    if !(domain::is_rate(rate) & waveform::is_waveform(shape)) {
         return refused(Refusal::Setting, tone.phase);
     }
     if !is_tone(tone, highest) {
@@ -48,20 +47,9 @@ pub fn run(tone: Tone, highest: f64, rate: u32, out: &mut [f64]) -> Ran
 fn is_tone(tone: Tone, highest: f64) -> bool
     ensures { λ r. ⌜ r ≡ isTone tone highest ⌝ }
 {
-    is_within(1.0, tone.depth) & is_within(highest, tone.frequency) & is_start(tone.phase)
-}
-
-// From 0 up to, not including, 1,000 radians.
-fn is_start(phase: Radians) -> bool
-    ensures { λ r. ⌜ r ≡ isStart phase ⌝ }
-{
-    (0.0 <= phase.0) & (phase.0 < 1000.0)
-}
-
-fn is_within(high: f64, x: f64) -> bool
-    ensures { λ r. ⌜ r ≡ within naught high x ⌝ }
-{
-    (0.0 <= x) & (x <= high)
+    domain::is_depth(tone.depth)
+        & floats::is_within(0.0, highest, tone.frequency)
+        & domain::is_radians(tone.phase.0)
 }
 
 // The phase as it came.

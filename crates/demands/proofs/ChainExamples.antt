@@ -13,7 +13,8 @@ use Rattle.shelf.specs.Shelf.{entryWords}
 use Rattle.floats.specs.Double.{half}
 use Rattle.answers.specs.declared.Answer.the-variants.{Done, Refused}
 use Rattle.answers.specs.declared.Refusal.the-variants.{GivenState}
-use Rattle.envelope.specs.Limits.{isAdsr, isRate}
+use Rattle.domain.specs.Domain.{isRate}
+use Rattle.envelope.specs.Limits.{isAdsr}
 use Rattle.waveform.specs.declared.Waveform.the-variants.{Square}
 use Rattle.score.specs.declared.Verdict.the-variants.{Accepted}
 use Rattle.score.specs.Record.{positionAt}

@@ -13,7 +13,8 @@ use Rattle.answers.specs.declared.Answer.{Answer}
 use Rattle.answers.specs.declared.Answer.the-variants.{Done, Refused}
 use Rattle.answers.specs.declared.Refusal.{Refusal}
 use Rattle.answers.specs.declared.Refusal.the-variants.{Setting, Size, Argument, GivenState}
-use Rattle.answers.specs.Value.{valueIf}
+use Rattle.answers.specs.Order.{unless}
+use Rattle.answers.specs.Value.{valueOr}
 use Rattle.floats.specs.Double.{naught}
 use Rattle.listing.specs.Listing.{listingOf}
 use Rattle.listing.specs.Outcome.{Listed}
@@ -42,7 +43,7 @@ use Rattle.desk.specs.Desk.{fills, singleFor, renderFor, rendered, reren
 pub single-known : (x : Shape) (phase dt : Float) {w : Waveform} → x ≡ shape.Known w → sampleOf w phase dt ≡ singleFor x phase dt
 single-known x phase dt e = rw e refl
 
-pub single-unknown : (x : Shape) (phase dt : Float) → x ≡ shape.Unknown → valueIf false Setting naught ≡ singleFor x phase dt
+pub single-unknown : (x : Shape) (phase dt : Float) → x ≡ shape.Unknown → valueOr (unless false Setting) naught ≡ singleFor x phase dt
 single-unknown x phase dt e = rw e refl
 
 -- ---- render, re-render and continue

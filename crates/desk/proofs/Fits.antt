@@ -1,7 +1,7 @@
 -- Every answer that the desk packs has room in its word: its number is below 2^8, its place below 2^24, its count below 2^32. Assumes nothing.
 use mathlib.Core.Path.{_≡_, refl}
 use mathlib.Core.Bool.{Bool, true, false, cond}
-use mathlib.Core.List.{List}
+use mathlib.Core.List.{List, _++_}
 use Prim.Native.Nat.{ℕ, zero, suc, _+_, _-_, _*_, _%_, _≤_, _<_}
 use native.Mathlib.Omega.{arith}
 use lib.Dec.{leb, eqb}
@@ -16,10 +16,10 @@ use Rattle.answers.specs.declared.Refusal.the-variants.{Score, NewScore, Settin
 use Rattle.answers.specs.declared.ScoreFault.{ScoreFault}
 use Rattle.answers.specs.declared.ScoreFault.the-variants.{Length, Mark, Kind, Field, Order}
 use Rattle.answers.specs.Numbers.{faultNumber, faultPlace, refusalNumber, refusalPlace, numbersOf}
-use Rattle.answers.specs.declared.Value.{Value}
-use Rattle.answers.specs.Value.{valueIf}
+use Rattle.answers.specs.Order.{unless}
+use Rattle.answers.specs.Value.{valueOr}
 use Rattle.floats.specs.Double.{naught}
-use Rattle.polyblep.specs.Calls.{isPhase}
+use Rattle.domain.specs.Domain.{isPhase}
 use Rattle.render.specs.Calls.{renderAnswer, renderedOf, renderOf, isStretch, isGiven, continueAnswer, continuedOf, continueOf}
 use Rattle.render.specs.Order as render
 use Rattle.render.specs.Order.{most, scored, judgedOf, isRoom}
@@ -137,7 +137,7 @@ check-fits s = go (verdictOf s) (verdict-low s)
     go (Accepted n) l = done-fits 0 (omega arith)
     go (Faulty fault) l = refused-fits (Score fault) l
 
-value-fits : (t : Bool) (why : Refusal) (x : Float) → refusalPlace why ≤ 4096 → Fits (valueIf t why x .answer)
+value-fits : (t : Bool) (why : Refusal) (x : Float) → refusalPlace why ≤ 4096 → Fits (valueOr (unless t why) x .answer)
 value-fits true why x p = done-fits 0 (omega arith)
 value-fits false why x p = refused-fits why p
 
@@ -145,7 +145,7 @@ pub single-fits : (x : Shape) (phase dt : Float) → Fits (singleFor x phase dt 
 single-fits Unknown phase dt = refused-fits Setting (omega arith)
 single-fits (Known w) phase dt = go (isWaveform w)
   where
-    go : (t : Bool) → Fits (cond {A = Value} t (valueIf (isPhase phase dt) Argument (valueOf w phase dt)) (valueIf false Setting naught) .answer)
+    go : (t : Bool) → Fits (valueOr (unless t Setting ++ unless (isPhase phase dt) Argument) (valueOf w phase dt) .answer)
     go true = value-fits (isPhase phase dt) Argument (valueOf w phase dt) (omega arith)
     go false = refused-fits Setting (omega arith)
 

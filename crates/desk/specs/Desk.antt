@@ -13,7 +13,8 @@ use Rattle.answers.specs.declared.Answer.{Answer}
 use Rattle.answers.specs.declared.Answer.the-variants.{Done, Refused}
 use Rattle.answers.specs.declared.Refusal.the-variants.{Setting, Size, Argument, GivenState}
 use Rattle.answers.specs.declared.Value.{Value}
-use Rattle.answers.specs.Value.{valueIf}
+use Rattle.answers.specs.Order.{unless}
+use Rattle.answers.specs.Value.{valueOr}
 use Rattle.floats.specs.Double.{naught}
 use Rattle.listing.specs.Listing.{listingOf}
 use Rattle.render.specs.Calls as render
@@ -84,7 +85,7 @@ checkOf s = packedOf (answerOf (verdictOf s))
 -- ---- a single sample; a code above 4 is 6 and +0
 abbrev pub singleFor : Shape → Float → Float → Value
 singleFor (shape.Known w) phase dt = sampleOf w phase dt
-singleFor shape.Unknown phase dt = valueIf false Setting naught
+singleFor shape.Unknown phase dt = valueOr (unless false Setting) naught
 
 abbrev pub singleOf : ℕ → Float → Float → Float → Value
 singleOf code phase dt duty = singleFor (shapeOf code duty) phase dt

@@ -16,7 +16,8 @@ use Rattle.floats.proofs.Order.{fle-trans, ge0→le, nonneg→finite, under, no
 use Rattle.floats.proofs.Rounds.{ge0-round}
 use Rattle.floats.proofs.Ranges.{within-nonneg, ge0-positive, div-ge0}
 use Rattle.floats.proofs.Monotone.{div-mono}
-use Rattle.envelope.specs.Limits.{milli, ten, eleven, isAdsr, isRate, isEnvelope, clampOf, clampedOf, sampleTimeOf}
+use Rattle.domain.specs.Domain.{isRate}
+use Rattle.envelope.specs.Limits.{milli, ten, eleven, isAdsr, isEnvelope, clampOf, clampedOf, sampleTimeOf}
 use Rattle.envelope.specs.declared.Adsr.{Adsr}
 use Rattle.envelope.specs.declared.Envelope.{Envelope}
 

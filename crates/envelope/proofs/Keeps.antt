@@ -11,7 +11,8 @@ use Rattle.floats.specs.Double.{naught, one}
 use Rattle.floats.proofs.Order.{fle-trans, not-le-le, ge0→le, nonneg→finite, under}
 use Rattle.floats.proofs.Ranges.{positive-nonneg, within-nonneg, ge0-positive, add-ge0, mul-ge0, div-ge0, sub-ge0, sub-le, div-le-one, one-le-div, sub-nonpos, neg-sub-nonneg, mul-nonpos}
 use Rattle.floats.proofs.Monotone.{add-mono, mul-mono, div-mono}
-use Rattle.envelope.specs.Limits.{milli, ten, eleven, isAdsr, isRate, isEnvelope, clampedOf, sampleTimeOf}
+use Rattle.domain.specs.Domain.{isRate}
+use Rattle.envelope.specs.Limits.{milli, ten, eleven, isAdsr, isEnvelope, clampedOf, sampleTimeOf}
 use Rattle.envelope.specs.Stages.{silent, attackLevel, decayLevel, releaseLevel, attackRule, decayRule, releaseRule, ruleOf, grownOf, stepOf, freshOf, triggeredOf, restsIn, releasedOf}
 use Rattle.envelope.specs.declared.Adsr.{Adsr}
 use Rattle.envelope.specs.declared.Envelope.{Envelope}

@@ -1,8 +1,7 @@
 -- Through any number of samples, and through any calls from `new`, the envelope stays accepted: both levels from 0 to 1 and the time from 0 to 11; and the levels of a run of samples lie from 0 to 1.
 -- The sustain setting is a value of an f64, which is what owning it tells. Assumes nothing.
-use mathlib.Core.Path.{_≡_, refl, sym, subst}
-use mathlib.Core.Bool.{Bool, true, false, _&&_}
-use mathlib.Core.List.{List, [], _∷_}
+use mathlib.Core.Bool.{_&&_}
+use mathlib.Core.List.{List, [], _∷_, _++_}
 use Prim.Native.Nat.{ℕ, suc, _<_}
 use lib.Dec.{T}
 use lib.ListN.{length, getD}
@@ -11,13 +10,19 @@ use lib.Ieee.Fits.{and-l, and-r}
 use Rattle.floats.specs.Range.{within}
 use Rattle.floats.specs.Double.{naught, one}
 use Rattle.runs.proofs.Laws.{repeated-keeps}
-use Rattle.envelope.specs.Limits.{isAdsr, isRate, isEnvelope, clampedOf, sampleTimeOf}
+use Rattle.answers.specs.declared.Refusal.the-variants.{Setting, Argument}
+use Rattle.answers.specs.Order.{unless}
+use Rattle.answers.specs.Outcome.{Outcome}
+use Rattle.answers.proofs.First.{both-passed, first-keeps}
+use Rattle.domain.specs.Domain.{isRate}
+use Rattle.envelope.specs.Limits.{isAdsr, isEnvelope, clampedOf, sampleTimeOf}
 use Rattle.envelope.specs.Stages.{freshOf, stepOf, triggeredOf, releasedOf}
 use Rattle.envelope.specs.Running.{envelopeFrom, levelsFrom}
-use Rattle.envelope.specs.Calls.{judgedOf, handedOf, changedOf, newOf, noteOnOf, noteOffOf, resetOf, processOf}
+use Rattle.envelope.specs.Calls.{changedOf, newOf, noteOnOf, noteOffOf, resetOf, processOf}
 use Rattle.envelope.specs.declared.Adsr.{Adsr}
 use Rattle.envelope.specs.declared.Envelope.{Envelope}
 use Rattle.envelope.specs.declared.EnvelopeBlock.{EnvelopeBlock}
+use Rattle.envelope.specs.declared.Processed.{Processed}
 use Rattle.envelope.proofs.Inside.{is-inside}
 use Rattle.envelope.proofs.Keeps.{step-keeps, fresh-accepted, triggered-keeps, released-keeps}
 use Rattle.envelope.proofs.RunsOn.{level-at}
@@ -39,25 +44,20 @@ pub record Good (b : EnvelopeBlock) : Type 0 where
 
 -- a refusal hands the block back, and what is done is good
 change-keeps : (b : EnvelopeBlock) (e : Envelope) → Good b → T (isEnvelope e) → Good (changedOf b e .block)
-change-keeps b e g h = go (isEnvelope (b .envelope))
-  where
-    go : (sound : Bool) → Good (handedOf (judgedOf true sound 0) b e .block)
-    go true = record { sustain-fits = g .sustain-fits; accepted = h }
-    go false = g
+change-keeps b e g h = first-keeps (unless (isEnvelope (b .envelope)) Argument) _ _ (λ (r : Processed). Good (r .block)) (λ why. g) (λ t. record { sustain-fits = g .sustain-fits; accepted = h })
 
 process-keeps : (b : EnvelopeBlock) (rate : ℕ) (xs : List Float) → Good b → Good (processOf b rate xs .result .block)
 unfolding processOf
-process-keeps b rate xs g = go (isAdsr (b .adsr) && isRate rate) (isEnvelope (b .envelope)) refl
-  where
-    go : (usable sound : Bool) → (isAdsr (b .adsr) && isRate rate) ≡ usable → Good (handedOf (judgedOf usable sound (length xs)) b (envelopeFrom (clampedOf (b .adsr)) (sampleTimeOf rate) (b .envelope) (length xs)) .block)
-    go true true u =
-        let t : T (isAdsr (b .adsr) && isRate rate) = subst T (sym u) tt in
-        record {
-          sustain-fits = g .sustain-fits;
-          accepted = run-keeps (b .adsr) rate (b .envelope) (and-l (isAdsr (b .adsr)) (isRate rate) t) (g .sustain-fits) (and-r (isAdsr (b .adsr)) (isRate rate) t) (g .accepted) (length xs);
-        }
-    go true false u = g
-    go false sound u = g
+process-keeps b rate xs g =
+    let usable = isAdsr (b .adsr) && isRate rate in
+    let sound = isEnvelope (b .envelope) in
+    first-keeps (unless usable Setting ++ unless sound Argument) _ _ (λ (o : Outcome Processed). Good (o .result .block)) (λ why. g)
+    (λ e.
+    let t = both-passed usable sound Setting Argument e .0 in
+    record {
+      sustain-fits = g .sustain-fits;
+      accepted = run-keeps (b .adsr) rate (b .envelope) (and-l (isAdsr (b .adsr)) (isRate rate) t) (g .sustain-fits) (and-r (isAdsr (b .adsr)) (isRate rate) t) (g .accepted) (length xs);
+    })
 
 pub data Call : Type 0 where
   on off reset : Call

@@ -1,13 +1,15 @@
 -- Two outcomes that meet a public function's statement are equal: each statement is an equation with one definition of specs/. Assumes nothing.
-use mathlib.Core.Path.{_≡_, sym, _∙_, ap}
+use mathlib.Core.Path.{_≡_, sym, _∙_}
 use mathlib.Core.Bool.{Bool}
 use mathlib.Core.List.{List}
 use Prim.Native.Nat.{ℕ}
 use lib.Ieee.{Float}
-use Rattle.envelope.specs.Limits.{isAdsr, isRate, isEnvelope, clampedOf, sampleTimeOf}
+use Rattle.envelope.specs.Limits.{isAdsr, isEnvelope, clampedOf, sampleTimeOf}
 use Rattle.envelope.specs.Stages.{stepOf, freshOf, triggeredOf, releasedOf}
 use Rattle.envelope.specs.Scaled.{Scaled}
-use Rattle.envelope.specs.Calls.{newOf, noteOnOf, noteOffOf, resetOf, Outcome, leaves, processOf}
+use Rattle.answers.specs.Outcome.{leaves}
+use Rattle.answers.proofs.Unique.{leaves-unique}
+use Rattle.envelope.specs.Calls.{newOf, noteOnOf, noteOffOf, resetOf, processOf}
 use Rattle.envelope.specs.declared.Adsr.{Adsr}
 use Rattle.envelope.specs.declared.Envelope.{Envelope}
 use Rattle.envelope.specs.declared.EnvelopeBlock.{EnvelopeBlock}
@@ -28,7 +30,7 @@ reset-unique b r t p q = p ∙ sym q
 
 -- the result and every lent number
 pub process-unique : (b : EnvelopeBlock) (rate : ℕ) (xs ys zs : List Float) (r t : Processed) → leaves r ys ≡ processOf b rate xs → leaves t zs ≡ processOf b rate xs → (r ≡ t) × (ys ≡ zs)
-process-unique b rate xs ys zs r t p q = (ap (λ (o : Outcome). o .result) (p ∙ sym q), ap (λ (o : Outcome). o .lent) (p ∙ sym q))
+process-unique b rate xs ys zs r t = leaves-unique (processOf b rate xs) r t ys zs
 
 -- ---- the helpers
 pub fresh-unique : (r t : Envelope) → r ≡ freshOf → t ≡ freshOf → r ≡ t
@@ -42,9 +44,6 @@ released-unique e r t p q = p ∙ sym q
 
 pub is-adsr-unique : (k : Adsr) (r t : Bool) → r ≡ isAdsr k → t ≡ isAdsr k → r ≡ t
 is-adsr-unique k r t p q = p ∙ sym q
-
-pub is-rate-unique : (rate : ℕ) (r t : Bool) → r ≡ isRate rate → t ≡ isRate rate → r ≡ t
-is-rate-unique rate r t p q = p ∙ sym q
 
 pub is-envelope-unique : (e : Envelope) (r t : Bool) → r ≡ isEnvelope e → t ≡ isEnvelope e → r ≡ t
 is-envelope-unique e r t p q = p ∙ sym q

@@ -1,9 +1,8 @@
--- What the envelope accepts, and what it makes of its settings. 01: "Block calls take a rate of 8,000 to 192,000 (whole Hz)"; "ADSR settings may be anything but NaN";
+-- What the envelope accepts, and what it makes of its settings. 01: "ADSR settings may be anything but NaN";
 -- "voice and envelope fields within the shelf's limits", which are "stage_time 0 to 11, levels .. 0 to 1"; "times clamp to 0.001 to 10 s, sustain to 0 to 1".
 -- Ranges are comparisons of floats: a NaN is outside, and -0 counts as 0. Definitions only.
 use mathlib.Core.Bool.{Bool, not, _&&_, cond}
 use Prim.Native.Nat.{ℕ}
-use lib.Dec.{leb}
 use lib.IntN.{pos}
 use lib.Ieee.{Float, binary64, ofBits, ofInt, isNan, lt}
 use Rattle.floats.specs.Range.{within}
@@ -25,9 +24,6 @@ eleven = ofBits binary64 0x4026_0000_0000_0000
 -- no setting is a NaN
 unfoldable pub isAdsr : Adsr → Bool
 isAdsr k = not (isNan (k .attack)) && not (isNan (k .decay)) && not (isNan (k .sustain)) && not (isNan (k .release))
-
-unfoldable pub isRate : ℕ → Bool
-isRate rate = leb 8000 rate && leb rate 192000
 
 -- both levels 0 to 1, the time 0 to 11
 unfoldable pub isEnvelope : Envelope → Bool

@@ -3,13 +3,16 @@
 // 01 says: `Block`, parameter names and modulation, and `prepare`.
 ghost use mathlib.Core.Path.{_≡_};
 ghost use mathlib.Core.Bool.{not};
+ghost use mathlib.Core.List.{_++_};
 ghost use lib.ListN.{length};
 ghost use lib.Ieee.{isNan};
-ghost use Rattle.floats.specs.Range.{within};
-ghost use Rattle.envelope.specs.Limits.{isAdsr, isRate, isEnvelope, clampOf, clampedOf, sampleTimeOf};
+ghost use Rattle.envelope.specs.Limits.{isAdsr, isEnvelope, clampOf, clampedOf, sampleTimeOf};
 ghost use Rattle.envelope.specs.Stages.{movedOf, levelOf, endsAt, stepOf, nextIn, endedIn, freshOf, triggeredOf, restsIn, releasedOf};
 ghost use Rattle.envelope.specs.Running.{Filled};
-ghost use Rattle.envelope.specs.Calls.{judgedOf, changedOf, newOf, noteOnOf, noteOffOf, resetOf, leaves, processOf};
+ghost use Rattle.answers.specs.declared.Refusal.the-variants.{Setting, Argument};
+ghost use Rattle.answers.specs.Order.{unless};
+ghost use Rattle.answers.specs.Outcome.{leaves};
+ghost use Rattle.envelope.specs.Calls.{answerOr, changedOf, newOf, noteOnOf, noteOffOf, resetOf, processOf};
 use answers::Answer;
 use answers::Refusal;
 
@@ -93,7 +96,7 @@ impl EnvelopeBlock {
     pub fn process(self, rate: u32, out: &mut [f64]) -> Processed
         ensures { λ r. ⌜ leaves r (now (out .exit)) ≡ processOf self rate (now (out .entry)) ⌝ }
     {
-        let usable = is_adsr(self.adsr) & is_rate(rate);
+        let usable = is_adsr(self.adsr) & domain::is_rate(rate);
         let sound = is_envelope(self.envelope);
         let answer = judged(usable, sound, out.len());
         let adsr = self.adsr;
@@ -153,20 +156,13 @@ pub fn is_adsr(adsr: Adsr) -> bool
         & is_number(adsr.release)
 }
 
-// A rate that is accepted, in Hz.
-pub fn is_rate(rate: u32) -> bool
-    ensures { λ r. ⌜ r ≡ isRate rate ⌝ }
-{
-    (8000 <= rate) & (rate <= 192000)
-}
-
 // An envelope that is accepted: the shelf's limits.
 pub fn is_envelope(e: Envelope) -> bool
     ensures { λ r. ⌜ r ≡ isEnvelope e ⌝ }
 {
-    is_within(0.0, 1.0, e.level)
-        & is_within(0.0, 1.0, e.release_level)
-        & is_within(0.0, 11.0, e.stage_time)
+    floats::is_within(0.0, 1.0, e.level)
+        & floats::is_within(0.0, 1.0, e.release_level)
+        & floats::is_within(0.0, 11.0, e.stage_time)
 }
 
 // Times between a millisecond and ten seconds, sustain between 0 and 1.
@@ -302,12 +298,6 @@ fn clamp(low: f64, high: f64, x: f64) -> f64
     x
 }
 
-fn is_within(low: f64, high: f64, x: f64) -> bool
-    ensures { λ r. ⌜ r ≡ within low high x ⌝ }
-{
-    (low <= x) & (x <= high)
-}
-
 // A NaN alone is not equal to itself.
 fn is_number(x: f64) -> bool
     ensures { λ r. ⌜ r ≡ not (isNan x) ⌝ }
@@ -317,7 +307,7 @@ fn is_number(x: f64) -> bool
 
 // The first refusal that holds, or done.
 fn judged(usable: bool, sound: bool, count: usize) -> Answer
-    ensures { λ r. ⌜ r ≡ judgedOf usable sound count ⌝ }
+    ensures { λ r. ⌜ r ≡ answerOr (unless usable Setting ++ unless sound Argument) count ⌝ }
 {
     if usable {
         if sound {

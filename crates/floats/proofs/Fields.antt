@@ -11,16 +11,9 @@ use lib.Ieee.{Float, nan, inf, fin, Format, prec, emax, low, hid, top, fits, toB
 use lib.Ieee.Exact.{HasValue}
 use lib.Ieee.Positive.{num, den, den-pos, positive, positive-finite, value→cross}
 use borrow.Author.Tests.{leb-false}
-use Rattle.floats.proofs.Pattern.{fieldsOf, unitsOf, negative, value}
+use Rattle.floats.proofs.Pattern.{fieldsOf, unitsOf, negative, value, fields-lt}
 
 -- ---- a field between powers of two
-fields-lt : (f : Format) (e t : ℕ) → t < hid f → fieldsOf f e t < 2 ^ (prec f - 1 + e)
-fields-lt f zero t h = rw (nat.add-zero (prec f - 1)) h
-fields-lt f (suc y) t h = rw (pow-add 2 (prec f - 1) (suc y), nat.pow-succ' 2 y) (go (hid f) t (2 ^ y) h (pow-pos y))
-  where
-    go : (w t p : ℕ) → t < w → 0 < p → (w + t) * p < w * (2 * p)
-    go w t p h P = omega (arith, nat.mul-lt-mul-of-pos-right h P)
-
 fields-ge : (f : Format) (e t y : ℕ) → suc y ≤ e → 2 ^ (prec f - 1 + y) ≤ fieldsOf f e t
 fields-ge f zero t y h = absurd (nat.not-suc-le-zero h)
 fields-ge f (suc e) t y h = rw (pow-add 2 (prec f - 1) y) (nat.mul-le-mul (nat.le-add-right (hid f) t) (pow-mono (nat.le-of-suc-le-suc h)))

@@ -1,11 +1,11 @@
 -- What number a bit pattern stands for, in units of the format's smallest value 2 ^ -low: by the exponent's field and the digits below it.
 -- Over the format, so that both widths of `floor` read it. Assumes nothing.
-use mathlib.Core.Path.{_≡_, refl, sym, ap, _∙_, subst}
+use mathlib.Core.Path.{_≡_, sym, ap, _∙_, subst}
 use mathlib.Core.Bool.{Bool, true, false, cond}
 use Prim.Native.Nat.{ℕ, zero, suc, _+_, _-_, _*_, _/_, _%_, _^_, _≤_, _<_}
 use native.Mathlib.Nat as nat
 use native.Mathlib.Omega.{arith}
-use lib.Dec.{T, leb, eqb, lit≤}
+use lib.Dec.{T, leb, eqb}
 use lib.Pow.{pow-add, pow-pos, pow-mono}
 use lib.Ieee.{Float, nan, inf, Format, binary32, binary64, prec, emax, low, hid, ones, top}
 use lib.Ieee.{odd, fits, ofFields, ofBits, toBits}
@@ -80,27 +80,21 @@ field-lt f x w h = below (sizeBits f x / hid f) (ones f) (within f (toBits f x))
         all-ones Format.binary64 s t h = ends s (eqb t 0) h
 
 -- ---- small and middling sizes
--- below the field emax the number is below 1
+-- a field e is below 2 ^ (prec - 1 + e) units
+pub fields-lt : (f : Format) (e t : ℕ) → t < hid f → fieldsOf f e t < 2 ^ (prec f - 1 + e)
+fields-lt f zero t h = rw (nat.add-zero (prec f - 1)) h
+fields-lt f (suc y) t h = rw (pow-add 2 (prec f - 1) (suc y), nat.pow-succ' 2 y) (go (hid f) t (2 ^ y) h (pow-pos y))
+  where
+    go : (w t p : ℕ) → t < w → 0 < p → (w + t) * p < w * (2 * p)
+    go w t p h P = omega (arith, nat.mul-lt-mul-of-pos-right h P)
+
+-- so below the field emax the number is below 1
 pub below-one : (f : Format) (e t : ℕ) → e < emax f → t < hid f → fieldsOf f e t < 2 ^ low f
-below-one f zero t h k = nat.lt-of-lt-of-le k (pow-mono (short f))
+below-one f e t h k = nat.lt-of-lt-of-le (fields-lt f e t k) (pow-mono (room f e h))
   where
-    short : (f : Format) → prec f - 1 ≤ low f
-    short Format.binary32 = lit≤ tt
-    short Format.binary64 = lit≤ tt
-below-one f (suc x) t h k =
-    nat.lt-of-lt-of-le (nat.mul-lt-mul-of-pos-right (twice (hid f) t k) (pow-pos x))
-    (nat.le-trans (nat.le-of-eq (ap (λ (z : ℕ). z * 2 ^ x) (double f) ∙ sym (pow-add 2 (prec f) x))) (pow-mono (room f x h)))
-  where
-    twice : (w t : ℕ) → t < w → w + t < w + w
-    twice w t k = omega arith
-
-    double : (f : Format) → hid f + hid f ≡ 2 ^ prec f
-    double Format.binary32 = refl
-    double Format.binary64 = refl
-
-    room : (f : Format) (x : ℕ) → suc x < emax f → prec f + x ≤ low f
-    room Format.binary32 x h = omega arith
-    room Format.binary64 x h = omega arith
+    room : (f : Format) (e : ℕ) → e < emax f → prec f - 1 + e ≤ low f
+    room Format.binary32 e h = omega arith
+    room Format.binary64 e h = omega arith
 
 -- a pattern that is not 0 stands for a number that is not
 pub above-zero : (f : Format) (e t : ℕ) → 0 < e + t → 0 < fieldsOf f e t

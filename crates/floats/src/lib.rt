@@ -1,11 +1,30 @@
 // floor of an f32 and of an f64, worked out from the bits, as 01 asks: the two widths share their argument, which is over the
-// format (proofs/). The laws of float arithmetic that the crates above lean on are this crate's files of proofs/. Left out: all
-// other arithmetic, which is the language's own, and C's library.
+// format (proofs/); and tests of a float that several crates make. The laws of float arithmetic that the crates above lean on are
+// this crate's files of proofs/. Left out: all other arithmetic, which is the language's own, and C's library.
 ghost use mathlib.Core.Path.{_≡_};
 ghost use mathlib.Core.Bool.{Bool};
 ghost use Prim.Native.Nat.{_<_, _≤_, _^_};
 ghost use lib.Ieee.{binary32, binary64};
+ghost use lib.Ieee.Scale.{finite};
 ghost use Rattle.floats.specs.Floor.{floorOf, wholeOf};
+ghost use Rattle.floats.specs.Range.{within};
+
+// The largest finite f32.
+const LARGEST: f32 = 340282346638528859811704183484516925440.0;
+
+// From low to high, both included; a NaN is outside.
+pub fn is_within(low: f64, high: f64, x: f64) -> bool
+    ensures { λ r. ⌜ r ≡ within low high x ⌝ }
+{
+    (low <= x) & (x <= high)
+}
+
+// Neither an infinity nor a NaN.
+pub fn is_finite_f32(x: f32) -> bool
+    ensures { λ r. ⌜ r ≡ finite x ⌝ }
+{
+    (-LARGEST <= x) & (x <= LARGEST)
+}
 
 // The greatest whole number that is not above x, with x's sign: floor(-0) is -0. What is not finite comes back as it is.
 pub fn floor_f32(x: f32) -> f32

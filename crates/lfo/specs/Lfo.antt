@@ -2,20 +2,18 @@
 -- leaves is in blocks' specs/Block.antt. A setting is judged by the call that uses it, which is `process`: the other calls refuse nothing. Definitions only.
 use mathlib.Core.List.{List}
 use Prim.Native.Nat.{ℕ}
-use lib.Ieee.{Float, binary64, ofBits}
+use lib.Ieee.{Float}
 use Rattle.floats.specs.Double.{naught}
+use Rattle.domain.specs.Domain.{highestLfo}
+use Rattle.answers.specs.Outcome.{Outcome, leaves}
 use Rattle.waveform.specs.declared.Radians.{Radians}
 use Rattle.waveform.specs.declared.Waveform.{Waveform}
 use Rattle.waveform.specs.Waveform.{radians}
 use Rattle.blocks.specs.declared.Tone.{Tone}
-use Rattle.blocks.specs.Block as blocks
+use Rattle.blocks.specs.declared.Ran.{Ran}
 use Rattle.blocks.specs.Block.{runOf}
 use Rattle.lfo.specs.declared.LfoBlock.{LfoBlock}
 use Rattle.lfo.specs.declared.Processed.{Processed}
-
--- 100
-abbrev pub highest : Float
-highest = ofBits binary64 0x4059_0000_0000_0000
 
 abbrev pub newOf : Float → Float → Waveform → LfoBlock
 newOf frequency depth w = record { frequency = frequency; depth = depth; phase = radians naught; waveform = w }
@@ -27,18 +25,10 @@ withPhase b p = record { frequency = b .frequency; depth = b .depth; phase = p; 
 abbrev pub toneOf : LfoBlock → Tone
 toneOf b = record { frequency = b .frequency; depth = b .depth; phase = b .phase; waveform = b .waveform }
 
--- what it leaves: its result, and the lent numbers
-pub record Outcome : Type 0 where
-  pub result : Processed
-  pub lent : List Float
-
-abbrev pub leaves : Processed → List Float → Outcome
-leaves r xs = record { result = r; lent = xs }
-
 -- what a run leaves, handed on: the block has the phase after it
-abbrev pub handedOf : LfoBlock → blocks.Outcome → Outcome
+abbrev pub handedOf : LfoBlock → Outcome Ran → Outcome Processed
 handedOf b o = leaves (record { answer = o .result .answer; block = withPhase b (o .result .phase) }) (o .lent)
 
 -- every lent number is a value times the depth
-abbrev pub processOf : LfoBlock → ℕ → List Float → Outcome
-processOf b rate xs = handedOf b (runOf (toneOf b) highest rate xs)
+abbrev pub processOf : LfoBlock → ℕ → List Float → Outcome Processed
+processOf b rate xs = handedOf b (runOf (toneOf b) highestLfo rate xs)

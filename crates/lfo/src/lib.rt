@@ -1,16 +1,14 @@
 // lfo.rs of the original: a block of a slow waveform times a depth. State goes in by value and is handed back. Left out, as 01
 // says: `Block`, parameter names and modulation, noise and its seed, the simd path.
 ghost use mathlib.Core.Path.{_≡_};
-ghost use Rattle.lfo.specs.Lfo.{newOf, withPhase, leaves, processOf};
+ghost use Rattle.answers.specs.Outcome.{leaves};
+ghost use Rattle.lfo.specs.Lfo.{newOf, withPhase, processOf};
 ghost use Rattle.waveform.specs.Waveform.{radians};
 ghost use Rattle.floats.specs.Double.{naught};
 use answers::Answer;
 use blocks::Tone;
 use waveform::Radians;
 use waveform::Waveform;
-
-// The highest frequency that is accepted, in Hz.
-const HIGHEST: f64 = 100.0;
 
 pub struct LfoBlock {
     pub frequency: f64,
@@ -60,7 +58,7 @@ impl LfoBlock {
             phase,
             waveform,
         };
-        let ran = blocks::run(tone, HIGHEST, rate, out);
+        let ran = blocks::run(tone, domain::HIGHEST_LFO, rate, out);
         let answer = ran.answer;
         let phase = ran.phase;
         let mut block = self;

@@ -10,7 +10,8 @@ use lib.Ieee.{Float, nan, fin, ofBits, ofInt, isNan, add, sub, mul, div, le, lt}
 use Rattle.floats.specs.Range.{nought}
 use Rattle.runs.specs.Runs.{run}
 use Rattle.answers.specs.declared.Answer.the-variants.{Done}
-use Rattle.envelope.specs.Limits.{isAdsr, isRate, isEnvelope, clampedOf, sampleTimeOf}
+use Rattle.domain.specs.Domain.{isRate}
+use Rattle.envelope.specs.Limits.{isAdsr, isEnvelope, clampedOf, sampleTimeOf}
 use Rattle.envelope.specs.Stages.{stepOf}
 use Rattle.envelope.specs.Running.{envelopeFrom, levelsFrom}
 use Rattle.envelope.specs.Calls.{processOf}

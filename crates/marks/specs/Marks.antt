@@ -15,8 +15,10 @@ use Rattle.answers.specs.declared.Value.{Value}
 use Rattle.polyblep.specs.Calls.{polyBlepOf, polyblepSawOf, polyblepSquareOf}
 use Rattle.phase.specs.Phase.{cyclesOf, phaseOf, setPhaseOf}
 use Rattle.phase.specs.declared.Shown.{Shown}
-use Rattle.envelope.specs.Calls.{Outcome, processOf}
+use Rattle.answers.specs.Outcome.{Outcome}
+use Rattle.envelope.specs.Calls.{processOf}
 use Rattle.envelope.specs.declared.EnvelopeBlock.{EnvelopeBlock}
+use Rattle.envelope.specs.declared.Processed.{Processed}
 use Rattle.voice.specs.Voice.{noteOnOf, noteOffOf, heldNoteCountOf}
 use Rattle.voice.specs.declared.keys.ActiveNote.the-variants.{Note}
 use Rattle.voice.specs.declared.HeldNotes.{HeldNotes}
@@ -56,7 +58,7 @@ abbrev pub struck : EnvelopeBlock
 struck = envelope.noteOnOf (envelope.newOf quarter quarter half quarter) .block
 
 -- the block call at 16,384 Hz on the numbers xs
-abbrev pub called : List Float → Outcome
+abbrev pub called : List Float → Outcome Processed
 called xs = processOf struck 16384 xs
 
 -- the level of sample i

@@ -7,10 +7,10 @@ use lib.Dec.{T}
 use lib.ListN.{length}
 use lib.Ieee.{Float, binary64, ofBits, le, fits}
 use Rattle.runs.proofs.Listed.{listed-same}
-use Rattle.floats.specs.Range.{within}
-use Rattle.floats.specs.Double.{_⊗_, naught, one}
+use Rattle.floats.specs.Double.{_⊗_, one}
 use Rattle.floats.proofs.Literals.{lit1-is}
 use Rattle.floats.proofs.OneWay.{times-one}
+use Rattle.domain.specs.Domain.{highestTone, isDepth}
 use Rattle.answers.specs.declared.Answer.the-variants.{Done}
 use Rattle.waveform.specs.declared.Waveform.{Waveform}
 use Rattle.waveform.specs.Waveform.{invTau, normalOf, incrementOf}
@@ -19,7 +19,7 @@ use Rattle.waveform.proofs.Values.{value-fits}
 use Rattle.blocks.specs.Block.{isTone, runOf}
 use Rattle.blocks.specs.declared.Tone.{Tone}
 use Rattle.blocks.proofs.Sound.{Sound, run-sound}
-use Rattle.oscillator.specs.Oscillator.{highest, playedOf, valuesFrom, ranOf, processOf}
+use Rattle.oscillator.specs.Oscillator.{playedOf, valuesFrom, ranOf, processOf}
 use Rattle.oscillator.specs.declared.OscillatorBlock.{OscillatorBlock}
 
 -- x * 1
@@ -34,10 +34,10 @@ samples-are-values w step p k = listed-same _ _ k (λ i l. one-times (valueAt w 
 abbrev pub toneOf : OscillatorBlock → Tone
 toneOf b = record { frequency = playedOf b; depth = one; phase = b .phase; waveform = b .waveform }
 
-one-in : within naught one one ≡ true
+one-in : isDepth one ≡ true
 one-in = unfold ofBits in unfold le in refl
 
-pub run-is : (b : OscillatorBlock) (rate : ℕ) (xs : List Float) → runOf (toneOf b) highest rate xs ≡ ranOf b rate xs
+pub run-is : (b : OscillatorBlock) (rate : ℕ) (xs : List Float) → runOf (toneOf b) highestTone rate xs ≡ ranOf b rate xs
 unfolding runOf isTone ranOf
 run-is b rate xs = rw (one-in, samples-are-values (b .waveform) (incrementOf (playedOf b) rate) (b .phase .0) (length xs)) refl
 
@@ -45,4 +45,4 @@ run-is b rate xs = rw (one-in, samples-are-values (b .waveform) (incrementOf (pl
 pub process-sound : (b : OscillatorBlock) (rate : ℕ) (xs : List Float) → T (fits binary64 (b .phase .0)) → (n : ℕ) → processOf b rate xs .result .answer ≡ Done n →
     Sound (processOf b rate xs .lent) (processOf b rate xs .result .block .phase)
 process-sound b rate xs w n e =
-    rw (← run-is b rate xs) (run-sound (toneOf b) highest rate xs w (unfold ofBits in unfold le in tt) n (rw (run-is b rate xs) e))
+    rw (← run-is b rate xs) (run-sound (toneOf b) highestTone rate xs w (unfold ofBits in unfold le in tt) n (rw (run-is b rate xs) e))

@@ -3,27 +3,26 @@
 -- oscillator.rs decides the rest: a note's frequency, where it is set, goes before the block's own; the frequency that does not sound is not judged. A setting is judged by the call that
 -- uses it, which is `process`: the other calls refuse nothing. Definitions only.
 use mathlib.Core.Bool.{_&&_}
-use mathlib.Core.List.{List}
+use mathlib.Core.List.{List, _++_}
 use Prim.Native.Nat.{ℕ}
 use lib.ListN.{length}
-use lib.Ieee.{Float, binary64, ofBits}
+use lib.Ieee.{Float}
 use Rattle.runs.specs.Runs.{listed}
-use Rattle.floats.specs.Range.{within}
 use Rattle.floats.specs.Double.{naught}
+use Rattle.domain.specs.Domain.{highestTone, isFrequency, isRadians}
+use Rattle.answers.specs.declared.Refusal.the-variants.{Setting, Argument}
+use Rattle.answers.specs.Order.{unless}
+use Rattle.answers.specs.Outcome.{Outcome, leaves}
 use Rattle.waveform.specs.declared.Radians.{Radians}
 use Rattle.waveform.specs.declared.Waveform.{Waveform}
 use Rattle.waveform.specs.Waveform.{incrementOf, radians}
 use Rattle.waveform.specs.Filled.{phaseFrom, valueAt}
-use Rattle.blocks.specs.Block as blocks
-use Rattle.blocks.specs.Block.{isSetting, isStart, outcomeOf, phaseAfter}
+use Rattle.blocks.specs.declared.Ran.{Ran}
+use Rattle.blocks.specs.Block.{isSetting, outcomeOr, phaseAfter}
 use Rattle.oscillator.specs.declared.MidiFrequency.{MidiFrequency}
 use Rattle.oscillator.specs.declared.MidiFrequency.the-variants.{Unset, Set}
 use Rattle.oscillator.specs.declared.OscillatorBlock.{OscillatorBlock}
 use Rattle.oscillator.specs.declared.Processed.{Processed}
-
--- 20,000
-abbrev pub highest : Float
-highest = ofBits binary64 0x40d3_8800_0000_0000
 
 -- ---- the calls that refuse nothing
 abbrev pub newOf : Float → Waveform → OscillatorBlock
@@ -51,24 +50,16 @@ playedOf b = soundsAt (b .«midi_frequency») (b .frequency)
 unfoldable pub valuesFrom : Waveform → Float → Float → ℕ → List Float
 valuesFrom w step p k = listed (λ (i : ℕ). valueAt w step (phaseFrom step p i)) k
 
--- what it leaves: its result, and the lent numbers
-pub record Outcome : Type 0 where
-  pub result : Processed
-  pub lent : List Float
-
-abbrev pub leaves : Processed → List Float → Outcome
-leaves r xs = record { result = r; lent = xs }
-
 -- what a run leaves, handed on: the block has the phase after it
-abbrev pub handedOf : OscillatorBlock → blocks.Outcome → Outcome
+abbrev pub handedOf : OscillatorBlock → Outcome Ran → Outcome Processed
 handedOf b o = leaves (record { answer = o .result .answer; block = withPhase b (o .result .phase) }) (o .lent)
 
 -- every lent number is a value
-unfoldable pub ranOf : OscillatorBlock → ℕ → List Float → blocks.Outcome
+unfoldable pub ranOf : OscillatorBlock → ℕ → List Float → Outcome Ran
 ranOf b rate xs =
     let n = length xs in
     let step = incrementOf (playedOf b) rate in
-    outcomeOf (isSetting rate (b .waveform)) (within naught highest (playedOf b) && isStart (b .phase)) (b .phase) xs (phaseAfter step (b .phase) n) (valuesFrom (b .waveform) step (b .phase .0) n)
+    outcomeOr (unless (isSetting rate (b .waveform)) Setting ++ unless (isFrequency highestTone (playedOf b) && isRadians (b .phase .0)) Argument) (b .phase) xs (phaseAfter step (b .phase) n) (valuesFrom (b .waveform) step (b .phase .0) n)
 
-abbrev pub processOf : OscillatorBlock → ℕ → List Float → Outcome
+abbrev pub processOf : OscillatorBlock → ℕ → List Float → Outcome Processed
 processOf b rate xs = handedOf b (ranOf b rate xs)

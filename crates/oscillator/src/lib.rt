@@ -2,7 +2,8 @@
 // State goes in by value and is handed back. Left out, as 01 says: `Block`, parameter names and modulation, and with them the
 // pitch offset; noise and its seed; the simd path.
 ghost use mathlib.Core.Path.{_≡_};
-ghost use Rattle.oscillator.specs.Oscillator.{newOf, withMidi, withWaveform, withPhase, playedOf, leaves, processOf};
+ghost use Rattle.answers.specs.Outcome.{leaves};
+ghost use Rattle.oscillator.specs.Oscillator.{newOf, withMidi, withWaveform, withPhase, playedOf, processOf};
 ghost use Rattle.oscillator.specs.declared.MidiFrequency.the-variants.{Unset, Set};
 ghost use Rattle.waveform.specs.Waveform.{radians};
 ghost use Rattle.floats.specs.Double.{naught};
@@ -10,9 +11,6 @@ use answers::Answer;
 use blocks::Tone;
 use waveform::Radians;
 use waveform::Waveform;
-
-// The highest frequency that is accepted, in Hz.
-const HIGHEST: f64 = 20000.0;
 
 // The frequency of a note, in Hz, or none.
 pub enum MidiFrequency {
@@ -94,7 +92,7 @@ impl OscillatorBlock {
             phase,
             waveform,
         };
-        let ran = blocks::run(tone, HIGHEST, rate, out);
+        let ran = blocks::run(tone, domain::HIGHEST_TONE, rate, out);
         let answer = ran.answer;
         let phase = ran.phase;
         let mut block = self;

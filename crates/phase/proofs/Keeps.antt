@@ -2,7 +2,7 @@
 -- An accumulator is `Good` where it is accepted and its fields are values of an f32, which is what owning them tells. Assumes nothing.
 use mathlib.Core.Path.{_≡_, refl}
 use mathlib.Core.List.{List, [], _∷_}
-use mathlib.Core.Bool.{Bool, true, false, _&&_}
+use mathlib.Core.Bool.{_&&_}
 use lib.Dec.{T}
 use lib.Ieee.{Float, binary32, add, div, lt, le, fits, ofBits}
 use lib.Ieee.Fits.{and-i, and-l, and-r, add-fits, sub-fits, div-fits}
@@ -13,10 +13,15 @@ use Rattle.floats.specs.Floor.{floorOf}
 use Rattle.floats.proofs.Literals.{lit0-is, lit1-is}
 use Rattle.floats.proofs.Fraction.{fraction-in}
 use Rattle.floats.proofs.Largest.{add-finite-unit}
-use Rattle.phase.specs.Phase.{isState, wrapOf, withPhase, withIncrement, changedIf, steppedIf}
+use Rattle.answers.specs.declared.Refusal.the-variants.{Argument}
+use Rattle.answers.specs.Order.{unless}
+use Rattle.answers.proofs.First.{passed, first-keeps}
+use Rattle.phase.specs.Phase.{isState, wrapOf, withPhase, withIncrement}
 use Rattle.phase.specs.Phase.{newOf, setFrequencyOf, setIncrementOf, nextOf, setPhaseOf, resetOf}
 use Rattle.phase.specs.declared.Cycles.{Cycles}
 use Rattle.phase.specs.declared.PhaseAccumulator.{PhaseAccumulator}
+use Rattle.phase.specs.declared.Changed.{Changed}
+use Rattle.phase.specs.declared.Stepped.{Stepped}
 
 pub record Good (a : PhaseAccumulator) : Type 0 where
   pub phase-fits : T (fits binary32 (a .phase .0))
@@ -29,15 +34,6 @@ unit-is x = rw (lit0-is binary32, lit1-is binary32) refl
 
 pub wrap-in : (x : Float) → T (fits binary32 x) → T (finite x) → T (within (lit0 binary32) (lit1 binary32) (wrapOf x))
 wrap-in x w h = rw (unit-is (wrapOf x)) (fraction-in binary32 x w h)
-
--- ---- a refusal hands the state back, and what is done is good
-change-keeps : (ok : Bool) (before after : PhaseAccumulator) → Good before → (T ok → Good after) → Good (changedIf ok before after .accumulator)
-change-keeps true before after h k = k tt
-change-keeps false before after h k = h
-
-step-keeps : (ok : Bool) (x : Float) (before after : PhaseAccumulator) → Good before → (T ok → Good after) → Good (steppedIf ok x before after .accumulator)
-step-keeps true x before after h k = k tt
-step-keeps false x before after h k = h
 
 pub new-good : Good newOf
 new-good = record { phase-fits = ofBits-fits binary32 0; increment-fits = ofBits-fits binary32 0; accepted = unfold ofBits in unfold le in tt }
@@ -66,21 +62,21 @@ module _ (a : PhaseAccumulator) (g : Good a) where
   set-frequency-keeps f r =
       let q = div binary32 f r in
       let before = isState a && finite f && finite r && lt (lit0 binary32) r in
-      change-keeps (before && finite q) a (withIncrement a q) g (λ (t : T (before && finite q)). at-increment q (div-fits binary32 f r) (and-r before (finite q) t))
+      first-keeps (unless (before && finite q) Argument) _ _ (λ (s : Changed). Good (s .accumulator)) (λ why. g) (λ e. at-increment q (div-fits binary32 f r) (and-r before (finite q) (passed (before && finite q) Argument e)))
 
   pub set-increment-keeps : (x : Cycles) → T (fits binary32 (x .0)) → Good (setIncrementOf a x .accumulator)
-  set-increment-keeps x w = change-keeps (isState a && finite (x .0)) a (withIncrement a (x .0)) g (λ (t : T (isState a && finite (x .0))). at-increment (x .0) w (and-r (isState a) (finite (x .0)) t))
+  set-increment-keeps x w = first-keeps (unless (isState a && finite (x .0)) Argument) _ _ (λ (r : Changed). Good (r .accumulator)) (λ why. g) (λ e. at-increment (x .0) w (and-r (isState a) (finite (x .0)) (passed (isState a && finite (x .0)) Argument e)))
 
   pub next-keeps : Good (nextOf a .accumulator)
   next-keeps =
       let sum = add binary32 (a .phase .0) (a .increment .0) in
-      step-keeps (isState a) (a .phase .0) a (withPhase a (wrapOf sum)) g (λ (t : T (isState a)). at-wrap sum (add-fits binary32 (a .phase .0) (a .increment .0)) sum-finite)
+      first-keeps (unless (isState a) Argument) _ _ (λ (r : Stepped). Good (r .accumulator)) (λ why. g) (λ e. at-wrap sum (add-fits binary32 (a .phase .0) (a .increment .0)) sum-finite)
 
   pub set-phase-keeps : (x : Cycles) → T (fits binary32 (x .0)) → Good (setPhaseOf a x .accumulator)
-  set-phase-keeps x w = change-keeps (isState a && finite (x .0)) a (withPhase a (wrapOf (x .0))) g (λ (t : T (isState a && finite (x .0))). at-wrap (x .0) w (and-r (isState a) (finite (x .0)) t))
+  set-phase-keeps x w = first-keeps (unless (isState a && finite (x .0)) Argument) _ _ (λ (r : Changed). Good (r .accumulator)) (λ why. g) (λ e. at-wrap (x .0) w (and-r (isState a) (finite (x .0)) (passed (isState a && finite (x .0)) Argument e)))
 
   pub reset-keeps : Good (resetOf a .accumulator)
-  reset-keeps = change-keeps (isState a) a (withPhase a (lit0 binary32)) g (λ (t : T (isState a)). at-phase (lit0 binary32) (ofBits-fits binary32 0) (unfold ofBits in unfold le in tt))
+  reset-keeps = first-keeps (unless (isState a) Argument) _ _ (λ (r : Changed). Good (r .accumulator)) (λ why. g) (λ e. at-phase (lit0 binary32) (ofBits-fits binary32 0) (unfold ofBits in unfold le in tt))
 
 -- ---- any calls, one after the other
 pub data Call : Type 0 where

@@ -1,11 +1,11 @@
 -- The accumulator by example, on the definitions that the contracts cite; 01's mark (h) stands in `marks`. Assumes nothing.
 use mathlib.Core.Path.{_≡_, refl}
+use mathlib.Core.List.{[]}
 use lib.Ieee.{Float, binary32, add, sub, neg, lt, le, eq, ofBits, round}
 use Rattle.floats.specs.Floor.{floorOf}
 use Rattle.floats.specs.Range.{lit0, lit1}
-use Rattle.phase.specs.Phase.{cyclesOf, shownIf, newOf, setIncrementOf, nextOf, phaseOf, setPhaseOf}
+use Rattle.phase.specs.Phase.{cyclesOf, shownOr, newOf, setIncrementOf, nextOf, phaseOf, setPhaseOf}
 use Rattle.phase.specs.declared.PhaseAccumulator.{PhaseAccumulator}
-use mathlib.Core.Bool.{true}
 
 -- -2 ^ -30
 abbrev pub minusTiny : Float
@@ -15,15 +15,15 @@ abbrev pub setTo : Float → PhaseAccumulator
 setTo x = setPhaseOf newOf (cyclesOf x) .accumulator
 
 -- "floor(-0) is -0": so -0 wraps to +0
-pub minus-zero : phaseOf (setTo (ofBits binary32 0x8000_0000)) ≡ shownIf true (lit0 binary32)
+pub minus-zero : phaseOf (setTo (ofBits binary32 0x8000_0000)) ≡ shownOr [] (lit0 binary32)
 unfolding ofBits le lt eq add sub neg floorOf round
 minus-zero = refl
 
 -- both ends of 0 to 1 are reached, and by a step too: from 0 with the increment -2^-30 the phase is 1 after it
 pub record EndsReached : Type 0 where
-  pub low : phaseOf (setTo (lit1 binary32)) ≡ shownIf true (lit0 binary32)
-  pub high : phaseOf (setTo minusTiny) ≡ shownIf true (lit1 binary32)
-  pub high-by-step : phaseOf (nextOf (setIncrementOf newOf (cyclesOf minusTiny) .accumulator) .accumulator) ≡ shownIf true (lit1 binary32)
+  pub low : phaseOf (setTo (lit1 binary32)) ≡ shownOr [] (lit0 binary32)
+  pub high : phaseOf (setTo minusTiny) ≡ shownOr [] (lit1 binary32)
+  pub high-by-step : phaseOf (nextOf (setIncrementOf newOf (cyclesOf minusTiny) .accumulator) .accumulator) ≡ shownOr [] (lit1 binary32)
 
 pub ends-reached : EndsReached
 unfolding ofBits le lt eq add sub neg floorOf round

@@ -2,14 +2,12 @@
 // handed back; what the original asserts or leaves open is refused (document 01, number 9). The original's traits are left
 // out. The voice itself counts in radians and does not use it.
 ghost use mathlib.Core.Path.{_≡_};
-ghost use lib.Ieee.Scale.{finite};
-ghost use Rattle.phase.specs.Phase.{isState, wrapOf, withPhase, withIncrement, changedIf, shownIf, steppedIf};
+ghost use Rattle.answers.specs.Order.{unless};
+ghost use Rattle.answers.specs.declared.Refusal.the-variants.{Argument};
+ghost use Rattle.phase.specs.Phase.{isState, wrapOf, withPhase, withIncrement, changedOr, shownOr, steppedOr};
 ghost use Rattle.phase.specs.Phase.{newOf, setFrequencyOf, setIncrementOf, incrementOf, nextOf, phaseOf, setPhaseOf, resetOf};
 use answers::Answer;
 use answers::Refusal;
-
-// The largest finite f32.
-const LARGEST: f32 = 340282346638528859811704183484516925440.0;
 
 // A number of cycles: a phase in cycles is no phase in radians.
 pub struct Cycles(pub f32);
@@ -56,10 +54,10 @@ impl PhaseAccumulator {
     {
         let increment = frequency / sample_rate;
         let ok = is_state(self)
-            & is_finite(frequency)
-            & is_finite(sample_rate)
+            & floats::is_finite_f32(frequency)
+            & floats::is_finite_f32(sample_rate)
             & (0.0 < sample_rate)
-            & is_finite(increment);
+            & floats::is_finite_f32(increment);
         changed_if(ok, self, with_increment(self, increment))
     }
 
@@ -67,7 +65,7 @@ impl PhaseAccumulator {
     pub fn set_increment(self, increment: Cycles) -> Changed
         ensures { λ r. ⌜ r ≡ setIncrementOf self increment ⌝ }
     {
-        let ok = is_state(self) & is_finite(increment.0);
+        let ok = is_state(self) & floats::is_finite_f32(increment.0);
         changed_if(ok, self, with_increment(self, increment.0))
     }
 
@@ -95,7 +93,7 @@ impl PhaseAccumulator {
     pub fn set_phase(self, phase: Cycles) -> Changed
         ensures { λ r. ⌜ r ≡ setPhaseOf self phase ⌝ }
     {
-        let ok = is_state(self) & is_finite(phase.0);
+        let ok = is_state(self) & floats::is_finite_f32(phase.0);
         changed_if(ok, self, with_phase(self, wrap(phase.0)))
     }
 
@@ -112,13 +110,7 @@ fn is_state(a: PhaseAccumulator) -> bool
     ensures { λ r. ⌜ r ≡ isState a ⌝ }
 {
     let phase = a.phase.0;
-    (0.0 <= phase) & (phase <= 1.0) & is_finite(a.increment.0)
-}
-
-fn is_finite(x: f32) -> bool
-    ensures { λ r. ⌜ r ≡ finite x ⌝ }
-{
-    (-LARGEST <= x) & (x <= LARGEST)
+    (0.0 <= phase) & (phase <= 1.0) & floats::is_finite_f32(a.increment.0)
 }
 
 // x less its floor: of a finite x from 0 to 1, both ends reached.
@@ -150,7 +142,7 @@ fn with_increment(a: PhaseAccumulator, increment: f32) -> PhaseAccumulator
 
 // The state after, or a refusal with the state as it came.
 fn changed_if(ok: bool, before: PhaseAccumulator, after: PhaseAccumulator) -> Changed
-    ensures { λ r. ⌜ r ≡ changedIf ok before after ⌝ }
+    ensures { λ r. ⌜ r ≡ changedOr (unless ok Argument) before after ⌝ }
 {
     if ok {
         return Changed {
@@ -166,7 +158,7 @@ fn changed_if(ok: bool, before: PhaseAccumulator, after: PhaseAccumulator) -> Ch
 
 // The number, or a refusal with +0.
 fn shown_if(ok: bool, cycles: f32) -> Shown
-    ensures { λ r. ⌜ r ≡ shownIf ok cycles ⌝ }
+    ensures { λ r. ⌜ r ≡ shownOr (unless ok Argument) cycles ⌝ }
 {
     if ok {
         return Shown {
@@ -182,7 +174,7 @@ fn shown_if(ok: bool, cycles: f32) -> Shown
 
 // The number and the state after, or a refusal with +0 and the state as it came.
 fn stepped_if(ok: bool, cycles: f32, came: PhaseAccumulator, moved: PhaseAccumulator) -> Stepped
-    ensures { λ r. ⌜ r ≡ steppedIf ok cycles came moved ⌝ }
+    ensures { λ r. ⌜ r ≡ steppedOr (unless ok Argument) cycles came moved ⌝ }
 {
     if ok {
         return Stepped {

@@ -18,7 +18,8 @@ use Rattle.floats.proofs.Literals.{lit0-is}
 use Rattle.floats.proofs.Bounded.{Size, size-of-range, size-finite}
 use Rattle.pitch.specs.Patterns.{patterns}
 use Rattle.pitch.specs.Pitch.{frequencyOf}
-use Rattle.pitch.specs.Tuning.{InTune, tempered, highest}
+use Rattle.domain.specs.Domain.{highestPitch, isPitch}
+use Rattle.pitch.specs.Tuning.{InTune, tempered}
 use Rattle.floats.proofs.Carried.{every, at}
 
 -- ---- the test at note k, whose pattern is b and whose pitch is x
@@ -32,7 +33,7 @@ abbrev below : ℕ → Float → Bool
 below k x = ltb ((999999 * num x) ^ 12 * 2 ^ 69) (tempered k * (1000000 * den x) ^ 12)
 
 abbrev pub ranged : Float → Bool
-ranged x = lt naught x && le x highest
+ranged x = isPitch binary64 x
 
 abbrev right : ℕ → ℕ → Bool
 right k b =
@@ -50,7 +51,7 @@ unfolding patterns
 count = refl
 
 -- 12,544 is finite
-highest-finite : T (finite highest)
+highest-finite : T (finite (highestPitch binary64))
 unfolding ofBits
 highest-finite = tt
 
@@ -88,20 +89,20 @@ module _ (note : ℕ) (h : note < 128) where
       }
 
   -- above 0 and at most 12,544: as an f32 and as an f64
-  pub frequency-in : T (lt naught (frequencyOf note) && le (frequencyOf note) highest)
+  pub frequency-in : T (isPitch binary64 (frequencyOf note))
   unfolding frequencyOf
   frequency-in = and-r (above note x && below note x) (ranged x) rest
 
   -- so it is finite, and has a size
-  pub frequency-sized : Size highest (frequencyOf note)
+  pub frequency-sized : Size (highestPitch binary64) (frequencyOf note)
   frequency-sized =
-      size-of-range highest (frequencyOf note) highest-finite
-      (and-i (le nought (frequencyOf note)) (le (frequencyOf note) highest)
-      (rw lit0-is at (lt-le naught (frequencyOf note) (and-l (lt naught (frequencyOf note)) (le (frequencyOf note) highest) frequency-in)))
-      (and-r (lt naught (frequencyOf note)) (le (frequencyOf note) highest) frequency-in))
+      size-of-range (highestPitch binary64) (frequencyOf note) highest-finite
+      (and-i (le nought (frequencyOf note)) (le (frequencyOf note) (highestPitch binary64))
+      (rw lit0-is at (lt-le naught (frequencyOf note) (and-l (lt naught (frequencyOf note)) (le (frequencyOf note) (highestPitch binary64)) frequency-in)))
+      (and-r (lt naught (frequencyOf note)) (le (frequencyOf note) (highestPitch binary64)) frequency-in))
 
   pub frequency-finite : T (finite (frequencyOf note))
-  frequency-finite = size-finite highest (frequencyOf note) frequency-sized
+  frequency-finite = size-finite (highestPitch binary64) (frequencyOf note) frequency-sized
 
 -- each note lies above the one before it
 pub frequency-rises : (note : ℕ) → note < 127 → T (lt (frequencyOf note) (frequencyOf (suc note)))
@@ -139,7 +140,7 @@ pub frequency-no-nan : (note : ℕ) → T (not (isNan (frequencyOf note)))
 frequency-no-nan note = go (ltb note 128) refl
   where
     go : (t : Bool) → ltb note 128 ≡ t → T (not (isNan (frequencyOf note)))
-    go true e = above-no-nan (frequencyOf note) (and-l (lt naught (frequencyOf note)) (le (frequencyOf note) highest) (frequency-in note (ltb-true note 128 e)))
+    go true e = above-no-nan (frequencyOf note) (and-l (lt naught (frequencyOf note)) (le (frequencyOf note) (highestPitch binary64)) (frequency-in note (ltb-true note 128 e)))
     go false e = rw (frequency-past note (ltb-false note 128 e)) naught-no-nan
 
 -- so the cast to an f64 loses nothing

@@ -1,7 +1,7 @@
 -- How near a pitch lies to equal temperament. 01: "each entry times 1.000001 lies above the equal-tempered pitch and times 0.999999 below it, compared at twelfth powers
 -- (440^12 * 2^(note - 69)) over whole numbers". x is num x / den x; both sides are multiplied by 2^69, by 1000000^12 and by den x ^ 12. Definitions only.
 use Prim.Native.Nat.{ℕ, _*_, _^_, _<_}
-use lib.Ieee.{Float, binary64, ofBits}
+use lib.Ieee.{Float}
 use lib.Ieee.Positive.{num, den}
 
 -- the twelfth power of the equal-tempered pitch, times 2^69
@@ -11,7 +11,3 @@ tempered note = 440 ^ 12 * 2 ^ note
 pub record InTune (note : ℕ) (x : Float) : Type 0 where
   pub above : tempered note * (1000000 * den x) ^ 12 < (1000001 * num x) ^ 12 * 2 ^ 69
   pub below : (999999 * num x) ^ 12 * 2 ^ 69 < tempered note * (1000000 * den x) ^ 12
-
--- 12,544: what a state's frequency is at most
-abbrev pub highest : Float
-highest = ofBits binary64 0x40c8_8000_0000_0000

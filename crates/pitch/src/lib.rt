@@ -1,7 +1,9 @@
 // The pitch of a note, in Hz: `midi_note_to_frequency` of the original's voice.rs, as a table of its answers
 // (specs/Patterns.antt). Left out: any other tuning, and `powf`.
 ghost use mathlib.Core.Path.{_≡_};
-ghost use Rattle.pitch.specs.Pitch.{frequencyOf, isNote, frequencyIf, midiNoteToFrequencyOf, midiNoteToFrequencyF64Of};
+ghost use Rattle.answers.specs.Order.{unless};
+ghost use Rattle.answers.specs.declared.Refusal.the-variants.{Argument};
+ghost use Rattle.pitch.specs.Pitch.{frequencyOf, isNote, frequencyOr, midiNoteToFrequencyOf, midiNoteToFrequencyF64Of};
 use answers::Answer;
 use answers::Refusal;
 use answers::Value;
@@ -53,7 +55,7 @@ fn is_note(note: u8) -> bool
 
 // The frequency, or a refusal with +0.
 fn frequency_if(ok: bool, value: f32) -> Frequency
-    ensures { λ r. ⌜ r ≡ frequencyIf ok value ⌝ }
+    ensures { λ r. ⌜ r ≡ frequencyOr (unless ok Argument) value ⌝ }
 {
     if ok {
         return Frequency {

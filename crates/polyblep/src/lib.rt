@@ -3,7 +3,7 @@
 // waveform's inner loop uses. Left out: the simd lanes.
 ghost use mathlib.Core.Path.{_≡_};
 ghost use Rattle.polyblep.specs.Polyblep.{sideOf, blepOf, blampOf, fractOf, stepOf, rampOf, sawOf, squareOf, pulseOf, triangleOf};
-ghost use Rattle.polyblep.specs.Calls.{isPhase, isDuty, polyBlepOf, polyBlampOf, polyblepSawOf, polyblepSquareOf, polyblepPulseOf, polyblampTriangleOf};
+ghost use Rattle.polyblep.specs.Calls.{polyBlepOf, polyBlampOf, polyblepSawOf, polyblepSquareOf, polyblepPulseOf, polyblampTriangleOf};
 use answers::Refusal;
 use answers::Value;
 
@@ -21,33 +21,41 @@ pub enum Side {
 pub fn poly_blep(t: f64, dt: f64) -> Value
     ensures { λ r. ⌜ r ≡ polyBlepOf t dt ⌝ }
 {
-    answers::value_if(is_phase(t, dt), Refusal::Argument, blep(t, dt))
+    answers::value_if(domain::is_phase(t, dt), Refusal::Argument, blep(t, dt))
 }
 
 // The correction at a corner.
 pub fn poly_blamp(t: f64, dt: f64) -> Value
     ensures { λ r. ⌜ r ≡ polyBlampOf t dt ⌝ }
 {
-    answers::value_if(is_phase(t, dt), Refusal::Argument, blamp(t, dt))
+    answers::value_if(domain::is_phase(t, dt), Refusal::Argument, blamp(t, dt))
 }
 
 pub fn polyblep_saw(phase: f64, dt: f64) -> Value
     ensures { λ r. ⌜ r ≡ polyblepSawOf phase dt ⌝ }
 {
-    answers::value_if(is_phase(phase, dt), Refusal::Argument, saw(phase, dt))
+    answers::value_if(
+        domain::is_phase(phase, dt),
+        Refusal::Argument,
+        saw(phase, dt),
+    )
 }
 
 pub fn polyblep_square(phase: f64, dt: f64) -> Value
     ensures { λ r. ⌜ r ≡ polyblepSquareOf phase dt ⌝ }
 {
-    answers::value_if(is_phase(phase, dt), Refusal::Argument, square(phase, dt))
+    answers::value_if(
+        domain::is_phase(phase, dt),
+        Refusal::Argument,
+        square(phase, dt),
+    )
 }
 
 pub fn polyblep_pulse(phase: f64, dt: f64, duty: f64) -> Value
     ensures { λ r. ⌜ r ≡ polyblepPulseOf phase dt duty ⌝ }
 {
     answers::value_if(
-        is_phase(phase, dt) & is_duty(duty),
+        domain::is_phase(phase, dt) & domain::is_duty(duty),
         Refusal::Argument,
         pulse(phase, dt, duty),
     )
@@ -56,20 +64,11 @@ pub fn polyblep_pulse(phase: f64, dt: f64, duty: f64) -> Value
 pub fn polyblamp_triangle(phase: f64, dt: f64) -> Value
     ensures { λ r. ⌜ r ≡ polyblampTriangleOf phase dt ⌝ }
 {
-    answers::value_if(is_phase(phase, dt), Refusal::Argument, triangle(phase, dt))
-}
-
-// A phase from 0 to 1 and a step of the phase from 0 to 4.
-pub fn is_phase(t: f64, dt: f64) -> bool
-    ensures { λ r. ⌜ r ≡ isPhase t dt ⌝ }
-{
-    ((0.0 <= t) & (t <= 1.0)) & ((0.0 <= dt) & (dt <= 4.0))
-}
-
-pub fn is_duty(duty: f64) -> bool
-    ensures { λ r. ⌜ r ≡ isDuty duty ⌝ }
-{
-    (0.0 <= duty) & (duty <= 1.0)
+    answers::value_if(
+        domain::is_phase(phase, dt),
+        Refusal::Argument,
+        triangle(phase, dt),
+    )
 }
 
 pub fn blep(t: f64, dt: f64) -> f64

@@ -9,6 +9,7 @@ use native.Mathlib.Omega.{arith}
 use borrow.Author.Tests.{eqb-true, eqb-false}
 use lib.Dec.{T, eqb, leb, leb→le, le→leb, eqb→eq}
 use lib.ListN.{length}
+use lib.Ieee.{binary64}
 use lib.Ieee.Fits.{and-i, and-l, and-r}
 use lib.Ieee.Bits.{is-true, is-false}
 use Rattle.floats.specs.Range.{within}
@@ -18,7 +19,8 @@ use Rattle.envelope.proofs.Inside.{is-inside, accepted}
 use Rattle.voice.specs.declared.keys.ActiveNote.the-variants.{Silent, Note}
 use Rattle.voice.specs.Keys.{isFilled, isSound, isKeys}
 use Rattle.voice.proofs.Limits.{keys-sound, keys-few}
-use Rattle.state.specs.Limits.{isRadians, isPitch, isState}
+use Rattle.domain.specs.Domain.{isRadians, isPitch}
+use Rattle.state.specs.Limits.{isState}
 use Rattle.state.proofs.Limits.{from-true, in-kept, kept-in, state-in, in-state}
 use Rattle.shelf.specs.Shelf.{entryWords, word, float, activeOf, notesOf, velocitiesOf, keysIn, stateOf, isEntry}
 use Rattle.shelf.proofs.Digits.{beyond}
@@ -40,7 +42,7 @@ pub record Sentence (ws : List ℕ) : Type 0 where
   pub release-in : T (within naught one (float ws 4))
   pub sounding : Sounding (word ws 5 % 256) (word ws 5 / 256 % 2)
   pub held-in : word ws 5 / 512 % 128 ≤ 16
-  pub frequency-in : T (isPitch (float ws 6))
+  pub frequency-in : T (isPitch binary64 (float ws 6))
   pub velocity-in : T (within naught one (float ws 7))
   pub notes-in : T (isFilled (word ws 5 / 512 % 128) (notesOf (word ws 8) (word ws 9) (word ws 10) (word ws 11)))
   pub velocities-in : T (isFilled (word ws 5 / 512 % 128) (velocitiesOf (word ws 8) (word ws 9) (word ws 10) (word ws 11)))

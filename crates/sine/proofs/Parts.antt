@@ -1,27 +1,27 @@
 -- The whole part of a number from 0 to 4096: what it is by the bits, and that what is left lies from 0 to 1. Assumes nothing.
 use mathlib.Core.Path.{_≡_, refl, sym, _∙_, subst}
 use mathlib.Core.Bool.{Bool, true, false, not, true≢false}
-use Prim.Native.Nat.{ℕ, zero, suc, _+_, _-_, _*_, _/_, _%_, _^_, _≤_, _<_}
+use Prim.Native.Nat.{ℕ, suc, _+_, _-_, _*_, _/_, _%_, _^_, _≤_, _<_}
 use native.Mathlib.Nat as nat
 use native.Mathlib.Omega.{arith}
 use lib.IntN.{pos}
-use lib.Dec.{T, lit<}
-use lib.Pow.{pow-pos, pow-mono}
-use lib.Ieee.{Float, nan, inf, fin, binary64, emax, low, hid, top, ofBits, ofInt, round, sub, lt, le, fits, isNan, toBits}
+use lib.Dec.{T, lit≤, lit<}
+use lib.Pow.{pow-pos}
+use lib.Ieee.{Float, nan, inf, fin, binary64, emax, low, hid, ofBits, ofInt, round, sub, lt, le, fits, isNan, toBits}
 use lib.Ieee.Fits.{and-i, and-r}
 use lib.Ieee.Back.{round-whole}
 use lib.Ieee.Exact.{HasValue}
-use lib.Ieee.Positive.{num, den, den-pos, value→cross}
-use borrow.Author.Tests.{leb-false}
+use lib.Ieee.Positive.{num, den, den-pos, positive}
 use Rattle.floats.specs.Range.{nought, unity, nonneg, within}
 use Rattle.floats.specs.Double.{naught, one}
-use Rattle.floats.proofs.Order.{le→cross, cross→le, lt-not-le, not-lt-le, nonneg→finite, signed-zero, ge0→le}
+use Rattle.floats.proofs.Order.{le→cross, cross→le, lt-not-le, not-lt-le, nonneg→finite, ge0→le}
 use Rattle.floats.proofs.Rounds.{Rounds, mono, sub-rounds, one-rounds}
-use Rattle.floats.proofs.Ranges.{within-nonneg}
+use Rattle.floats.proofs.Ranges.{within-nonneg, ge0-positive}
 use Rattle.floats.proofs.Operations.{dens-pos}
 use Rattle.floats.proofs.Literals.{lit0-is, lit1-is}
 use Rattle.floats.proofs.Roof.{whole-same}
-use Rattle.floats.proofs.Pattern.{fieldsOf, unitsOf, negative, value, below-one, scaled}
+use Rattle.floats.proofs.Pattern.{fieldsOf, scaled}
+use Rattle.floats.proofs.Fields as fields
 use Rattle.sine.specs.Sine.{steps, wholePart, float}
 
 -- ---- what is left
@@ -56,19 +56,6 @@ part-in p h few = go (of-whole y n (round-whole binary64 false n few))
         sub-rounds binary64 p y h (k .0) (cross→le y p (k .0) h (rw (k .1) (under (num p) (den p) n (den y) (nat.div-mul-le-self (num p) (den p))))) in
         and-i (le nought (sub binary64 p y)) (le (sub binary64 p y) unity) (ge0→le (sub binary64 p y) (r .sign))
         (mono binary64 _ _ _ _ _ _ r (one-rounds binary64) (dens-pos p y) (lit< tt) (rw (k .1) (small (num p) (den p) n (den y) (nat.lt-div-mul-add (den-pos p)))))
-
--- ---- by the bits
--- the sign of a number above 0
-no-sign : (p : Float) (s : Bool) (a c : ℕ) → T (nonneg p) → 0 < num p → HasValue p s a c → s ≡ false
-no-sign nan s a c n k h = absurd h
-no-sign (inf t) s a c n k h = absurd h
-no-sign (fin true m e) s a c n k h = absurd (nat.lt-irrefl 0 (subst (λ (z : ℕ). 0 < z) (signed-zero (fin true m e) n tt) k))
-no-sign (fin false m e) s a c n k h = sym (h .0)
-
--- a field above low stands for 2^52 and more
-field-large : (e t : ℕ) → suc (low binary64) ≤ e → hid binary64 * 2 ^ low binary64 ≤ fieldsOf binary64 e t
-field-large zero t h = absurd (nat.not-suc-le-zero h)
-field-large (suc x) t h = nat.mul-le-mul (nat.le-add-right (hid binary64) t) (pow-mono (nat.le-of-suc-le-suc h))
 
 -- ---- a number from 0 to 4096
 module _ (p : Float) (h : T (within naught steps p)) where
@@ -106,64 +93,38 @@ module _ (p : Float) (h : T (within naught steps p)) where
 
   -- ---- from 1 on
   module _ (w : T (fits binary64 p)) (t : lt p one ≡ false) where
-    abbrev bits : ℕ
-    bits = toBits binary64 p
+    -- 1 ≤ p, as numbers and as fractions
+    from-one : T (le unity p)
+    from-one = not-lt-le p unity (nonneg→finite p not-negative) tt (subst (λ (b : Bool). T (not b)) (sym (rw lit1-is at t)) tt)
 
-    -- 1 ≤ p, as a fraction
-    at-least : den p ≤ num p
-    at-least =
-        nat.le-trans (nat.le-of-eq (sym (nat.one-mul (den p)))) (nat.le-trans (le→cross unity p tt not-negative (not-lt-le p unity (nonneg→finite p not-negative) tt (subst (λ (b : Bool). T (not b)) (sym (rw lit1-is at t)) tt))) (nat.le-of-eq (nat.mul-one (num p))))
+    at-least : 1 * den p ≤ num p
+    at-least = nat.le-trans (le→cross unity p tt not-negative from-one) (nat.le-of-eq (nat.mul-one (num p)))
 
-    -- the number that the bits stand for
-    found : HasValue p (negative binary64 bits) (unitsOf binary64 (bits % top binary64)) (2 ^ low binary64)
-    found = value binary64 p w (nonneg→finite p not-negative)
-
-    -- the sign is clear
-    clear : negative binary64 bits ≡ false
-    clear = no-sign p _ _ _ not-negative (nat.lt-of-lt-of-le (den-pos p) at-least) found
-
-    -- so the bits are those of the size
-    plain : bits % top binary64 ≡ bits
-    plain = nat.mod-eq-of-lt (leb-false (top binary64) bits clear)
+    above : T (positive p)
+    above = ge0-positive unity p tt from-one (nonneg→finite p not-negative)
 
     abbrev field : ℕ
-    field = bits / hid binary64
+    field = toBits binary64 p / hid binary64
 
     abbrev digits : ℕ
-    digits = bits % hid binary64
-
-    abbrev units : ℕ
-    units = fieldsOf binary64 field digits
-
-    -- p in units of the smallest value
-    crossed : num p * 2 ^ low binary64 ≡ units * den p
-    crossed = value→cross p units (2 ^ low binary64) (rw (plain, clear) at found)
+    digits = toBits binary64 p % hid binary64
 
     -- the exponent's field is that of 1 or more, and the digits reach below 1
     pub field-ge : emax binary64 ≤ field
-    field-ge =
-        nat.le-of-suc-le-suc (nat.lt-of-not-le (λ (l : suc field ≤ emax binary64).
-        nat.not-le-of-lt (below-one binary64 field digits l (nat.mod-lt bits (pow-pos 52))) (units-ge (num p) (den p) units (2 ^ low binary64) (den-pos p) at-least crossed)))
-      where
-        units-ge : (a c u l : ℕ) → 0 < c → c ≤ a → a * l ≡ u * c → l ≤ u
-        units-ge a c u l C k e = nat.le-of-mul-le-mul-right {m = l} {n = u} (omega (arith, nat.mul-le-mul-right l k)) C
+    field-ge = fields.field-ge binary64 p w above 0 at-least
 
     pub field-le : field ≤ low binary64
-    field-le =
-        nat.le-of-suc-le-suc (nat.lt-of-not-le (λ (l : suc (low binary64) ≤ field).
-        nat.not-le-of-lt (units-lt (num p) (den p) units (2 ^ low binary64) (den-pos p) (pow-pos (low binary64)) at-most crossed) (field-large field digits l)))
+    field-le = nat.le-trans (nat.le-of-lt (fields.field-lt binary64 p w above 13 (room (num p) (den p) (den-pos p) at-most))) (lit≤ tt)
       where
-        units-lt : (a c u l : ℕ) → 0 < c → 0 < l → a ≤ 4096 * c → a * l ≡ u * c → u < hid binary64 * l
-        units-lt a c u l C L k e =
-            let v : u ≤ 4096 * l = nat.le-of-mul-le-mul-right {m = u} {n = 4096 * l} (omega (arith, nat.mul-le-mul-right l k)) C in
-            omega arith
+        room : (a c : ℕ) → 0 < c → a ≤ 4096 * c → a < 8192 * c
+        room a c C l = omega arith
 
     -- so the whole part is what is left of the digits, shifted down
     pub whole-is : (hid binary64 + digits) / 2 ^ (suc (low binary64) - field) ≡ wholePart p
     whole-is =
         sym
-        (whole-same false (num p) (den p) units (2 ^ low binary64) (den-pos p) (pow-pos (low binary64)) crossed
-        ∙ whole-same false units (2 ^ low binary64) (hid binary64 + digits) (2 ^ (suc (low binary64) - field)) (pow-pos (low binary64)) (pow-pos (suc (low binary64) - field))
+        (whole-same false (num p) (den p) (fieldsOf binary64 field digits) (2 ^ low binary64) (den-pos p) (pow-pos (low binary64)) (fields.crossed binary64 p w above)
+        ∙ whole-same false (fieldsOf binary64 field digits) (2 ^ low binary64) (hid binary64 + digits) (2 ^ (suc (low binary64) - field)) (pow-pos (low binary64)) (pow-pos (suc (low binary64) - field))
         (scaled binary64 field digits (nat.lt-of-lt-of-le (lit< tt) field-ge) field-le))
 
     pub bits-at-most : (hid binary64 + digits) / 2 ^ (suc (low binary64) - field) ≤ 4096

@@ -14,7 +14,8 @@ use Rattle.floats.specs.Range.{within}
 use Rattle.floats.specs.Double.{_⊕_, _⊖_, _⊗_, _⊘_, naught, one}
 use Rattle.answers.specs.declared.Refusal.the-variants.{Argument}
 use Rattle.answers.specs.declared.Value.{Value}
-use Rattle.answers.specs.Value.{valueIf}
+use Rattle.answers.specs.Order.{unless}
+use Rattle.answers.specs.Value.{valueOr}
 use Rattle.sine.specs.Table.{quarter}
 
 -- 4096, and A = 2^30
@@ -68,4 +69,4 @@ abbrev pub readingOf : Float → Float
 readingOf u = readingIn quarter u
 
 abbrev pub sineOf : Float → Value
-sineOf u = valueIf (within naught one u) Argument (readingOf u)
+sineOf u = valueOr (unless (within naught one u) Argument) (readingOf u)

@@ -5,7 +5,7 @@ ghost use Prim.Native.Nat.{_≤_, _<_};
 ghost use lib.Dec.{T};
 ghost use lib.ListN.{getD};
 ghost use Rattle.floats.specs.Range.{within};
-ghost use Rattle.floats.specs.Double.{naught, one};
+ghost use Rattle.floats.specs.Double.{naught};
 ghost use Rattle.sine.specs.Table.{quarter};
 ghost use Rattle.sine.specs.Sine.{steps, wholePart, float, signedOf, lineOf, betweenOf, pointOf, readingIn, readingOf, sineOf};
 ghost use Rattle.sine.specs.Whole.{wholeWave, Unfolded, wholePointOf, wholeReading};
@@ -18,7 +18,11 @@ mod table;
 pub fn sine(u: f64) -> Value
     ensures { λ r. ⌜ r ≡ sineOf u ⌝ }
 {
-    answers::value_if(in_domain(u), Refusal::Argument, reading(u))
+    answers::value_if(
+        floats::is_within(0.0, 1.0, u),
+        Refusal::Argument,
+        reading(u),
+    )
 }
 
 // The sine of u cycles, for a u that is known to be from 0 to 1; +0 for any other. Each call makes the table anew, so a
@@ -41,16 +45,10 @@ pub fn quarter_wave() -> [u32; 1025]
 pub fn reading_in(wave: &[u32; 1025], u: f64) -> f64
     ensures { λ r. ⌜ r ≡ readingIn (now (wave .entry)) u ⌝ }
 {
-    if in_domain(u) {
+    if floats::is_within(0.0, 1.0, u) {
         return point(wave, u * 4096.0);
     }
     0.0
-}
-
-fn in_domain(u: f64) -> bool
-    ensures { λ r. ⌜ r ≡ within naught one u ⌝ }
-{
-    (0.0 <= u) & (u <= 1.0)
 }
 
 // At p points from the start of the wave, which has 4,096.
@@ -178,7 +176,7 @@ fn negate(wave: &mut [f64; 4097])
 pub fn whole_reading(wave: &[f64; 4097], u: f64) -> f64
     ensures { λ r. ⌜ r ≡ wholeReading (now (wave .entry)) u ⌝ }
 {
-    if in_domain(u) {
+    if floats::is_within(0.0, 1.0, u) {
         return whole_point(wave, u * 4096.0);
     }
     0.0

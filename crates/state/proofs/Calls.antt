@@ -3,63 +3,61 @@
 -- both calls are done; and a fresh state has what a new voice and a new block have. Assumes nothing.
 use mathlib.Core.Path.{_≡_, refl, sym, ap, _∙_}
 use mathlib.Core.Bool.{Bool, true, false, cond, _&&_}
+use mathlib.Core.List.{List}
 use Prim.Native.Nat.{ℕ}
-use native.Mathlib.Omega.{arith}
 use lib.Ieee.{Float, binary32, binary64, ofBits}
 use lib.Ieee.Fits.{and-i}
 use borrow.Author.Tests.{le-leb}
 use Rattle.floats.specs.Range.{lit0, lit1}
 use Rattle.floats.specs.Double.{naught, one}
 use Rattle.floats.proofs.Literals.{lit0-is, lit1-is}
+use Rattle.domain.specs.Domain.{highestPitch, isPitch}
 use Rattle.answers.specs.declared.Answer.the-variants.{Done}
+use Rattle.answers.specs.declared.Refusal.{Refusal}
+use Rattle.answers.specs.declared.Refusal.the-variants.{Argument}
+use Rattle.answers.specs.Order.{unless}
+use Rattle.answers.proofs.First.{none-refused}
 use Rattle.voice.specs.Keys.{pressedOf, liftedOf, isKeys}
-use Rattle.voice.specs.Voice.{isLoud, isPitched, isVoice, isMidi, isReleased, changedIf, offIf, struck, heardOf}
+use Rattle.voice.specs.Voice.{isLoud, isVoice, isMidi, isReleased, changedOr, offOr, struck, heardOf}
 use Rattle.voice.specs.Voice as voice
 use Rattle.voice.specs.declared.VoiceState.{VoiceState}
+use Rattle.voice.specs.declared.Changed.{Changed}
+use Rattle.voice.specs.declared.Off.{Off}
 use Rattle.voice.specs.declared.keys.Keys.{Keys}
 use Rattle.voice.specs.declared.keys.NoteOff.{NoteOff}
 use Rattle.voice.specs.declared.keys.NoteOff.the-variants.{Released, FellBack, NoChange}
 use Rattle.envelope.specs.Limits.{isEnvelope}
 use Rattle.envelope.specs.Stages as stages
 use Rattle.envelope.specs.Stages.{triggeredOf, releasedOf}
-use Rattle.envelope.specs.Calls.{judgedOf, handedOf, changedOf}
+use Rattle.envelope.specs.Calls.{changedOf}
 use Rattle.envelope.specs.Calls as envelope
 use Rattle.envelope.specs.declared.Envelope.{Envelope}
 use Rattle.envelope.specs.declared.EnvelopeBlock.{EnvelopeBlock}
+use Rattle.envelope.specs.declared.Processed.{Processed}
 use Rattle.state.specs.declared.Settings.{Settings}
 use Rattle.state.specs.declared.State.{State}
 use Rattle.state.specs.declared.Event.{Event}
 use Rattle.state.specs.declared.Event.the-variants as event
 use Rattle.state.specs.State.{concert, freshOf, liftedBy, actOf}
-use Rattle.state.specs.Limits.{highest}
 use Rattle.state.specs.Calls.{Alike, voiceCall, envelopeCall, phaseThen}
 use Rattle.state.proofs.Limits.{is-true, Kept, EventIn}
 
-clash : _≡_ {A = ℕ} 0 1 → ⊥
-clash e = omega arith
-
 -- ---- a call that is done leaves what it is to leave
-voice-left : (ok : Bool) (before after : VoiceState) → changedIf ok before after .answer ≡ Done 0 → changedIf ok before after .voice ≡ after
-voice-left true before after d = refl
-voice-left false before after d = absurd (clash (cc))
+voice-left : (refusals : List Refusal) (before after : VoiceState) → changedOr refusals before after .answer ≡ Done 0 → changedOr refusals before after .voice ≡ after
+voice-left refusals before after d = rw (none-refused refusals _ _ (λ (r : Changed). r .answer) 0 (λ why. refl) d) refl
 
-off-left : (ok r : Bool) (before after : VoiceState) → offIf ok r before after .answer ≡ Done 0 → (offIf ok r before after .voice ≡ after) × (offIf ok r before after .released ≡ r)
-off-left true r before after d = (refl, refl)
-off-left false r before after d = absurd (clash (cc))
+off-left : (refusals : List Refusal) (r : Bool) (before after : VoiceState) → offOr refusals r before after .answer ≡ Done 0 → (offOr refusals r before after .voice ≡ after) × (offOr refusals r before after .released ≡ r)
+off-left refusals r before after d = rw (none-refused refusals _ _ (λ (r : Off). r .answer) 0 (λ why. refl) d) (refl, refl)
 
 block-left : (b : EnvelopeBlock) (e : Envelope) → changedOf b e .answer ≡ Done 0 → changedOf b e .block .envelope ≡ e
-block-left b e = go (isEnvelope (b .envelope))
-  where
-    go : (ok : Bool) → handedOf (judgedOf true ok 0) b e .answer ≡ Done 0 → handedOf (judgedOf true ok 0) b e .block .envelope ≡ e
-    go true d = refl
-    go false d = absurd (clash (cc))
+block-left b e d = rw (none-refused (unless (isEnvelope (b .envelope)) Argument) _ _ (λ (r : Processed). r .answer) 0 (λ why. refl) d) refl
 
 -- ---- the numbers of either width
 same-pitch : concert ≡ voice.concert
 unfolding ofBits
 same-pitch = refl
 
-same-top : highest ≡ voice.highest
+same-top : highestPitch binary64 ≡ highestPitch binary32
 unfolding ofBits
 same-top = refl
 
@@ -91,7 +89,7 @@ module _ (g : Settings) (v : State) (w : VoiceState) (b : EnvelopeBlock) (a : Al
       → Alike (actOf g v (event.Lift note)) (voiceCall w (event.Lift note) .voice) (envelopeCall w b (event.Lift note) .block)
   lift-alike note d f =
       let l = liftedOf (w .keys) note in
-      let o = off-left (isVoice w && isMidi note) (isReleased (l .off)) w (heardOf w (l .keys) (l .off)) d in
+      let o = off-left (unless (isVoice w && isMidi note) Argument) (isReleased (l .off)) w (heardOf w (l .keys) (l .off)) d in
       rw (lift-is note, o .0) (left-alike (l .keys) (l .off) (envelopeCall w b (event.Lift note) .block) (off-block (voice.noteOffOf w note .released) f ∙ rw (o .1) refl))
 
   -- where both calls are done, they leave what the event does
@@ -99,7 +97,7 @@ module _ (g : Settings) (v : State) (w : VoiceState) (b : EnvelopeBlock) (a : Al
   unfolding actOf
   calls-act (event.Strike note velocity) d f =
       let after = struck (pressedOf (w .keys) note velocity) note velocity in
-      let left = voice-left (isVoice w && isMidi note && isMidi velocity) w after d in
+      let left = voice-left (unless (isVoice w && isMidi note && isMidi velocity) Argument) w after d in
       record {
         keys = rw (a .keys, left) refl;
         frequency = rw left refl;
@@ -107,13 +105,13 @@ module _ (g : Settings) (v : State) (w : VoiceState) (b : EnvelopeBlock) (a : Al
         envelope = rw (a .envelope, block-left b (triggeredOf (b .envelope)) f) refl;
       }
   calls-act (event.Lift note) d f = lift-alike note d f
-  calls-act event.Reset d f = let left = voice-left (isVoice w) w voice.newOf d in record { keys = rw left refl; frequency = rw left same-pitch; velocity = rw left same-naught; envelope = rw (block-left b stages.freshOf f) refl }
+  calls-act event.Reset d f = let left = voice-left (unless (isVoice w) Argument) w voice.newOf d in record { keys = rw left refl; frequency = rw left same-pitch; velocity = rw left same-naught; envelope = rw (block-left b stages.freshOf f) refl }
 
   -- whether the envelope is released is what the voice's note_off returned
   pub released-decides : (note : ℕ) → voice.noteOffOf w note .answer ≡ Done 0 → actOf g v (event.Lift note) .envelope ≡ cond (voice.noteOffOf w note .released) (releasedOf (v .envelope)) (v .envelope)
   released-decides note d =
       let l = liftedOf (w .keys) note in
-      rw (lift-is note, off-left (isVoice w && isMidi note) (isReleased (l .off)) w (heardOf w (l .keys) (l .off)) d .1) (go (l .keys) (l .off))
+      rw (lift-is note, off-left (unless (isVoice w && isMidi note) Argument) (isReleased (l .off)) w (heardOf w (l .keys) (l .off)) d .1) (go (l .keys) (l .off))
     where
       go : (keys : Keys) (off : NoteOff) → liftedBy v keys off .envelope ≡ cond (isReleased off) (releasedOf (v .envelope)) (v .envelope)
       go keys Released = refl
@@ -142,7 +140,7 @@ module _ (P : Float → Type 0) (v : State) (k : Kept P v) (w : VoiceState) (b :
   unfolding isVoice
   voice-in =
       is-true (isVoice w)
-      (and-i (isKeys (w .keys) && isLoud (w .velocity)) (isPitched (w .frequency))
+      (and-i (isKeys (w .keys) && isLoud (w .velocity)) (isPitch binary32 (w .frequency))
       (and-i (isKeys (w .keys)) (isLoud (w .velocity)) (rw (a .keys) at (k .keys-in)) (rw (a .velocity, same-naught, same-one) at (k .velocity-in)))
       (rw (a .frequency, same-naught, same-top) at (k .pitch-in)))
 

@@ -23,11 +23,11 @@ use Rattle.floats.proofs.Order.{fle-trans, fle-refl, lt-not-le, not-lt-le, by-c
 use Rattle.floats.proofs.Rounds.{ge0-round}
 use Rattle.floats.proofs.Monotone.{add-mono, mul-mono, div-mono}
 use Rattle.floats.proofs.Ranges.{add-ge0, mul-ge0, div-ge0, rem-ge0, rem-le, add-grows, ge0-positive}
-use Rattle.envelope.specs.Limits.{ten, isRate}
+use Rattle.domain.specs.Domain.{isRate, thousand, highestPitch, isPitch}
+use Rattle.envelope.specs.Limits.{ten}
 use Rattle.waveform.specs.Waveform.{tau, reduceOf, incrementOf}
 use Rattle.waveform.specs.Filled.{phaseFrom}
 use Rattle.waveform.proofs.Values.{Near, phase-near}
-use Rattle.state.specs.Limits.{thousand, highest, isPitch}
 use Rattle.state.proofs.Limits.{pitch-nonneg}
 
 -- ---- the ladder
@@ -111,7 +111,7 @@ slow = ofBits binary64 0x40bf_4000_0000_0000
 
 -- 12,544 / 8,000 * TAU
 abbrev steep : Float
-steep = highest ⊘ slow ⊗ tau
+steep = highestPitch binary64 ⊘ slow ⊗ tau
 
 -- a rate as a float
 rate-slow : (rate : ℕ) → T (isRate rate) → T (le slow (ofInt binary64 (pos rate)))
@@ -128,21 +128,21 @@ rate-positive rate h =
     let top : T (le x (round binary64 false 192000 1)) = round-mono binary64 rate 1 192000 1 (lit< tt) (lit< tt) (nat.mul-le-mul-right 1 (leb→le rate 192000 (and-r (leb 8000 rate) (leb rate 192000) h))) in
     ge0-positive slow x (unfold ofBits in tt) (rate-slow rate h) (nonneg→finite x (under x (round binary64 false 192000 1) (ge0-round binary64 rate 1) (unfold round in tt) top))
 
-module _ (frequency : Float) (rate : ℕ) (f : T (isPitch frequency)) (r : T (isRate rate)) where
-  frequency-le : T (le frequency highest)
-  frequency-le = and-r (lt naught frequency) (le frequency highest) f
+module _ (frequency : Float) (rate : ℕ) (f : T (isPitch binary64 frequency)) (r : T (isRate rate)) where
+  frequency-le : T (le frequency (highestPitch binary64))
+  frequency-le = and-r (lt naught frequency) (le frequency (highestPitch binary64)) f
 
-  ratio-le : T (le (frequency ⊘ ofInt binary64 (pos rate)) (highest ⊘ slow))
-  ratio-le = div-mono binary64 frequency highest (ofInt binary64 (pos rate)) slow (pitch-nonneg frequency f) (unfold ofBits in tt) (rate-positive rate r) (unfold ofBits in tt) frequency-le (rate-slow rate r)
+  ratio-le : T (le (frequency ⊘ ofInt binary64 (pos rate)) (highestPitch binary64 ⊘ slow))
+  ratio-le = div-mono binary64 frequency (highestPitch binary64) (ofInt binary64 (pos rate)) slow (pitch-nonneg frequency f) (unfold ofBits in tt) (rate-positive rate r) (unfold ofBits in tt) frequency-le (rate-slow rate r)
 
   ratio-nonneg : T (nonneg (frequency ⊘ ofInt binary64 (pos rate)))
-  ratio-nonneg = under (frequency ⊘ ofInt binary64 (pos rate)) (highest ⊘ slow) (div-ge0 binary64 frequency (ofInt binary64 (pos rate)) (pitch-nonneg frequency f) (rate-positive rate r)) (unfold ofBits in unfold div in tt) ratio-le
+  ratio-nonneg = under (frequency ⊘ ofInt binary64 (pos rate)) (highestPitch binary64 ⊘ slow) (div-ge0 binary64 frequency (ofInt binary64 (pos rate)) (pitch-nonneg frequency f) (rate-positive rate r)) (unfold ofBits in unfold div in tt) ratio-le
 
   pub pace-le : T (le (incrementOf frequency rate) ten)
   unfolding incrementOf
   pace-le =
       fle-trans (incrementOf frequency rate) steep ten
-      (mul-mono binary64 (frequency ⊘ ofInt binary64 (pos rate)) (highest ⊘ slow) tau tau ratio-nonneg (unfold ofBits in unfold div in tt) tau-nonneg tau-nonneg ratio-le (fle-refl tau (nonneg→finite tau tau-nonneg)))
+      (mul-mono binary64 (frequency ⊘ ofInt binary64 (pos rate)) (highestPitch binary64 ⊘ slow) tau tau ratio-nonneg (unfold ofBits in unfold div in tt) tau-nonneg tau-nonneg ratio-le (fle-refl tau (nonneg→finite tau tau-nonneg)))
       (unfold ofBits in unfold div in unfold mul in unfold le in tt)
 
   pub pace-nonneg : T (nonneg (incrementOf frequency rate))

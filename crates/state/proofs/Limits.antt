@@ -40,7 +40,8 @@ use Rattle.state.specs.declared.State.{State}
 use Rattle.state.specs.declared.Event.{Event}
 use Rattle.state.specs.declared.Event.the-variants as event
 use Rattle.state.specs.State.{freshOf, eventFor, eventOf, liftedBy, actOf}
-use Rattle.state.specs.Limits.{thousand, highest, isRadians, isPitch, inLimits, mostActed, isState}
+use Rattle.domain.specs.Domain.{thousand, isRadians, highestPitch, isPitch}
+use Rattle.state.specs.Limits.{inLimits, mostActed, isState}
 
 -- a test that passes is true, and the other way
 pub is-true : (b : Bool) → T b → b ≡ true
@@ -53,7 +54,7 @@ from-true b e = subst T (sym e) tt
 pub record Kept (P : Float → Type 0) (v : State) : Type 0 where
   pub phase-in : P (v .phase .0)
   pub envelope-in : T (isEnvelope (v .envelope))
-  pub pitch-in : T (isPitch (v .frequency))
+  pub pitch-in : T (isPitch binary64 (v .frequency))
   pub velocity-in : T (within naught one (v .velocity))
   pub keys-in : T (isKeys (v .keys))
 
@@ -72,7 +73,7 @@ module _ (v : State) where
   shaped = isEnvelope (v .envelope)
 
   abbrev pitched : Bool
-  pitched = isPitch (v .frequency)
+  pitched = isPitch binary64 (v .frequency)
 
   abbrev loud : Bool
   loud = within naught one (v .velocity)
@@ -137,8 +138,8 @@ from-literal x h = rw lit0-is at h
 pub phase-nonneg : (x : Float) → PhaseIn x → T (nonneg x)
 phase-nonneg x h = under x thousand (le→ge0 x (from-literal x (and-l (le naught x) (lt x thousand) h))) (unfold ofBits in tt) (lt-le x thousand (and-r (le naught x) (lt x thousand) h))
 
-pub pitch-nonneg : (x : Float) → T (isPitch x) → T (nonneg x)
-pitch-nonneg x h = under x highest (le→ge0 x (from-literal x (lt-le naught x (and-l (lt naught x) (le x highest) h)))) (unfold ofBits in tt) (and-r (lt naught x) (le x highest) h)
+pub pitch-nonneg : (x : Float) → T (isPitch binary64 x) → T (nonneg x)
+pitch-nonneg x h = under x (highestPitch binary64) (le→ge0 x (from-literal x (lt-le naught x (and-l (lt naught x) (le x (highestPitch binary64)) h)))) (unfold ofBits in tt) (and-r (lt naught x) (le x (highestPitch binary64)) h)
 
 loud-nonneg : (x : Float) → T (within naught one x) → T (nonneg x)
 loud-nonneg x h = under x one (le→ge0 x (from-literal x (and-l (le naught x) (le x one) h))) (unfold ofBits in tt) (and-r (le naught x) (le x one) h)
@@ -177,7 +178,7 @@ pub fresh-is-state : isState (freshOf 0) ≡ true
 fresh-is-state = in-state (freshOf 0) (fresh-in 0) (omega arith)
 
 -- ---- notes and velocities in their range
-pitch-in-limits : (n : ℕ) → n ≤ 127 → T (isPitch (frequencyOf n))
+pitch-in-limits : (n : ℕ) → n ≤ 127 → T (isPitch binary64 (frequencyOf n))
 pitch-in-limits n h = frequency-in n (omega arith)
 
 loudness-in : (v : ℕ) → v ≤ 127 → T (within naught one (velocityOf v))

@@ -20,7 +20,8 @@ use Rattle.floats.proofs.Ranges.{mul-ge0}
 use Rattle.floats.proofs.Order.{signed, fle-trans, fle-refl, ge0→le}
 use Rattle.floats.proofs.Operations.{mul-is}
 use Rattle.floats.proofs.OneWay.{value-is-one}
-use Rattle.envelope.specs.Limits.{ten, eleven, isAdsr, isRate, isEnvelope}
+use Rattle.domain.specs.Domain.{isRate}
+use Rattle.envelope.specs.Limits.{ten, eleven, isAdsr, isEnvelope}
 use Rattle.envelope.proofs.Keeps.{step-keeps}
 use Rattle.voice.specs.Voice.{velocityOf}
 use Rattle.waveform.specs.Waveform.{isWaveform, invTau}

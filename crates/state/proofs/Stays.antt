@@ -28,7 +28,8 @@ use Rattle.state.specs.declared.Settings.{Settings}
 use Rattle.state.specs.declared.State.{State}
 use Rattle.state.specs.Settings.{settingsOk}
 use Rattle.state.specs.State.{freshOf, reducedOf}
-use Rattle.state.specs.Limits.{thousand, inLimits}
+use Rattle.domain.specs.Domain.{thousand}
+use Rattle.state.specs.Limits.{inLimits}
 use Rattle.state.specs.Heart.{begun, stateFrom}
 use Rattle.state.proofs.Limits.{Kept, PhaseIn, AllFinite, weaken, in-kept, kept-in, kept-finite, phase-nonneg, fresh-in}
 use Rattle.state.proofs.Ladder.{ladder, rung-below, naught-on, reduced-on, reduced-nonneg, next-rung, next-nonneg}

@@ -9,7 +9,8 @@ use lib.Ieee.{Float, binary64, le, fits}
 use lib.Ieee.Fits.{and-l, and-r}
 use Rattle.floats.specs.Range.{nonneg}
 use Rattle.floats.specs.Double.{_⊕_, naught}
-use Rattle.envelope.specs.Limits.{ten, isAdsr, isRate}
+use Rattle.domain.specs.Domain.{isRate}
+use Rattle.envelope.specs.Limits.{ten, isAdsr}
 use Rattle.envelope.proofs.Keeps.{step-keeps}
 use Rattle.waveform.specs.Waveform.{isWaveform, reduceOf}
 use Rattle.score.specs.declared.Verdict.the-variants.{Accepted}

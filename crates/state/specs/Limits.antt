@@ -5,31 +5,17 @@
 use mathlib.Core.Bool.{Bool, _&&_}
 use Prim.Native.Nat.{ℕ}
 use lib.Dec.{leb}
-use lib.Ieee.{Float, binary64, ofBits, lt, le}
+use lib.Ieee.{binary64}
 use Rattle.floats.specs.Range.{within}
 use Rattle.floats.specs.Double.{naught, one}
+use Rattle.domain.specs.Domain.{isRadians, isPitch}
 use Rattle.envelope.specs.Limits.{isEnvelope}
 use Rattle.voice.specs.Keys.{isKeys}
 use Rattle.state.specs.declared.State.{State}
 
--- 1,000 radians, and 12,544 Hz
-abbrev pub thousand : Float
-thousand = ofBits binary64 0x408f_4000_0000_0000
-
-abbrev pub highest : Float
-highest = ofBits binary64 0x40c8_8000_0000_0000
-
--- a phase in radians: at least 0 and below 1,000
-abbrev pub isRadians : Float → Bool
-isRadians x = le naught x && lt x thousand
-
--- above 0 and at most 12,544
-abbrev pub isPitch : Float → Bool
-isPitch x = lt naught x && le x highest
-
 -- what sounds is within its limits
 unfoldable pub inLimits : State → Bool
-inLimits v = isRadians (v .phase .0) && isEnvelope (v .envelope) && isPitch (v .frequency) && within naught one (v .velocity) && isKeys (v .keys)
+inLimits v = isRadians (v .phase .0) && isEnvelope (v .envelope) && isPitch binary64 (v .frequency) && within naught one (v .velocity) && isKeys (v .keys)
 
 -- 2^48 - 1
 abbrev pub mostActed : ℕ

@@ -1,6 +1,7 @@
 -- What a render takes for settings. 01, number 6: "rate, waveform's duty or an ADSR setting outside the domain". One test for all of them. Definitions only.
 use mathlib.Core.Bool.{Bool, _&&_}
-use Rattle.envelope.specs.Limits.{isAdsr, isRate}
+use Rattle.domain.specs.Domain.{isRate}
+use Rattle.envelope.specs.Limits.{isAdsr}
 use Rattle.waveform.specs.Waveform.{isWaveform}
 use Rattle.state.specs.declared.Settings.{Settings}
 

@@ -48,7 +48,7 @@ pub fn is_settings(settings: Settings) -> bool
 {
     let waveform = settings.waveform;
     let adsr = settings.adsr;
-    envelope::is_rate(settings.rate) & waveform::is_waveform(waveform) & envelope::is_adsr(adsr)
+    domain::is_rate(settings.rate) & waveform::is_waveform(waveform) & envelope::is_adsr(adsr)
 }
 
 // Whether a state is within the limits of a shelf entry.
@@ -132,10 +132,10 @@ fn in_limits(state: State) -> bool
     let frequency = state.frequency;
     let velocity = state.velocity;
     let keys = state.keys;
-    ((0.0 <= phase) & (phase < 1000.0))
+    domain::is_radians(phase)
         & envelope::is_envelope(envelope)
         & ((0.0 < frequency) & (frequency <= 12544.0))
-        & ((0.0 <= velocity) & (velocity <= 1.0))
+        & floats::is_within(0.0, 1.0, velocity)
         & keys::is_keys(keys)
 }
 

@@ -5,40 +5,46 @@ use mathlib.Core.List.{List, [], _∷_}
 use Prim.Native.Nat.{ℕ, _≤_}
 use native.Mathlib.Omega.{arith}
 use lib.Dec.{T, leb→le}
-use lib.Ieee.{ofBits, lt, le}
+use lib.Ieee.{binary32, ofBits, lt, le}
 use lib.Ieee.Fits.{and-i, and-l, and-r}
 use Rattle.answers.specs.declared.Answer.the-variants.{Done}
+use Rattle.answers.specs.declared.Refusal.the-variants.{Argument}
+use Rattle.answers.specs.Order.{unless}
+use Rattle.answers.proofs.First.{passed, first-keeps}
+use Rattle.domain.specs.Domain.{isPitch}
 use Rattle.pitch.specs.Pitch.{frequencyOf}
 use Rattle.pitch.proofs.Rules.{frequency-in}
 use Rattle.voice.specs.Keys.{pressedOf, liftedOf, atMost, isKeys}
-use Rattle.voice.specs.Voice.{isLoud, isPitched, isVoice, isMidi, isReleased, struck, heardOf, changedIf, offIf, newOf, noteOnOf, noteOffOf, resetOf}
+use Rattle.voice.specs.Voice.{isLoud, isVoice, isMidi, isReleased, struck, heardOf, offOr, newOf, noteOnOf, noteOffOf, resetOf}
 use Rattle.voice.specs.declared.keys.Keys.{Keys}
 use Rattle.voice.specs.declared.keys.NoteOff.{NoteOff}
 use Rattle.voice.specs.declared.keys.NoteOff.the-variants.{Released, FellBack, NoChange}
 use Rattle.voice.specs.declared.VoiceState.{VoiceState}
+use Rattle.voice.specs.declared.Changed.{Changed}
+use Rattle.voice.specs.declared.Off.{Off}
 use Rattle.voice.proofs.Actions.{BackRanged, pressed-keeps, lifted-keeps}
 use Rattle.voice.proofs.Loudness.{velocity-in}
 
 -- ---- the test by its parts, there and back
-voice-i : (s : VoiceState) → T (isKeys (s .keys)) → T (isLoud (s .velocity)) → T (isPitched (s .frequency)) → T (isVoice s)
+voice-i : (s : VoiceState) → T (isKeys (s .keys)) → T (isLoud (s .velocity)) → T (isPitch binary32 (s .frequency)) → T (isVoice s)
 unfolding isVoice
-voice-i s k v f = and-i (isKeys (s .keys) && isLoud (s .velocity)) (isPitched (s .frequency)) (and-i (isKeys (s .keys)) (isLoud (s .velocity)) k v) f
+voice-i s k v f = and-i (isKeys (s .keys) && isLoud (s .velocity)) (isPitch binary32 (s .frequency)) (and-i (isKeys (s .keys)) (isLoud (s .velocity)) k v) f
 
 module _ (s : VoiceState) (t : T (isVoice s)) where
   pub voice-keys : T (isKeys (s .keys))
   unfolding isVoice
-  voice-keys = and-l (isKeys (s .keys)) (isLoud (s .velocity)) (and-l (isKeys (s .keys) && isLoud (s .velocity)) (isPitched (s .frequency)) t)
+  voice-keys = and-l (isKeys (s .keys)) (isLoud (s .velocity)) (and-l (isKeys (s .keys) && isLoud (s .velocity)) (isPitch binary32 (s .frequency)) t)
 
   pub voice-loud : T (isLoud (s .velocity))
   unfolding isVoice
-  voice-loud = and-r (isKeys (s .keys)) (isLoud (s .velocity)) (and-l (isKeys (s .keys) && isLoud (s .velocity)) (isPitched (s .frequency)) t)
+  voice-loud = and-r (isKeys (s .keys)) (isLoud (s .velocity)) (and-l (isKeys (s .keys) && isLoud (s .velocity)) (isPitch binary32 (s .frequency)) t)
 
-  pub voice-pitched : T (isPitched (s .frequency))
+  pub voice-pitched : T (isPitch binary32 (s .frequency))
   unfolding isVoice
-  voice-pitched = and-r (isKeys (s .keys) && isLoud (s .velocity)) (isPitched (s .frequency)) t
+  voice-pitched = and-r (isKeys (s .keys) && isLoud (s .velocity)) (isPitch binary32 (s .frequency)) t
 
 -- ---- what sounds is within the limits
-pitched : (n : ℕ) → n ≤ 127 → T (isPitched (frequencyOf n))
+pitched : (n : ℕ) → n ≤ 127 → T (isPitch binary32 (frequencyOf n))
 unfolding ofBits
 pitched n h = frequency-in n (omega arith)
 
@@ -55,20 +61,13 @@ unfolding isVoice isKeys atMost ofBits le lt
 new-in = tt
 
 -- ---- a refusal hands the state back, and what is done is within the limits
-change-keeps : (ok : Bool) (before after : VoiceState) → T (isVoice before) → (T ok → T (isVoice after)) → T (isVoice (changedIf ok before after .voice))
-change-keeps true before after h k = k tt
-change-keeps false before after h k = h
-
-off-keeps : (ok released : Bool) (before after : VoiceState) → T (isVoice before) → (T ok → T (isVoice after)) → T (isVoice (offIf ok released before after .voice))
-off-keeps true released before after h k = k tt
-off-keeps false released before after h k = h
-
 module _ (s : VoiceState) (t : T (isVoice s)) where
   pub note-on-keeps : (n v : ℕ) → T (isVoice (noteOnOf s n v .voice))
   note-on-keeps n v =
       let ok = isVoice s && isMidi n && isMidi v in
-      change-keeps ok s (struck (pressedOf (s .keys) n v) n v) t
-      (λ (g : T ok).
+      first-keeps (unless ok Argument) _ _ (λ (r : Changed). T (isVoice (r .voice))) (λ why. t)
+      (λ e.
+      let g : T ok = passed ok Argument e in
       let hn : n ≤ 127 = leb→le n 127 (and-r (isVoice s) (isMidi n) (and-l (isVoice s && isMidi n) (isMidi v) g)) in
       let hv : v ≤ 127 = leb→le v 127 (and-r (isVoice s && isMidi n) (isMidi v) g) in
       struck-in (pressedOf (s .keys) n v) n v (pressed-keeps (s .keys) n v (voice-keys s t) hn hv) hn hv)
@@ -77,10 +76,10 @@ module _ (s : VoiceState) (t : T (isVoice s)) where
   note-off-keeps n =
       let lift = liftedOf (s .keys) n in
       let kept = lifted-keeps (s .keys) n (voice-keys s t) in
-      off-keeps (isVoice s && isMidi n) (isReleased (lift .off)) s (heardOf s (lift .keys) (lift .off)) t (λ (g : T (isVoice s && isMidi n)). heard-in s (lift .keys) (lift .off) t (kept .within) (kept .back))
+      first-keeps (unless (isVoice s && isMidi n) Argument) _ _ (λ (r : Off). T (isVoice (r .voice))) (λ why. t) (λ e. heard-in s (lift .keys) (lift .off) t (kept .within) (kept .back))
 
   pub reset-keeps : T (isVoice (resetOf s .voice))
-  reset-keeps = change-keeps (isVoice s) s newOf t (λ (g : T (isVoice s)). new-in)
+  reset-keeps = first-keeps (unless (isVoice s) Argument) _ _ (λ (r : Changed). T (isVoice (r .voice))) (λ why. t) (λ e. new-in)
 
 -- ---- any calls, one after the other
 pub data Call : Type 0 where
@@ -114,8 +113,8 @@ pub stays : (cs : List Call) → T (isVoice (run newOf cs))
 stays cs = run-keeps newOf cs new-in
 
 -- ---- what a release and a reset leave
-released-same : (ok : Bool) (s : VoiceState) (k : Keys) (o : NoteOff) → offIf ok (isReleased o) s (heardOf s k o) .released ≡ true
-    → (offIf ok (isReleased o) s (heardOf s k o) .voice .velocity ≡ s .velocity) × (offIf ok (isReleased o) s (heardOf s k o) .voice .frequency ≡ s .frequency)
+released-same : (ok : Bool) (s : VoiceState) (k : Keys) (o : NoteOff) → offOr (unless ok Argument) (isReleased o) s (heardOf s k o) .released ≡ true
+    → (offOr (unless ok Argument) (isReleased o) s (heardOf s k o) .voice .velocity ≡ s .velocity) × (offOr (unless ok Argument) (isReleased o) s (heardOf s k o) .voice .frequency ≡ s .frequency)
 released-same true s k Released e = (refl, refl)
 released-same true s k (FellBack n v) e = absurd (false≢true e)
 released-same true s k NoChange e = (refl, refl)

@@ -3,15 +3,19 @@
 -- as in the original: v / 127 and the pitch table. A release keeps both; only a reset makes 440 and 0. No samples are written: count is 0.
 -- A given state is judged by every call that takes it, also where the call reads or replaces part of it. Definitions only.
 use mathlib.Core.Bool.{Bool, true, false, _&&_}
+use mathlib.Core.List.{List}
 use Prim.Native.Nat.{ℕ}
 use lib.Dec.{leb}
 use lib.IntN.{pos}
 use lib.ListN.{length}
-use lib.Ieee.{Float, binary32, ofBits, ofInt, div, lt, le}
+use lib.Ieee.{Float, binary32, ofBits, ofInt, div}
 use Rattle.floats.specs.Range.{lit0, lit1, within}
+use Rattle.domain.specs.Domain.{isPitch}
 use Rattle.pitch.specs.Pitch.{frequencyOf}
 use Rattle.answers.specs.declared.Answer.the-variants.{Done, Refused}
+use Rattle.answers.specs.declared.Refusal.{Refusal}
 use Rattle.answers.specs.declared.Refusal.the-variants.{Argument}
+use Rattle.answers.specs.Order.{unless, firstOf}
 use Rattle.voice.specs.declared.keys.ActiveNote.{ActiveNote}
 use Rattle.voice.specs.declared.keys.ActiveNote.the-variants.{Silent, Note}
 use Rattle.voice.specs.declared.keys.NoteOff.{NoteOff}
@@ -28,12 +32,9 @@ use Rattle.voice.specs.Keys.{heldOf, freshKeys, pressedOf, liftedOf, isK
 unfoldable pub velocityOf : ℕ → Float
 velocityOf v = div binary32 (ofInt binary32 (pos v)) (ofBits binary32 0x42fe_0000)
 
--- 440 and 12,544
+-- 440
 abbrev pub concert : Float
 concert = ofBits binary32 0x43dc_0000
-
-abbrev pub highest : Float
-highest = ofBits binary32 0x4644_0000
 
 -- ---- the domain
 abbrev pub isMidi : ℕ → Bool
@@ -42,28 +43,22 @@ isMidi n = leb n 127
 abbrev pub isLoud : Float → Bool
 isLoud x = within (lit0 binary32) (lit1 binary32) x
 
-abbrev pub isPitched : Float → Bool
-isPitched x = lt (lit0 binary32) x && le x highest
-
 unfoldable pub isVoice : VoiceState → Bool
-isVoice s = isKeys (s .keys) && isLoud (s .velocity) && isPitched (s .frequency)
+isVoice s = isKeys (s .keys) && isLoud (s .velocity) && isPitch binary32 (s .frequency)
 
--- ---- answers: done, or 9 with the state as it came, and with no or 0 for what was asked
-abbrev pub changedIf : Bool → VoiceState → VoiceState → Changed
-changedIf true before after = record { answer = Done 0; voice = after }
-changedIf false before after = record { answer = Refused Argument; voice = before }
+-- ---- answers, unless the call is refused: then the state as it came, and no or 0 for what was asked
+abbrev pub changedOr : List Refusal → VoiceState → VoiceState → Changed
+changedOr refusals before after = firstOf refusals (λ (why : Refusal). record { answer = Refused why; voice = before }) (record { answer = Done 0; voice = after })
 
-abbrev pub offIf : Bool → Bool → VoiceState → VoiceState → Off
-offIf true released before after = record { answer = Done 0; released = released; voice = after }
-offIf false released before after = record { answer = Refused Argument; released = false; voice = before }
+abbrev pub offOr : List Refusal → Bool → VoiceState → VoiceState → Off
+offOr refusals released before after =
+    firstOf refusals (λ (why : Refusal). record { answer = Refused why; released = false; voice = before }) (record { answer = Done 0; released = released; voice = after })
 
-abbrev pub activeIf : Bool → Bool → Active
-activeIf true active = record { answer = Done 0; active = active }
-activeIf false active = record { answer = Refused Argument; active = false }
+abbrev pub activeOr : List Refusal → Bool → Active
+activeOr refusals active = firstOf refusals (λ (why : Refusal). record { answer = Refused why; active = false }) (record { answer = Done 0; active = active })
 
-abbrev pub countIf : Bool → ℕ → HeldNotes
-countIf true n = record { answer = Done 0; count = n }
-countIf false n = record { answer = Refused Argument; count = 0 }
+abbrev pub countOr : List Refusal → ℕ → HeldNotes
+countOr refusals n = firstOf refusals (λ (why : Refusal). record { answer = Refused why; count = 0 }) (record { answer = Done 0; count = n })
 
 -- ---- what sounds
 -- the note n, struck with v
@@ -90,19 +85,19 @@ abbrev pub newOf : VoiceState
 newOf = record { keys = freshKeys; velocity = lit0 binary32; frequency = concert }
 
 abbrev pub noteOnOf : VoiceState → ℕ → ℕ → Changed
-noteOnOf s n v = changedIf (isVoice s && isMidi n && isMidi v) s (struck (pressedOf (s .keys) n v) n v)
+noteOnOf s n v = changedOr (unless (isVoice s && isMidi n && isMidi v) Argument) s (struck (pressedOf (s .keys) n v) n v)
 
 abbrev pub noteOffOf : VoiceState → ℕ → Off
 noteOffOf s n =
     let lift = liftedOf (s .keys) n in
-    offIf (isVoice s && isMidi n) (isReleased (lift .off)) s (heardOf s (lift .keys) (lift .off))
+    offOr (unless (isVoice s && isMidi n) Argument) (isReleased (lift .off)) s (heardOf s (lift .keys) (lift .off))
 
 abbrev pub resetOf : VoiceState → Changed
-resetOf s = changedIf (isVoice s) s newOf
+resetOf s = changedOr (unless (isVoice s) Argument) s newOf
 
 abbrev pub isActiveOf : VoiceState → Active
-isActiveOf s = activeIf (isVoice s) (isNote (s .keys .active))
+isActiveOf s = activeOr (unless (isVoice s) Argument) (isNote (s .keys .active))
 
 -- the length of the list of the held keys
 abbrev pub heldNoteCountOf : VoiceState → HeldNotes
-heldNoteCountOf s = countIf (isVoice s) (length (heldOf (s .keys)))
+heldNoteCountOf s = countOr (unless (isVoice s) Argument) (length (heldOf (s .keys)))

@@ -2,7 +2,9 @@
 // outside the domain is refused (document 01, number 9). The keys themselves are in keys.rt. `midi_note_to_frequency` stands in the
 // crate `pitch`; the traits of the original are left out.
 ghost use mathlib.Core.Path.{_≡_};
-ghost use Rattle.voice.specs.Voice.{velocityOf, isVoice, isMidi, struck, heardOf, isReleased, isNote, changedIf, offIf, activeIf, countIf};
+ghost use Rattle.answers.specs.Order.{unless};
+ghost use Rattle.answers.specs.declared.Refusal.the-variants.{Argument};
+ghost use Rattle.voice.specs.Voice.{velocityOf, isVoice, isMidi, struck, heardOf, isReleased, isNote, changedOr, offOr, activeOr, countOr};
 ghost use Rattle.voice.specs.Voice.{newOf, noteOnOf, noteOffOf, resetOf, isActiveOf, heldNoteCountOf};
 use answers::Answer;
 use answers::Refusal;
@@ -190,7 +192,7 @@ fn heard(voice: VoiceState, lift: AfterLift) -> VoiceState
 
 // The state after, or a refusal with the state as it came.
 fn changed_if(ok: bool, before: VoiceState, after: VoiceState) -> Changed
-    ensures { λ r. ⌜ r ≡ changedIf ok before after ⌝ }
+    ensures { λ r. ⌜ r ≡ changedOr (unless ok Argument) before after ⌝ }
 {
     if ok {
         return Changed {
@@ -206,7 +208,7 @@ fn changed_if(ok: bool, before: VoiceState, after: VoiceState) -> Changed
 
 // Whether it is released and the state after, or a refusal with no and the state as it came.
 fn off_if(ok: bool, released: bool, came: VoiceState, left: VoiceState) -> Off
-    ensures { λ r. ⌜ r ≡ offIf ok released came left ⌝ }
+    ensures { λ r. ⌜ r ≡ offOr (unless ok Argument) released came left ⌝ }
 {
     if ok {
         return Off {
@@ -224,7 +226,7 @@ fn off_if(ok: bool, released: bool, came: VoiceState, left: VoiceState) -> Off
 
 // Yes or no, or a refusal with no.
 fn active_if(ok: bool, active: bool) -> Active
-    ensures { λ r. ⌜ r ≡ activeIf ok active ⌝ }
+    ensures { λ r. ⌜ r ≡ activeOr (unless ok Argument) active ⌝ }
 {
     if ok {
         return Active {
@@ -240,7 +242,7 @@ fn active_if(ok: bool, active: bool) -> Active
 
 // The number, or a refusal with 0.
 fn count_if(ok: bool, count: usize) -> HeldNotes
-    ensures { λ r. ⌜ r ≡ countIf ok count ⌝ }
+    ensures { λ r. ⌜ r ≡ countOr (unless ok Argument) count ⌝ }
 {
     if ok {
         return HeldNotes {

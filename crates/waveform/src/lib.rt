@@ -76,7 +76,7 @@ pub fn sample(waveform: Waveform, phase: f64, dt: f64) -> Value
 {
     if is_waveform(waveform) {
         return answers::value_if(
-            polyblep::is_phase(phase, dt),
+            domain::is_phase(phase, dt),
             Refusal::Argument,
             value_at(waveform, phase, dt),
         );
@@ -93,7 +93,7 @@ pub fn is_waveform(waveform: Waveform) -> bool
         Waveform::Square => true,
         Waveform::Sawtooth => true,
         Waveform::Triangle => true,
-        Waveform::Pulse(duty) => polyblep::is_duty(duty),
+        Waveform::Pulse(duty) => domain::is_duty(duty),
     }
 }
 
@@ -428,7 +428,7 @@ fn up_to_duty(phase: f64, dt: f64, duty: f64) -> Stretch
     let high = end_of(base, low, duty, dt);
     let top = in_cycles(Radians(high - base));
     let is_clear = lies_clear(low, top, dt) & ends_clear(low - duty + 1.0, top - duty + 1.0, dt);
-    if is_one_cycle(first, phase, high) & is_clear & polyblep::is_duty(duty) {
+    if is_one_cycle(first, phase, high) & is_clear & domain::is_duty(duty) {
         if top < duty {
             return Stretch {
                 low: phase,

@@ -4,11 +4,11 @@ use mathlib.Core.Path.{refl}
 use Rattle.phase.proofs.is_state.Statement.{statement}
 use Rattle.phase.proofs.is_state.Tie as tie
 
-is-finite-requires : tie.Need-is-finite-requires
-is-finite-requires c κs = search needs
+is-finite-f32-requires : tie.Need-is-finite-f32-requires
+is-finite-f32-requires c κs = search needs
 
 returns : tie.Need-returns
-returns c = rw (c .is-finite .ensures) refl
+returns c = rw (c .is-finite-f32 .ensures) refl
 
 pub is-state-spec : {M : Type 1} → statement M
-is-state-spec = tie.close (tie.spec is-finite-requires returns)
+is-state-spec = tie.close (tie.spec is-finite-f32-requires returns)

@@ -7,14 +7,14 @@ use Rattle.phase.proofs.PhaseAccumulator.set_frequency.Tie as tie
 is-state-requires : tie.Need-is-state-requires
 is-state-requires c κs = search needs
 
-is-finite-requires : tie.Need-is-finite-requires
-is-finite-requires c κs = search needs
+is-finite-f32-requires : tie.Need-is-finite-f32-requires
+is-finite-f32-requires c κs = search needs
 
-is-finite-requires-2 : tie.Need-is-finite-requires-2
-is-finite-requires-2 c κs = search needs
+is-finite-f32-requires-2 : tie.Need-is-finite-f32-requires-2
+is-finite-f32-requires-2 c κs = search needs
 
-is-finite-requires-3 : tie.Need-is-finite-requires-3
-is-finite-requires-3 c κs = search needs
+is-finite-f32-requires-3 : tie.Need-is-finite-f32-requires-3
+is-finite-f32-requires-3 c κs = search needs
 
 with-increment-requires : tie.Need-with-increment-requires
 with-increment-requires c κs = search needs
@@ -23,16 +23,16 @@ changed-if-requires : tie.Need-changed-if-requires
 changed-if-requires c κs = search needs
 
 returns : tie.Need-returns
-returns c = rw (c .changed-if .ensures, c .before .with-increment .ensures, c .before .before .is-finite3 .ensures, c .before .before .before .is-finite2 .ensures, c .before .before .before .before .is-finite .ensures, c .before .before .before .before .before .is-state .ensures) refl
+returns c = rw (c .changed-if .ensures, c .before .with-increment .ensures, c .before .before .is-finite-f323 .ensures, c .before .before .before .is-finite-f322 .ensures, c .before .before .before .before .is-finite-f32 .ensures, c .before .before .before .before .before .is-state .ensures) refl
 
 pub set-frequency-spec : {M : Type 1} → statement M
 set-frequency-spec =
     tie.close
     (tie.spec
     is-state-requires
-    is-finite-requires
-    is-finite-requires-2
-    is-finite-requires-3
+    is-finite-f32-requires
+    is-finite-f32-requires-2
+    is-finite-f32-requires-3
     with-increment-requires
     changed-if-requires
     returns)

@@ -1,0 +1,2 @@
+-- two outcomes of a public function are equal
+pub mod Unique
