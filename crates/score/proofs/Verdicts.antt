@@ -1,7 +1,7 @@
 -- What an accepted score has: its length, and every record right and in order; and that nothing else is asked. Assumes nothing.
-use mathlib.Core.Path.{_≡_, refl}
+use mathlib.Core.Path.{_≡_, refl, _∙_}
 use mathlib.Core.Bool.{true, _&&_}
-use mathlib.Core.List.{List, [], _∷_, _++_, map}
+use mathlib.Core.List.{List, [], _∷_, _++_}
 use mathlib.Core.Logic.{⊎-elim}
 use Prim.Native.Nat.{ℕ, zero, suc, _+_, _*_, _%_, _≤_, _<_}
 use native.Mathlib.Nat.{eq-or-lt-of-le}
@@ -14,7 +14,7 @@ use Rattle.answers.specs.declared.Answer.the-variants.{Done, Refused}
 use Rattle.answers.specs.declared.Refusal.the-variants.{Score}
 use Rattle.answers.specs.declared.ScoreFault.{ScoreFault}
 use Rattle.answers.specs.declared.ScoreFault.the-variants.{Length, Mark, Kind, Field, Order}
-use Rattle.answers.proofs.Order.{Leads, leads-first, map-leads, passed, none-both}
+use Rattle.answers.proofs.Order.{first-map, Leads, leads-first, passed, none-both}
 use Rattle.score.specs.declared.Verdict.the-variants.{Accepted, Faulty}
 use Rattle.score.specs.Record.{countOf}
 use Rattle.score.specs.Score.{markRight, kindRight, fieldsRight, allRight, inOrder, faultsAt, faultsFrom, faultsOf, verdictOf, answerOf}
@@ -119,11 +119,18 @@ pub faulty-faults : (s : List ℕ) (f : ScoreFault) → verdictOf s ≡ Faulty f
 unfolding verdictOf
 faulty-faults s f h = faulty-leads (faultsOf s) (countOf s) f h
 
--- ---- the call's answer
+-- ---- what goes by the first fault goes by the verdict
+pub accepted-first : (s : List ℕ) (n : ℕ) → verdictOf s ≡ Accepted n → {R : Type 0} (f : ScoreFault → R) (d : R) → firstOf (faultsOf s) f d ≡ d
+accepted-first s n h f d = rw (accepted-faults s n h) refl
+
+pub faulty-first : (s : List ℕ) (fault : ScoreFault) → verdictOf s ≡ Faulty fault → {R : Type 0} (f : ScoreFault → R) (d : R) → firstOf (faultsOf s) f d ≡ f fault
+faulty-first s fault h f d = leads-first fault (faultsOf s) f d (faulty-faults s fault h)
+
+-- the call's answer
 pub answer-accepted : (s : List ℕ) (n : ℕ) → verdictOf s ≡ Accepted n → answerOf s ≡ Done 0
 unfolding answerOf
-answer-accepted s n h = rw (accepted-faults s n h) refl
+answer-accepted s n h = first-map Score (faultsOf s) Refused (Done 0) ∙ accepted-first s n h (λ f. Refused (Score f)) (Done 0)
 
 pub answer-faulty : (s : List ℕ) (f : ScoreFault) → verdictOf s ≡ Faulty f → answerOf s ≡ Refused (Score f)
 unfolding answerOf
-answer-faulty s f h = leads-first (Score f) (map Score (faultsOf s)) Refused (Done 0) (map-leads Score f (faultsOf s) (faulty-faults s f h))
+answer-faulty s f h = first-map Score (faultsOf s) Refused (Done 0) ∙ faulty-first s f h (λ x. Refused (Score x)) (Done 0)
