@@ -1,4 +1,5 @@
--- what holds of every outcome that a list of refusals decides
-pub mod First
+-- Laws on what this crate defines, in the order to read them.
+-- the first refusal that holds
+pub mod Order
 -- two outcomes of a public function are equal
 pub mod Unique

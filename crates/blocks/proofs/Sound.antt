@@ -22,7 +22,7 @@ use Rattle.answers.specs.declared.Answer.the-variants.{Done}
 use Rattle.answers.specs.declared.Refusal.the-variants.{Setting, Argument}
 use Rattle.answers.specs.Order.{unless}
 use Rattle.answers.specs.Outcome.{Outcome}
-use Rattle.answers.proofs.First.{both-passed, none-refused}
+use Rattle.answers.proofs.Order.{both-held, none-refused}
 use Rattle.waveform.specs.declared.Radians.{Radians}
 use Rattle.waveform.specs.Waveform.{tau, isWaveform, incrementOf}
 use Rattle.waveform.specs.Filled.{phaseFrom, valueAt, samplesFrom}
@@ -117,7 +117,7 @@ module _ (t : Tone) (top : Float) (rate : ℕ) (xs : List Float) (w : T (fits bi
       let usable = isSetting rate (t .waveform) in
       let sound = isTone t top in
       let e : unless usable Setting ++ unless sound Argument ≡ [] = none-refused (unless usable Setting ++ unless sound Argument) _ _ (λ (o : Outcome Ran). o .result .answer) n (λ why. refl) d in
-      let p = both-passed usable sound Setting Argument e in
+      let p = both-held usable sound Setting Argument e in
       rw e
       (record {
         samples = λ (i : ℕ) (l : i < length (samplesFrom (t .waveform) step (t .depth) (t .phase .0) (length xs))).

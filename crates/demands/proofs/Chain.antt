@@ -15,6 +15,7 @@ use borrow.Author.Tests.{le-leb, eq-eqb}
 use Rattle.answers.specs.declared.Answer.the-variants.{Done}
 use Rattle.runs.specs.Runs.{run, listed}
 use Rattle.score.specs.declared.Verdict.the-variants.{Accepted}
+use Rattle.score.specs.Record.{countOf}
 use Rattle.score.specs.Score.{verdictOf}
 use Rattle.score.specs.Below.{countBelow}
 use Rattle.score.proofs.Cuts.{accepted-few}
@@ -29,10 +30,10 @@ use Rattle.state.specs.Heart.{stateFrom, samplesFrom}
 use Rattle.state.proofs.RunsOn.{state-on, samples-on}
 use Rattle.state.proofs.Acted.{acted-fresh, below-all}
 use Rattle.state.proofs.Stays.{fresh-kept}
-use Rattle.render.specs.Order.{most, isRoom}
-use Rattle.render.specs.Calls.{says, renderAnswer, renderedOf, renderOf, leavesPart}
+use Rattle.judging.specs.Judging.{most, isRoom}
+use Rattle.judging.proofs.Refusals.{none-refused}
+use Rattle.render.specs.Calls.{madeOf, renderOf, madePart}
 use Rattle.demands.specs.Chain.{Step, ChainOutcome, andThen, chainFrom, samplesOf, lastOf, AllDone, Grows, AllAccepted, NoneBelow, NoneAddedBelow}
-use Rattle.render.proofs.Judging.{by-score}
 use Rattle.demands.proofs.Link.{PassedCall, call-passed, call-done, Agrees, Reached, acted-is, same-count, none-below, agrees, goes-on, after, onward, chain-step, first-done, rest-done, all-done}
 
 -- ---- a chain, from where a render of s has come to
@@ -43,7 +44,7 @@ record Ends (g : Settings) (s l : List ℕ) (p : ℕ) (v : State) (n : ℕ) (o :
   state : o .state ≡ stateFrom g l p v n
 
 -- n samples of t, and then a chain from there
-joined : (g : Settings) (s t l : List ℕ) (p : ℕ) (v : State) (n k : ℕ) (o r : ChainOutcome) → r ≡ andThen (leavesPart (says (Done n) (stateFrom g t p v n)) (samplesFrom g t p v n)) o
+joined : (g : Settings) (s t l : List ℕ) (p : ℕ) (v : State) (n k : ℕ) (o r : ChainOutcome) → r ≡ andThen (madePart g t v p n) o
     → Agrees g s t p → Ends g t l (p + n) (stateFrom g t p v n) k o → Ends g s l p v (n + k) r
 joined g s t l p v n k o r c z y =
     let a : stateFrom g t p v n ≡ stateFrom g l p v n = y .agree .states p v n (omega arith) in
@@ -65,11 +66,11 @@ ends g (x ∷ xs) s m a p v r w d =
     let n = length (x .part) in
     let t = x .score in
     let e = first-done g v p x xs d in
-    let q : PassedCall g t v p n = call-passed g t v p (x .part) e in
-    let b : verdictOf t ≡ Accepted (q .records) = q .accepted in
-    let f : NoneBelow s t p = none-below s t m (q .records) a b (w .0) p (sym (q .acted) ∙ acted-is s t m (q .records) a b (w .0) p g v r) in
-    joined g s t (lastOf t xs) p v n (samplesOf xs) (chainFrom g (stateFrom g t p v n) (p + n) xs) (chainFrom g v p (x ∷ xs)) (chain-step g v p x xs e) (agrees s t m (q .records) a b (w .0) p g f)
-    (ends g xs t (q .records) b (p + n) (stateFrom g t p v n) (goes-on s t m (q .records) a b (w .0) p g v r f n) (w .1) (rest-done g v p x xs d))
+    let q : PassedCall g t v p n = call-passed g t v p (x .part) n e in
+    let b : verdictOf t ≡ Accepted (countOf t) = q .accepted in
+    let f : NoneBelow s t p = none-below s t m (countOf t) a b (w .0) p (sym (q .acted) ∙ acted-is s t m (countOf t) a b (w .0) p g v r) in
+    joined g s t (lastOf t xs) p v n (samplesOf xs) (chainFrom g (stateFrom g t p v n) (p + n) xs) (chainFrom g v p (x ∷ xs)) (chain-step g v p x xs e) (agrees s t m (countOf t) a b (w .0) p g f)
+    (ends g xs t (countOf t) b (p + n) (stateFrom g t p v n) (goes-on s t m (countOf t) a b (w .0) p g v r f n) (w .1) (rest-done g v p x xs d))
 
 -- before the first score there is none, which is accepted
 nothing-accepted : verdictOf [] ≡ Accepted 0
@@ -92,26 +93,24 @@ pub record OneRender (g : Settings) (xs : List Step) (out : List Float) (shelf :
 record PassedChain (g : Settings) (l : List ℕ) (n : ℕ) : Type 0 where
   settings : settingsOk g ≡ true
   in-time : n ≤ most
-  records : ℕ
-  accepted : verdictOf l ≡ Accepted records
+  accepted : verdictOf l ≡ Accepted (countOf l)
 
 chain-passed : (g : Settings) (x : Step) (xs : List Step) (v : State) (p : ℕ) → AllDone g v p (x ∷ xs) → PassedChain g (lastOf (x .score) xs) (p + samplesOf (x ∷ xs))
 chain-passed g x [] v p d =
-    let q = call-passed g (x .score) v p (x .part) (first-done g v p x [] d) in
+    let q = call-passed g (x .score) v p (x .part) (length (x .part)) (first-done g v p x [] d) in
     let l : p + length (x .part) ≤ most = q .in-time in
-    record { settings = q .settings; in-time = omega arith; records = q .records; accepted = q .accepted }
+    record { settings = q .settings; in-time = omega arith; accepted = q .accepted }
 chain-passed g x (y ∷ ys) v p d =
     let q = chain-passed g y ys (after g v p x (y ∷ ys)) (onward g v p x (y ∷ ys)) (rest-done g v p x (y ∷ ys) d) in
     let l : p + length (x .part) + samplesOf (y ∷ ys) ≤ most = q .in-time in
-    record { settings = q .settings; in-time = omega arith; records = q .records; accepted = q .accepted }
+    record { settings = q .settings; in-time = omega arith; accepted = q .accepted }
 
 -- an output of that length and a shelf that fits are taken
-render-is : (g : Settings) (s : List ℕ) (n : ℕ) → PassedChain g s n → (out : List Float) (shelf : List ℕ) → length out ≡ n → length shelf ≡ wordsFor (length out) → renderOf g s out shelf ≡ renderedOf (Done n) g s out shelf
+render-is : (g : Settings) (s : List ℕ) (n : ℕ) → PassedChain g s n → (out : List Float) (shelf : List ℕ) → length out ≡ n → length shelf ≡ wordsFor (length out) → renderOf g s out shelf ≡ madeOf g s n
 unfolding renderOf
 render-is g s n q out shelf e h =
     let room : isRoom (length out) (length shelf) ≡ true = rw (h, eq-eqb (wordsFor (length out)) (wordsFor (length out)) refl, le-leb (length out) most (omega (arith, q .in-time))) refl in
-    let a : Done (length out) ≡ renderAnswer g s (length out) (length shelf) = by-score g (isRoom (length out) (length shelf)) s (Done (length out)) (q .settings) room (Accepted (q .records)) (q .accepted) in
-    rw (← a, e) refl
+    rw (none-refused g (isRoom (length out) (length shelf)) s (countOf s) (q .settings) room (q .accepted), e) refl
 
 pub chain : (g : Settings) (x : Step) (xs : List Step) → Grows [] (x ∷ xs) → AllDone g (freshOf 0) 0 (x ∷ xs)
     → (out : List Float) (shelf : List ℕ) → length out ≡ samplesOf (x ∷ xs) → length shelf ≡ wordsFor (length out) → OneRender g (x ∷ xs) out shelf
@@ -131,9 +130,9 @@ done-none : (g : Settings) (xs : List Step) (s : List ℕ) (m : ℕ) → verdict
 done-none g [] s m a p v r w d = tt
 done-none g (x ∷ xs) s m a p v r w d =
     let t = x .score in
-    let q = call-passed g t v p (x .part) (first-done g v p x xs d) in
-    let f : NoneBelow s t p = none-below s t m (q .records) a (q .accepted) (w .0) p (sym (q .acted) ∙ acted-is s t m (q .records) a (q .accepted) (w .0) p g v r) in
-    (f, done-none g xs t (q .records) (q .accepted) (p + length (x .part)) (after g v p x xs) (goes-on s t m (q .records) a (q .accepted) (w .0) p g v r f (length (x .part))) (w .1) (rest-done g v p x xs d))
+    let q = call-passed g t v p (x .part) (length (x .part)) (first-done g v p x xs d) in
+    let f : NoneBelow s t p = none-below s t m (countOf t) a (q .accepted) (w .0) p (sym (q .acted) ∙ acted-is s t m (countOf t) a (q .accepted) (w .0) p g v r) in
+    (f, done-none g xs t (countOf t) (q .accepted) (p + length (x .part)) (after g v p x xs) (goes-on s t m (countOf t) a (q .accepted) (w .0) p g v r f (length (x .part))) (w .1) (rest-done g v p x xs d))
 
 module _ (g : Settings) (ok : settingsOk g ≡ true) (sus : T (fits binary64 (g .adsr .sustain))) where
   -- what a render has come to is a state

@@ -18,13 +18,13 @@ use Rattle.envelope.specs.Limits.{isAdsr}
 use Rattle.waveform.specs.declared.Waveform.the-variants.{Square}
 use Rattle.score.specs.declared.Verdict.the-variants.{Accepted}
 use Rattle.score.specs.Record.{positionAt}
-use Rattle.score.specs.Score.{markRight, kindRight, fieldsRight, inOrder, verdictAt, verdictFrom, verdictOf}
+use Rattle.score.specs.Score.{markRight, kindRight, fieldsRight, inOrder, faultsAt, faultsFrom, faultsOf, verdictOf}
 use Rattle.state.specs.declared.Settings.{Settings}
 use Rattle.state.specs.declared.State.{State}
 use Rattle.state.specs.Settings.{settingsOk}
 use Rattle.state.specs.State.{freshOf}
 use Rattle.state.specs.Heart.{stateFrom, samplesFrom}
-use Rattle.render.specs.Calls.{says, leavesPart, continueOf}
+use Rattle.render.specs.Calls.{keptPart, continueOf}
 use Rattle.demands.specs.Chain.{Step, ChainOutcome, chainFrom, AllDone, Grows, AllAccepted, NoneAddedBelow}
 use Rattle.demands.proofs.Link.{late, chain-step, first-done}
 use Rattle.demands.proofs.Chain.{OneRender, chain, chain-done}
@@ -51,18 +51,18 @@ unfolding isAdsr isRate ofBits isNan
 plain-ok = refl
 
 pub begins-accepted : verdictOf begins ≡ Accepted 1
-unfolding positionAt markRight kindRight fieldsRight inOrder verdictAt verdictFrom verdictOf
+unfolding positionAt markRight kindRight fieldsRight inOrder faultsAt faultsFrom faultsOf verdictOf
 begins-accepted = refl
 
 grows : (at : ℕ) → Grows [] (played at)
 grows at = (record { added = begins; grown = refl }, (record { added = endsAt at; grown = refl }, tt))
 
 accepted-100 : verdictOf (begins ++ endsAt 100) ≡ Accepted 2
-unfolding positionAt markRight kindRight fieldsRight inOrder verdictAt verdictFrom verdictOf
+unfolding positionAt markRight kindRight fieldsRight inOrder faultsAt faultsFrom faultsOf verdictOf
 accepted-100 = refl
 
 accepted-50 : verdictOf (begins ++ endsAt 50) ≡ Accepted 2
-unfolding positionAt markRight kindRight fieldsRight inOrder verdictAt verdictFrom verdictOf
+unfolding positionAt markRight kindRight fieldsRight inOrder faultsAt faultsFrom faultsOf verdictOf
 accepted-50 = refl
 
 position-1 : (at : ℕ) → positionAt (begins ++ endsAt at) 1 ≡ at
@@ -123,7 +123,7 @@ first-call =
     let d = chain-done plain plain-ok sustain-fits (first ∷ []) ((1, begins-accepted), tt) (record { added = begins; grown = refl }, tt) (omega arith) .done-if ((λ i a b. omega arith), tt) in
     first-done plain (freshOf 0) 0 first [] d
 
-second-call : continueOf plain (begins ++ endsAt 50) reached 100 (replicate 28 half) ≡ leavesPart (says (Refused GivenState) reached) (replicate 28 half)
+second-call : continueOf plain (begins ++ endsAt 50) reached 100 (replicate 28 half) ≡ keptPart reached (replicate 28 half) GivenState
 second-call =
     late begins (begins ++ endsAt 50) 1 2 begins-accepted accepted-50 (record { added = endsAt 50; grown = refl }) 100 plain reached refl plain-ok (replicate 28 half) (omega arith) 1 (omega arith) (omega arith)
     (rw (position-1 50) (omega arith))

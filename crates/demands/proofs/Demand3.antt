@@ -4,7 +4,7 @@
 -- An honest shelf is so never refused with 8. The sustain setting is a value of an f64, which is what owning it tells. Assumes nothing.
 use mathlib.Core.Path.{_≡_, refl, sym, ap, _∙_}
 use mathlib.Core.Bool.{true}
-use mathlib.Core.List.{List, _++_}
+use mathlib.Core.List.{List, [], _++_}
 use Prim.Native.Nat.{ℕ, _+_, _-_, _*_, _/_, _≤_, _<_}
 use native.Mathlib.Nat.{zero-add}
 use native.Mathlib.Omega.{arith}
@@ -36,13 +36,13 @@ use Rattle.state.proofs.RunsOn.{samples-on, samples-length}
 use Rattle.state.proofs.Entries.{entries-on, entries-length, entry-at}
 use Rattle.state.proofs.Depends.{Shared, state-shared, differing-shared}
 use Rattle.state.proofs.Acted.{acted-fresh}
-use Rattle.render.specs.Order.{judgedOf}
-use Rattle.render.specs.Calls as render
-use Rattle.render.specs.Calls.{renderOf}
+use Rattle.judging.specs.Judging.{isRoom}
+use Rattle.judging.proofs.Refusals.{none-refused, none-newly}
+use Rattle.render.specs.Calls.{says, renderOf}
 use Rattle.demands.proofs.Honest.{honest}
 use Rattle.rerender.specs.declared.Plan.the-variants.{Nothing}
-use Rattle.rerender.specs.Rerender.{checkedOf, planOf, entryAt, startOf, isStart, fromOf, rerenderOf}
-use Rattle.rerender.proofs.Cases.{made-is, plan-equal, plan-late, plan-from}
+use Rattle.rerender.specs.Rerender.{planOf, entryAt, startOf, isStart, rerenderOf}
+use Rattle.rerender.proofs.Cases.{made-is, plan-equal, plan-late, plan-from, checks, checks-pass}
 
 -- what a render of s leaves, of n samples
 abbrev pub soundOf : Settings → List ℕ → ℕ → List Float
@@ -78,23 +78,25 @@ entry-left g s n i h =
     entry-words (entriesFrom g s 0 (freshOf 0) (entriesFor n)) i (freshOf 0) (rw (entries-length g s 0 (freshOf 0) (entriesFor n)) h)
     ∙ ap entryOf (entry-at g s 0 (freshOf 0) (entriesFor n) i (freshOf 0) h)
 
+-- an output and a shelf of such sizes are room
+room-lent : (out : List Float) (shelf : List ℕ) → Lent out shelf → isRoom (length out) (length shelf) ≡ true
+room-lent out shelf z = rw (le-leb (length out) 16777216 (z .short), eq-eqb (length shelf) (wordsFor (length out)) (z .fits)) refl
+
 -- a render of an accepted score is done, and leaves these
 pub rendered : (g : Settings) → settingsOk g ≡ true → (s : List ℕ) → Taken s → (out : List Float) (shelf : List ℕ) → Lent out shelf
-    → renderOf g s out shelf ≡ leaves (render.says (Done (length out)) (stateFrom g s 0 (freshOf 0) (length out))) (soundOf g s (length out)) (shelvedOf g s (length out))
-unfolding renderOf judgedOf
-rendered g ok s a out shelf z = rw (ok, le-leb (length out) 16777216 (z .short), eq-eqb (length shelf) (wordsFor (length out)) (z .fits), a .accepted) refl
+    → renderOf g s out shelf ≡ leaves (says (Done (length out)) (stateFrom g s 0 (freshOf 0) (length out))) (soundOf g s (length out)) (shelvedOf g s (length out))
+unfolding renderOf
+rendered g ok s a out shelf z = rw (none-refused g (isRoom (length out) (length shelf)) s (a .records) ok (room-lent out shelf z) (a .accepted)) refl
 
 -- the checks are passed
-pub checked : (g : Settings) (old new : List ℕ) → Edit g old new → (out : List Float) (shelf : List ℕ) → Lent out shelf → checkedOf g old new (length out) (length shelf) ≡ Done 0
-unfolding judgedOf
+pub checked : (g : Settings) (old new : List ℕ) → Edit g old new → (out : List Float) (shelf : List ℕ) → Lent out shelf → checks g old new (length out) (length shelf) ≡ []
 checked g old new x out shelf z =
-    rw (x .settings, le-leb (length out) 16777216 (z .short), eq-eqb (length shelf) (wordsFor (length out)) (z .fits), x .old-taken .accepted, x .new-taken .accepted) refl
+    rw (none-refused g (isRoom (length out) (length shelf)) old (x .old-taken .records) (x .settings) (room-lent out shelf z) (x .old-taken .accepted), none-newly new (x .new-taken .records) (x .new-taken .accepted)) refl
 
 -- demand 3, its last sentence: where the scores are equal or the first change lies at or past the end, nothing is written and the count is nought, whatever stands in the output and in the shelf
 module _ (g : Settings) (old new : List ℕ) (x : Edit g old new) (out : List Float) (shelf : List ℕ) (z : Lent out shelf) where
   pub demand-3-nothing : planOf old new (length out) ≡ Nothing → rerenderOf g old new out shelf ≡ leaves (Done 0) out shelf
-  unfolding rerenderOf
-  demand-3-nothing q = rw (checked g old new x out shelf z, q) refl
+  demand-3-nothing q = checks-pass g old new out shelf (checked g old new x out shelf z) ∙ rw q refl
 
   pub nothing-equal : old ≡ new → rerenderOf g old new out shelf ≡ leaves (Done 0) out shelf
   nothing-equal e =
@@ -165,10 +167,10 @@ module _ (g : Settings) (old new : List ℕ) (x : Edit g old new) (p : ℕ) (dif
       -- demand 3
       pub demand-3 : rerenderOf g old new out shelf
           ≡ leaves (Done (length out - m * mark)) (take (m * mark) out ++ drop (m * mark) (soundOf g new (length out))) (take (m * entryWords) shelf ++ drop (m * entryWords) (shelvedOf g new (length out)))
-      unfolding rerenderOf fromOf
       demand-3 =
           let there : m < entriesFor (length out) = start-there (length out) p heard in
-          rw (checked g old new x out shelf z, ← plan-from old new (length out) p differs heard, never-8, made-is g old new m out shelf (z .fits), start-is, sound-after (length out) (omega arith), shelf-after (length out) (omega arith)) refl
+          checks-pass g old new out shelf (checked g old new x out shelf z)
+          ∙ rw (← plan-from old new (length out) p differs heard, never-8, made-is g old new m out shelf (z .fits), start-is, sound-after (length out) (omega arith), shelf-after (length out) (omega arith)) refl
 
     -- the same in terms of renders of as many samples: one of the old score left the start entry, and one of the new score is what is heard from the mark on
     module _ (out₁ out₂ : List Float) (shelf₁ shelf₂ : List ℕ) (z₁ : Lent out₁ shelf₁) (z₂ : Lent out₂ shelf₂) (long₁ : length out₁ ≡ length out) (long₂ : length out₂ ≡ length out)

@@ -35,7 +35,7 @@ use Rattle.render.specs.Calls.{renderOf}
 use Rattle.rerender.specs.declared.Plan.the-variants.{Nothing}
 use Rattle.rerender.specs.Rerender.{planOf, countFor, rerenderOf}
 use Rattle.demands.specs.Edits.{editsFrom, lastScore, answersFrom, allCounted}
-use Rattle.rerender.proofs.Cases.{plan-equal, plan-late, plan-from}
+use Rattle.rerender.proofs.Cases.{plan-equal, plan-late, plan-from, checks-pass}
 use Rattle.demands.proofs.Demand3.{soundOf, shelvedOf, atMark, Taken, Edit, Lent, entry-left, rendered, checked, demand-3}
 
 abbrev Rendering : Type 0
@@ -92,8 +92,7 @@ module _ (g : Settings) (old new : List ℕ) (x : Edit g old new) (n : ℕ) (sho
 
   -- where nothing is made, nothing that is heard has changed
   unchanged : Nothing ≡ planOf old new (length out) → soundOf g old n ≡ soundOf g new n → shelvedOf g old n ≡ shelvedOf g new n → Edited (rerenderOf g old new out shelf)
-  unfolding rerenderOf
-  unchanged q a b = rw (checked g old new x out shelf lent, ← q) (record { whole = record { heard-is = a; stored-is = b }; counted = rw (← ap (planOf old new) long, ← q) refl })
+  unchanged q a b = rw (checks-pass g old new out shelf (checked g old new x out shelf lent), ← q) (record { whole = record { heard-is = a; stored-is = b }; counted = rw (← ap (planOf old new) long, ← q) refl })
 
   shared-to : (p q : ℕ) → differenceOf old new ≡ At p → q ≤ p → Shared old new q (countBelow old q)
   shared-to p q e h = differing-shared old new (x .old-taken .records) (x .new-taken .records) p q (x .old-taken .accepted) (x .new-taken .accepted) e h

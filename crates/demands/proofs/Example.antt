@@ -13,7 +13,7 @@ use Rattle.answers.specs.declared.Answer.the-variants.{Done}
 use Rattle.score.specs.declared.Difference.the-variants.{At}
 use Rattle.score.specs.declared.Verdict.the-variants.{Accepted}
 use Rattle.score.specs.Record.{positionAt}
-use Rattle.score.specs.Score.{markRight, kindRight, fieldsRight, inOrder, verdictAt, verdictFrom, verdictOf}
+use Rattle.score.specs.Score.{markRight, kindRight, fieldsRight, inOrder, faultsAt, faultsFrom, faultsOf, verdictOf}
 use Rattle.score.specs.Apart.{sameTo, firstFrom, differenceOf}
 use Rattle.shelf.specs.Shelf.{entryWords, wordsFor, entryOf}
 use Rattle.shelf.proofs.There.{entry-length}
@@ -27,7 +27,7 @@ abbrev pub edited : List ℕ
 edited = begins ++ 0x56 ∷ 0x4E ∷ 0x88 ∷ 0x13 ∷ 0 ∷ 0 ∷ 2 ∷ 69 ∷ 0 ∷ 0 ∷ []
 
 edited-accepted : verdictOf edited ≡ Accepted 2
-unfolding positionAt markRight kindRight fieldsRight inOrder verdictAt verdictFrom verdictOf
+unfolding positionAt markRight kindRight fieldsRight inOrder faultsAt faultsFrom faultsOf verdictOf
 edited-accepted = refl
 
 differs : differenceOf begins edited ≡ At 5000

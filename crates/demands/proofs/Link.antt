@@ -2,7 +2,7 @@
 -- and the rest of the chain after it. Assumes nothing.
 use mathlib.Core.Path.{_≡_, refl, sym, ap, _∙_}
 use mathlib.Core.Bool.{Bool, true, false, _&&_}
-use mathlib.Core.List.{List, _∷_}
+use mathlib.Core.List.{List, [], _∷_}
 use Prim.Native.Nat.{ℕ, _+_, _*_, _≤_, _<_}
 use native.Mathlib.Nat.{zero-add}
 use native.Mathlib.Omega.{arith}
@@ -11,8 +11,11 @@ use lib.ListN.{length}
 use lib.Ieee.{Float}
 use borrow.Author.Tests.{le-leb, leb-true, eq-eqb, eqb-true, ne-eqb}
 use Rattle.answers.specs.declared.Answer.{Answer}
+use Rattle.answers.specs.Order.{unless, firstOf}
 use Rattle.answers.specs.declared.Answer.the-variants.{Done, Refused}
+use Rattle.answers.specs.declared.Refusal.{Refusal}
 use Rattle.answers.specs.declared.Refusal.the-variants.{GivenState}
+use Rattle.answers.proofs.Order.{first-through, passed, none-both, done-none}
 use Rattle.score.specs.declared.Verdict.the-variants.{Accepted}
 use Rattle.score.specs.Record.{countOf, positionAt}
 use Rattle.score.specs.Score.{verdictOf}
@@ -29,18 +32,17 @@ use Rattle.state.specs.Heart.{stateFrom, samplesFrom}
 use Rattle.state.proofs.RunsOn.{state-on}
 use Rattle.state.proofs.Depends.{Shared, state-shared, samples-shared, grown-shared}
 use Rattle.state.proofs.Acted.{acted-fresh}
-use Rattle.render.specs.Order.{most, unless}
-use Rattle.render.specs.Calls.{says, PartOutcome, leavesPart, isStretch, isGiven, continueAnswer, continuedOf, continueOf}
+use Rattle.judging.specs.Judging.{refusalsOf, most, isStretch}
+use Rattle.judging.proofs.Refusals.{all-passed, none-refused}
+use Rattle.render.specs.Calls.{PartOutcome, isGiven, continueRefusals, madePart, keptPart, continueOf}
 use Rattle.demands.specs.Chain.{Step, ChainOutcome, andThen, chainFrom, AllDone, Grown, NoneBelow}
-use Rattle.render.proofs.Judging.{by-score, unless-no, passed, all-passed}
 
 -- ---- one call
 -- what a call has passed that answers 0
 pub record PassedCall (g : Settings) (t : List ℕ) (v : State) (p n : ℕ) : Type 0 where
   pub settings : settingsOk g ≡ true
   pub in-time : p + n ≤ most
-  pub records : ℕ
-  pub accepted : verdictOf t ≡ Accepted records
+  pub accepted : verdictOf t ≡ Accepted (countOf t)
   pub acted : v .acted ≡ countBelow t p
 
 module _ (g : Settings) (t : List ℕ) (v : State) (p : ℕ) (part : List Float) where
@@ -50,41 +52,42 @@ module _ (g : Settings) (t : List ℕ) (v : State) (p : ℕ) (part : List Float)
   abbrev call : PartOutcome
   call = continueOf g t v p part
 
-  -- what a call answers is what the order of refusals gives
-  pub answer-is : call .result .answer ≡ continueAnswer g t v p n
+  abbrev refusals : List Refusal
+  refusals = continueRefusals g t (isGiven t p v) p n
+
+  -- what a call answers is its first refusal, or done with the part
+  answer-is : call .result .answer ≡ firstOf refusals Refused (Done n)
   unfolding continueOf
-  answer-is = go (continueAnswer g t v p n)
-    where
-      go : (a : Answer) → continuedOf a g t v p part .result .answer ≡ a
-      go (Done k) = refl
-      go (Refused why) = refl
+  answer-is = first-through (λ (o : PartOutcome). o .result .answer) refusals (keptPart v part) (madePart g t v p n)
 
-  pub call-passed : call .result .answer ≡ Done n → PassedCall g t v p n
-  call-passed e =
-      let a = all-passed g (isStretch p n) t (unless (isGiven t p v) GivenState (Done n)) n (sym answer-is ∙ e) in
-      let b = both (isState v) (eqb (v .acted) (countBelow t p)) (passed (isGiven t p v) GivenState (Done n) n (a .score .follows) .0) in
-      record { settings = a .settings; in-time = leb-true (p + n) most (a .sized); records = a .score .records; accepted = a .score .accepted; acted = eqb-true (v .acted) (countBelow t p) (b .1) }
+  pub done-refuses-none : (m : ℕ) → call .result .answer ≡ Done m → refusals ≡ []
+  done-refuses-none m e = done-none refusals n m (sym answer-is ∙ e)
 
-  -- and what it leaves goes by its answer: where that is 0, its samples, and the state after them
-  by-answer : (a : Answer) → continueAnswer g t v p n ≡ a → call ≡ continuedOf a g t v p part
+  pub call-passed : (m : ℕ) → call .result .answer ≡ Done m → PassedCall g t v p n
+  call-passed m e =
+      let b = none-both (refusalsOf g (isStretch p n) t) (unless (isGiven t p v) GivenState) (done-refuses-none m e) in
+      let a = all-passed g (isStretch p n) t (b .0) in
+      let c = both (isState v) (eqb (v .acted) (countBelow t p)) (passed (isGiven t p v) GivenState (b .1)) in
+      record { settings = a .settings; in-time = leb-true (p + n) most (a .sized); accepted = a .accepted; acted = eqb-true (v .acted) (countBelow t p) (c .1) }
+
+  -- where that is 0, it leaves its samples, and the state after them
+  pub call-leaves : (m : ℕ) → call .result .answer ≡ Done m → call ≡ madePart g t v p n
   unfolding continueOf
-  by-answer a e = rw e refl
-
-  pub call-leaves : call .result .answer ≡ Done n → call ≡ leavesPart (says (Done n) (stateFrom g t p v n)) (samplesFrom g t p v n)
-  call-leaves e = by-answer (Done n) (sym answer-is ∙ e)
+  call-leaves m e = rw (done-refuses-none m e) refl
 
   -- under good settings, in time, with an accepted score, the given state alone counts
   module _ (ok : settingsOk g ≡ true) (l : p + n ≤ most) (m : ℕ) (a : verdictOf t ≡ Accepted m) where
-    by-state : call .result .answer ≡ unless (isGiven t p v) GivenState (Done n)
-    by-state = answer-is ∙ sym (by-score g (isStretch p n) t (unless (isGiven t p v) GivenState (Done n)) ok (le-leb (p + n) most l) (Accepted m) a)
+    none-before : refusalsOf g (isStretch p n) t ≡ []
+    none-before = none-refused g (isStretch p n) t m ok (le-leb (p + n) most l) a
 
     -- 0 where it is a state and as many records acted as are below p
     pub call-done : isState v ≡ true → v .acted ≡ countBelow t p → call .result .answer ≡ Done n
-    call-done i c = by-state ∙ rw (i, eq-eqb (v .acted) (countBelow t p) c) refl
+    call-done i c = answer-is ∙ rw (none-before, i, eq-eqb (v .acted) (countBelow t p) c) refl
 
     -- 10 where another number of records acted: all is left as it came
-    pub call-late : (v .acted ≡ countBelow t p → ⊥) → call ≡ leavesPart (says (Refused GivenState) v) part
-    call-late f = by-answer (Refused GivenState) (sym answer-is ∙ by-state ∙ sym (unless-no (isGiven t p v) GivenState (Done n) (go (isState v))))
+    pub call-late : (v .acted ≡ countBelow t p → ⊥) → call ≡ keptPart v part GivenState
+    unfolding continueOf
+    call-late f = rw (none-before, go (isState v)) refl
       where
         go : (b : Bool) → (b && eqb (v .acted) (countBelow t p)) ≡ false
         go true = ne-eqb (v .acted) (countBelow t p) f
@@ -131,7 +134,7 @@ module _ (s t : List ℕ) (m k : ℕ) (a : verdictOf s ≡ Accepted m) (b : verd
         ap (λ (w : State). stateFrom g t p w n) e ∙ sym (rw (zero-add p) at (state-on g t 0 (freshOf 0) p n))
 
     -- a record added below p: as many have not acted, and the call is 10
-    pub late : settingsOk g ≡ true → (part : List Float) → p + length part ≤ most → (i : ℕ) → countOf s ≤ i → i < countOf t → positionAt t i < p → continueOf g t v p part ≡ leavesPart (says (Refused GivenState) v) part
+    pub late : settingsOk g ≡ true → (part : List Float) → p + length part ≤ most → (i : ℕ) → countOf s ≤ i → i < countOf t → positionAt t i < p → continueOf g t v p part ≡ keptPart v part GivenState
     late ok part l i y z h = call-late g t v p part ok l k b (λ e. let f : p ≤ positionAt t i = none-below (sym e ∙ acted-is) i y z in omega arith)
 
 -- ---- the steps of a chain
@@ -144,9 +147,9 @@ module _ (g : Settings) (v : State) (p : ℕ) (x : Step) (xs : List Step) where
   onward = p + length (x .part)
 
   pub chain-step : continueOf g (x .score) v p (x .part) .result .answer ≡ Done (length (x .part))
-      → chainFrom g v p (x ∷ xs) ≡ andThen (leavesPart (says (Done (length (x .part))) after) (samplesFrom g (x .score) p v (length (x .part)))) (chainFrom g after onward xs)
+      → chainFrom g v p (x ∷ xs) ≡ andThen (madePart g (x .score) v p (length (x .part))) (chainFrom g after onward xs)
   unfolding chainFrom
-  chain-step e = ap (λ (c : PartOutcome). andThen c (chainFrom g (c .result .state) onward xs)) (call-leaves g (x .score) v p (x .part) e)
+  chain-step e = ap (λ (c : PartOutcome). andThen c (chainFrom g (c .result .state) onward xs)) (call-leaves g (x .score) v p (x .part) (length (x .part)) e)
 
   pub first-done : AllDone g v p (x ∷ xs) → continueOf g (x .score) v p (x .part) .result .answer ≡ Done (length (x .part))
   unfolding chainFrom

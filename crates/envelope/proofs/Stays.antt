@@ -13,7 +13,7 @@ use Rattle.runs.proofs.Laws.{repeated-keeps}
 use Rattle.answers.specs.declared.Refusal.the-variants.{Setting, Argument}
 use Rattle.answers.specs.Order.{unless}
 use Rattle.answers.specs.Outcome.{Outcome}
-use Rattle.answers.proofs.First.{both-passed, first-keeps}
+use Rattle.answers.proofs.Order.{both-held, first-keeps}
 use Rattle.domain.specs.Domain.{isRate}
 use Rattle.envelope.specs.Limits.{isAdsr, isEnvelope, clampedOf, sampleTimeOf}
 use Rattle.envelope.specs.Stages.{freshOf, stepOf, triggeredOf, releasedOf}
@@ -53,7 +53,7 @@ process-keeps b rate xs g =
     let sound = isEnvelope (b .envelope) in
     first-keeps (unless usable Setting ++ unless sound Argument) _ _ (λ (o : Outcome Processed). Good (o .result .block)) (λ why. g)
     (λ e.
-    let t = both-passed usable sound Setting Argument e .0 in
+    let t = both-held usable sound Setting Argument e .0 in
     record {
       sustain-fits = g .sustain-fits;
       accepted = run-keeps (b .adsr) rate (b .envelope) (and-l (isAdsr (b .adsr)) (isRate rate) t) (g .sustain-fits) (and-r (isAdsr (b .adsr)) (isRate rate) t) (g .accepted) (length xs);

@@ -3,7 +3,7 @@ use mathlib.Core.Path.{_≡_, refl}
 use mathlib.Core.List.{List, [], _∷_, _++_}
 use Prim.Native.Nat.{ℕ}
 use Rattle.score.specs.Record.{positionAt}
-use Rattle.score.specs.Score.{markRight, kindRight, fieldsRight, inOrder, verdictAt, verdictFrom, verdictOf}
+use Rattle.score.specs.Score.{markRight, kindRight, fieldsRight, inOrder, faultsAt, faultsFrom, faultsOf}
 use Rattle.score.proofs.Marks.{example}
 use Rattle.listing.specs.Listing.{spelt, linesTo, listingOf}
 
@@ -15,10 +15,10 @@ printed =
     ++ (49 ∷ 48 ∷ 48 ∷ 32 ∷ 111 ∷ 102 ∷ 102 ∷ 32 ∷ 54 ∷ 57 ∷ 32 ∷ 48 ∷ 10 ∷ [])
 
 pub example-listed : listingOf example ≡ printed
-unfolding positionAt markRight kindRight fieldsRight inOrder verdictAt verdictFrom verdictOf spelt linesTo
+unfolding positionAt markRight kindRight fieldsRight inOrder faultsAt faultsFrom faultsOf spelt linesTo
 example-listed = refl
 
 -- a wrong mark in the first record is `refused 2 0`
 pub wrong-mark : listingOf (0 ∷ 0 ∷ 0 ∷ 0 ∷ 0 ∷ 0 ∷ 0 ∷ 0 ∷ 0 ∷ 0 ∷ []) ≡ 114 ∷ 101 ∷ 102 ∷ 117 ∷ 115 ∷ 101 ∷ 100 ∷ 32 ∷ 50 ∷ 32 ∷ 48 ∷ 10 ∷ []
-unfolding positionAt markRight kindRight fieldsRight inOrder verdictAt verdictFrom verdictOf spelt linesTo
+unfolding positionAt markRight kindRight fieldsRight inOrder faultsAt faultsFrom faultsOf spelt linesTo
 wrong-mark = refl

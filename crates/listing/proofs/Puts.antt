@@ -14,8 +14,12 @@ use Rattle.answers.specs.declared.Refusal.the-variants.{Score}
 use Rattle.answers.specs.declared.ScoreFault.{ScoreFault}
 use Rattle.answers.specs.Numbers.{numbersOf}
 use Rattle.score.specs.declared.Record.{Record}
-use Rattle.score.specs.Record.{recordAt}
-use Rattle.listing.specs.Listing.{space, newline, refusedWord, decimalOf, lineOf, linesTo, refusedText, listingOf}
+use Rattle.score.specs.declared.Verdict.the-variants.{Accepted, Faulty}
+use Rattle.score.specs.Record.{countOf, recordAt}
+use Rattle.score.specs.Score.{verdictOf}
+use Rattle.score.proofs.Verdicts.{accepted-first, faulty-first}
+use Rattle.score.proofs.Cuts.{accepted-count}
+use Rattle.listing.specs.Listing.{space, newline, refusedWord, decimalOf, lineOf, linesTo, acceptedText, refusedText, listingOf}
 use Rattle.listing.specs.Outcome.{Put, Listed}
 
 -- no text
@@ -61,6 +65,13 @@ put-both {a} {b} {x} {at} {y} {z} {m} {n} p q =
       moved = omega arith;
       bytes = q .bytes ∙ rw (low, high, append-assoc (take at x) a b) refl;
     }
+
+-- the text of a verdict
+pub listing-accepted : (s : List ℕ) (n : ℕ) → verdictOf s ≡ Accepted n → listingOf s ≡ acceptedText s n
+listing-accepted s n e = accepted-first s n e refusedText (acceptedText s (countOf s)) ∙ ap (acceptedText s) (sym (accepted-count s n e))
+
+pub listing-refused : (s : List ℕ) (fault : ScoreFault) → verdictOf s ≡ Faulty fault → listingOf s ≡ refusedText fault
+listing-refused s fault e = faulty-first s fault e refusedText (acceptedText s (countOf s))
 
 -- a score's text at the front of a buffer with room is the call's outcome
 pub put-listed : (s text x y : List ℕ) (r : ℕ) → 102413 ≤ length x → listingOf s ≡ text → Put text x 0 y r → Listed s x y r

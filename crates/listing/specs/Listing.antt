@@ -8,13 +8,12 @@ use Rattle.answers.specs.declared.Answer.the-variants.{Refused}
 use Rattle.answers.specs.declared.Refusal.the-variants.{Score}
 use Rattle.answers.specs.declared.ScoreFault.{ScoreFault}
 use Rattle.answers.specs.Numbers.{numbersOf}
+use Rattle.answers.specs.Order.{firstOf}
 use Rattle.score.specs.declared.Kind.{Kind}
 use Rattle.score.specs.declared.Kind.the-variants.{On, Off, Reset}
 use Rattle.score.specs.declared.Record.{Record}
-use Rattle.score.specs.declared.Verdict.{Verdict}
-use Rattle.score.specs.declared.Verdict.the-variants.{Accepted, Faulty}
-use Rattle.score.specs.Record.{recordAt}
-use Rattle.score.specs.Score.{verdictOf}
+use Rattle.score.specs.Record.{countOf, recordAt}
+use Rattle.score.specs.Score.{faultsOf}
 
 -- ---- words
 abbrev pub space : List ℕ
@@ -64,10 +63,6 @@ refusedText fault =
     let numbers = numbersOf (Refused (Score fault)) in
     refusedWord ++ decimalOf (numbers .number) ++ space ++ decimalOf (numbers .place) ++ newline
 
-abbrev pub textOf : List ℕ → Verdict → List ℕ
-textOf s (Accepted n) = acceptedText s n
-textOf s (Faulty fault) = refusedText fault
-
--- the listing of a score
+-- the listing of a score: its first fault, or its records
 abbrev pub listingOf : List ℕ → List ℕ
-listingOf s = textOf s (verdictOf s)
+listingOf s = firstOf (faultsOf s) refusedText (acceptedText s (countOf s))

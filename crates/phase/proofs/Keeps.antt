@@ -15,7 +15,7 @@ use Rattle.floats.proofs.Fraction.{fraction-in}
 use Rattle.floats.proofs.Largest.{add-finite-unit}
 use Rattle.answers.specs.declared.Refusal.the-variants.{Argument}
 use Rattle.answers.specs.Order.{unless}
-use Rattle.answers.proofs.First.{passed, first-keeps}
+use Rattle.answers.proofs.Order.{held, first-keeps}
 use Rattle.phase.specs.Phase.{isState, wrapOf, withPhase, withIncrement}
 use Rattle.phase.specs.Phase.{newOf, setFrequencyOf, setIncrementOf, nextOf, setPhaseOf, resetOf}
 use Rattle.phase.specs.declared.Cycles.{Cycles}
@@ -62,10 +62,10 @@ module _ (a : PhaseAccumulator) (g : Good a) where
   set-frequency-keeps f r =
       let q = div binary32 f r in
       let before = isState a && finite f && finite r && lt (lit0 binary32) r in
-      first-keeps (unless (before && finite q) Argument) _ _ (λ (s : Changed). Good (s .accumulator)) (λ why. g) (λ e. at-increment q (div-fits binary32 f r) (and-r before (finite q) (passed (before && finite q) Argument e)))
+      first-keeps (unless (before && finite q) Argument) _ _ (λ (s : Changed). Good (s .accumulator)) (λ why. g) (λ e. at-increment q (div-fits binary32 f r) (and-r before (finite q) (held (before && finite q) Argument e)))
 
   pub set-increment-keeps : (x : Cycles) → T (fits binary32 (x .0)) → Good (setIncrementOf a x .accumulator)
-  set-increment-keeps x w = first-keeps (unless (isState a && finite (x .0)) Argument) _ _ (λ (r : Changed). Good (r .accumulator)) (λ why. g) (λ e. at-increment (x .0) w (and-r (isState a) (finite (x .0)) (passed (isState a && finite (x .0)) Argument e)))
+  set-increment-keeps x w = first-keeps (unless (isState a && finite (x .0)) Argument) _ _ (λ (r : Changed). Good (r .accumulator)) (λ why. g) (λ e. at-increment (x .0) w (and-r (isState a) (finite (x .0)) (held (isState a && finite (x .0)) Argument e)))
 
   pub next-keeps : Good (nextOf a .accumulator)
   next-keeps =
@@ -73,7 +73,7 @@ module _ (a : PhaseAccumulator) (g : Good a) where
       first-keeps (unless (isState a) Argument) _ _ (λ (r : Stepped). Good (r .accumulator)) (λ why. g) (λ e. at-wrap sum (add-fits binary32 (a .phase .0) (a .increment .0)) sum-finite)
 
   pub set-phase-keeps : (x : Cycles) → T (fits binary32 (x .0)) → Good (setPhaseOf a x .accumulator)
-  set-phase-keeps x w = first-keeps (unless (isState a && finite (x .0)) Argument) _ _ (λ (r : Changed). Good (r .accumulator)) (λ why. g) (λ e. at-wrap (x .0) w (and-r (isState a) (finite (x .0)) (passed (isState a && finite (x .0)) Argument e)))
+  set-phase-keeps x w = first-keeps (unless (isState a && finite (x .0)) Argument) _ _ (λ (r : Changed). Good (r .accumulator)) (λ why. g) (λ e. at-wrap (x .0) w (and-r (isState a) (finite (x .0)) (held (isState a && finite (x .0)) Argument e)))
 
   pub reset-keeps : Good (resetOf a .accumulator)
   reset-keeps = first-keeps (unless (isState a) Argument) _ _ (λ (r : Changed). Good (r .accumulator)) (λ why. g) (λ e. at-phase (lit0 binary32) (ofBits-fits binary32 0) (unfold ofBits in unfold le in tt))

@@ -1,6 +1,4 @@
 -- What holds of renders beyond the contracts, in the order to read it.
--- the order of refusals, case by case
-pub mod Judging
 -- what a render and a continued one leave, case by case
 pub mod Outcomes
 -- two outcomes of a public function are equal

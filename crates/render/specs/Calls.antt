@@ -3,14 +3,16 @@
 -- "A refusal .. hands back state by value as it came, and writes nowhere". Stricter than 01: a render answers its end state too, the one before sample N is begun; refused, the fresh state.
 -- The samples, states and entries are those of `state`'s specs/Heart.antt. Definitions only.
 use mathlib.Core.Bool.{Bool, _&&_}
-use mathlib.Core.List.{List}
-use Prim.Native.Nat.{ℕ, _+_}
-use lib.Dec.{leb, eqb}
+use mathlib.Core.List.{List, _++_}
+use Prim.Native.Nat.{ℕ}
+use lib.Dec.{eqb}
 use lib.ListN.{length}
 use lib.Ieee.{Float}
 use Rattle.sections.specs.Outcome.{Outcome, leaves}
+use Rattle.answers.specs.Order.{unless, firstOf}
 use Rattle.answers.specs.declared.Answer.{Answer}
 use Rattle.answers.specs.declared.Answer.the-variants.{Done, Refused}
+use Rattle.answers.specs.declared.Refusal.{Refusal}
 use Rattle.answers.specs.declared.Refusal.the-variants.{GivenState}
 use Rattle.score.specs.Below.{countBelow}
 use Rattle.shelf.specs.Shelf.{entriesFor, shelfOf}
@@ -19,24 +21,23 @@ use Rattle.state.specs.declared.State.{State}
 use Rattle.state.specs.State.{freshOf}
 use Rattle.state.specs.Limits.{isState}
 use Rattle.state.specs.Heart.{stateFrom, samplesFrom, entriesFrom}
+use Rattle.judging.specs.Judging.{refusalsOf, isRoom, isStretch}
 use Rattle.render.specs.declared.Rendered.{Rendered}
-use Rattle.render.specs.Order.{most, unless, judgedOf, isRoom}
 
 abbrev pub says : Answer → State → Rendered
 says answer v = record { answer = answer; state = v }
 
 -- ---- render: from the fresh state at sample 0
-abbrev pub renderAnswer : Settings → List ℕ → ℕ → ℕ → Answer
-renderAnswer g s n words = judgedOf g (isRoom n words) s (Done n)
+-- n samples and their entries
+abbrev pub madeOf : Settings → List ℕ → ℕ → Outcome Rendered
+madeOf g s n = leaves (says (Done n) (stateFrom g s 0 (freshOf 0) n)) (samplesFrom g s 0 (freshOf 0) n) (shelfOf (entriesFrom g s 0 (freshOf 0) (entriesFor n)))
 
--- n samples and their entries; a refusal leaves all as it came
-abbrev pub renderedOf : Answer → Settings → List ℕ → List Float → List ℕ → Outcome Rendered
-renderedOf (Done n) g s out shelf =
-    leaves (says (Done n) (stateFrom g s 0 (freshOf 0) n)) (samplesFrom g s 0 (freshOf 0) n) (shelfOf (entriesFrom g s 0 (freshOf 0) (entriesFor n)))
-renderedOf (Refused why) g s out shelf = leaves (says (Refused why) (freshOf 0)) out shelf
-
+-- a refusal leaves all as it came
 unfoldable pub renderOf : Settings → List ℕ → List Float → List ℕ → Outcome Rendered
-renderOf g s out shelf = renderedOf (renderAnswer g s (length out) (length shelf)) g s out shelf
+renderOf g s out shelf =
+    firstOf (refusalsOf g (isRoom (length out) (length shelf)) s)
+    (λ (why : Refusal). leaves (says (Refused why) (freshOf 0)) out shelf)
+    (madeOf g s (length out))
 
 -- ---- continue: from a given state v at position p
 pub record PartOutcome : Type 0 where
@@ -46,24 +47,21 @@ pub record PartOutcome : Type 0 where
 abbrev pub leavesPart : Rendered → List Float → PartOutcome
 leavesPart r part = record { result = r; heard = part }
 
--- n samples from p on end at or before sample 16,777,216
-abbrev pub isStretch : ℕ → ℕ → Bool
-isStretch p n = leb (p + n) most
-
 -- a state, and as many records acted as the score has below p
 abbrev pub isGiven : List ℕ → ℕ → State → Bool
 isGiven s p v = isState v && eqb (v .acted) (countBelow s p)
 
-abbrev pub continueAnswer : Settings → List ℕ → State → ℕ → ℕ → Answer
-continueAnswer g s v p n = judgedOf g (isStretch p n) s (unless (isGiven s p v) GivenState (Done n))
+-- 10 after the others, unless what is given is taken
+abbrev pub continueRefusals : Settings → List ℕ → Bool → ℕ → ℕ → List Refusal
+continueRefusals g s given p n = refusalsOf g (isStretch p n) s ++ unless given GivenState
 
-abbrev pub continuedOf : Answer → Settings → List ℕ → State → ℕ → List Float → PartOutcome
-continuedOf (Done n) g s v p part = leavesPart (says (Done n) (stateFrom g s p v n)) (samplesFrom g s p v n)
-continuedOf (Refused why) g s v p part = leavesPart (says (Refused why) v) part
+-- n samples, and the state after them
+abbrev pub madePart : Settings → List ℕ → State → ℕ → ℕ → PartOutcome
+madePart g s v p n = leavesPart (says (Done n) (stateFrom g s p v n)) (samplesFrom g s p v n)
 
--- what is left of the call where 6, 7 and the score's numbers are not given. It serves a private function; no public statement cites it
-abbrev pub goOn : Settings → List ℕ → State → ℕ → List Float → PartOutcome
-goOn g s v p part = continuedOf (unless (isGiven s p v) GivenState (Done (length part))) g s v p part
+-- a refusal leaves the state and the part as they came
+abbrev pub keptPart : State → List Float → Refusal → PartOutcome
+keptPart v part why = leavesPart (says (Refused why) v) part
 
 unfoldable pub continueOf : Settings → List ℕ → State → ℕ → List Float → PartOutcome
-continueOf g s v p part = continuedOf (continueAnswer g s v p (length part)) g s v p part
+continueOf g s v p part = firstOf (continueRefusals g s (isGiven s p v) p (length part)) (keptPart v part) (madePart g s v p (length part))

@@ -2,19 +2,17 @@
 // From the fresh state at sample zero both are the samples that the score's records give; from another state, the samples
 // that they give from there. The end of a part reduces nothing. 01, "Making sample n" and "What a call says".
 ghost use mathlib.Core.Path.{_≡_};
+ghost use lib.ListN.{length};
 ghost use Rattle.score.specs.Below.{Sorted};
 ghost use Rattle.sections.specs.Outcome.{leaves};
-ghost use Rattle.render.specs.Order.{judgedOf, isRoom};
-ghost use Rattle.render.specs.Calls.{renderOf, leavesPart, isStretch, goOn, continueOf};
+ghost use Rattle.answers.specs.Order.{unless, firstOf};
+ghost use Rattle.answers.specs.declared.Refusal.the-variants.{GivenState};
+ghost use Rattle.render.specs.Calls.{renderOf, leavesPart, isGiven, keptPart, madePart, continueOf};
 use answers::Answer;
 use answers::Refusal;
-use score::Verdict;
 use spans::Place;
 use state::Settings;
 use state::State;
-
-// The most samples of an output.
-const MOST: u64 = 16_777_216;
 
 // What a call says, and the state before the sample after its last. Refused, it is the fresh state of a render, and the given
 // one of a continuing call.
@@ -27,8 +25,8 @@ pub struct Rendered {
 pub fn render(settings: Settings, score: &[u8], out: &mut [f64], shelf: &mut [u64]) -> Rendered
     ensures { λ r. ⌜ leaves r (now (out .exit)) (now (shelf .exit)) ≡ renderOf settings (now (score .entry)) (now (out .entry)) (now (shelf .entry)) ⌝ }
 {
-    let room = is_room(out.len(), shelf.len());
-    let answer = judged(settings, room, score, Answer::Done(out.len()));
+    let room = judging::is_room(out.len(), shelf.len());
+    let answer = judging::judged(settings, room, score, Answer::Done(out.len()));
     match answer {
         Answer::Refused(why) => Rendered {
             answer: Answer::Refused(why),
@@ -59,8 +57,8 @@ pub fn continue_render(
 ) -> Rendered
     ensures { λ r. ⌜ leavesPart r (now (part .exit)) ≡ continueOf settings (now (score .entry)) state position (now (part .entry)) ⌝ }
 {
-    let stretch = is_stretch(position, part.len());
-    let answer = judged(settings, stretch, score, Answer::Done(part.len()));
+    let stretch = judging::is_stretch(position, part.len());
+    let answer = judging::judged(settings, stretch, score, Answer::Done(part.len()));
     match answer {
         Answer::Refused(why) => Rendered {
             answer: Answer::Refused(why),
@@ -68,39 +66,6 @@ pub fn continue_render(
         },
         Answer::Done(_) => go_on(settings, score, state, position, part),
     }
-}
-
-// 6, 7, the old or only score, and then the answer that follows.
-pub fn judged(settings: Settings, room: bool, score: &[u8], rest: Answer) -> Answer
-    ensures { λ r. ⌜ r ≡ judgedOf settings room (now (score .entry)) rest ⌝ }
-{
-    if !state::is_settings(settings) {
-        return Answer::Refused(Refusal::Setting);
-    }
-    if !room {
-        return Answer::Refused(Refusal::Size);
-    }
-    match score::judge(score) {
-        Verdict::Accepted(_) => rest,
-        Verdict::Faulty(fault) => Answer::Refused(Refusal::Score(fault)),
-    }
-}
-
-// Whether an output and its shelf have sizes that go together.
-pub fn is_room(samples: usize, words: usize) -> bool
-    ensures { λ r. ⌜ r ≡ isRoom samples words ⌝ }
-{
-    (samples as u64 <= MOST) & (words == shelf::words_for(samples))
-}
-
-// Whether so many samples from a position on end in time.
-pub fn is_stretch(position: u64, samples: usize) -> bool
-    ensures { λ r. ⌜ r ≡ isStretch position samples ⌝ }
-{
-    if position > MOST {
-        return false;
-    }
-    samples as u64 <= MOST - position
 }
 
 // From the given state, or 10. A score in order tells by two of its records whether as many are below as have acted.
@@ -112,7 +77,7 @@ fn go_on(
     part: &mut [f64],
 ) -> Rendered
     requires { ⌜ Sorted (now score) ⌝ }
-    ensures { λ r. ⌜ leavesPart r (now (part .exit)) ≡ goOn settings (now (score .entry)) state position (now (part .entry)) ⌝ }
+    ensures { λ r. ⌜ leavesPart r (now (part .exit)) ≡ firstOf (unless (isGiven (now (score .entry)) position state) GivenState) (keptPart state (now (part .entry))) (madePart settings (now (score .entry)) state position (length (now (part .entry)))) ⌝ }
 {
     let acted = state.acted;
     let samples = part.len();

@@ -1,21 +1,24 @@
 -- The plan, its run and the call, case by case. Assumes nothing.
 use mathlib.Core.Path.{_≡_, refl, sym, _∙_}
 use mathlib.Core.Bool.{Bool, true, false, cond, _&&_}
-use mathlib.Core.List.{List, _++_, append-nil}
+use mathlib.Core.List.{List, [], _++_, append-nil}
 use Prim.Native.Nat.{ℕ, suc, _-_, _*_, _/_, _≤_, _<_}
 use native.Mathlib.Omega.{arith}
 use lib.Dec.{ltb}
 use lib.ListN.{length, take, drop-of-length-le}
 use lib.Ieee.{Float}
 use borrow.Author.Tests.{lt-ltb, le-ltb, ltb-true}
-use Rattle.sections.specs.Outcome.{leaves}
+use Rattle.sections.specs.Outcome.{Outcome, leaves}
+use Rattle.answers.specs.Order.{firstOf}
+use Rattle.answers.specs.declared.Answer.{Answer}
 use Rattle.answers.specs.declared.Answer.the-variants.{Done, Refused}
 use Rattle.answers.specs.declared.Refusal.{Refusal}
 use Rattle.answers.specs.declared.Refusal.the-variants.{StartEntry}
+use Rattle.answers.proofs.Order.{first-append, Leads, leads-first, done-none, refused-leads, none-both}
 use Rattle.score.specs.declared.Difference.{Difference}
 use Rattle.score.specs.declared.Difference.the-variants.{Equal, At}
-use Rattle.score.specs.declared.Verdict.{Verdict}
-use Rattle.score.specs.declared.Verdict.the-variants.{Accepted, Faulty}
+use Rattle.score.specs.declared.Verdict.the-variants.{Accepted}
+use Rattle.score.specs.Record.{countOf}
 use Rattle.score.specs.Score.{verdictOf}
 use Rattle.score.specs.Below.{partsAt, Sorted, Cut}
 use Rattle.score.specs.Apart.{differenceOf}
@@ -31,11 +34,11 @@ use Rattle.spans.specs.declared.Place.{Place}
 use Rattle.spans.specs.Walk.{placeOf}
 use Rattle.sections.specs.Sections.{playOnOf}
 use Rattle.sections.proofs.Agrees.{made}
-use Rattle.render.specs.Order.{isRoom}
-use Rattle.render.proofs.Judging.{Passed, all-passed, Roomy, roomy}
+use Rattle.judging.specs.Judging.{refusalsOf, newRefusalsOf, isRoom}
+use Rattle.judging.proofs.Refusals.{all-passed, new-passed, Roomy, roomy}
 use Rattle.rerender.specs.declared.Plan.{Plan}
 use Rattle.rerender.specs.declared.Plan.the-variants.{Nothing, From}
-use Rattle.rerender.specs.Rerender.{newScored, checkedOf, planFor, planOf, entryAt, startOf, isStart, between, madeFrom, fromOf, runOf, rerenderOf}
+use Rattle.rerender.specs.Rerender.{planFor, planOf, entryAt, startOf, isStart, between, madeFrom, runOf, startRefusals, keptOf, rerenderOf, fromOf}
 
 -- ---- the plan
 module _ (old new : List ℕ) (n : ℕ) where
@@ -113,34 +116,67 @@ module _ (g : Settings) (old new : List ℕ) (m : ℕ) (out : List Float) (shelf
       rw (start-is o ∙ e, made-is f, ← d .heard-is, ← d .stored-is, ← x) refl
 
 -- ---- the call
-pub newly-refused : (new : List ℕ) (v : Verdict) → verdictOf new ≡ v → newScored v (Done 0) ≡ newScored (verdictOf new) (Done 0)
-newly-refused new v e = rw e refl
+-- what is refused before a plan is made, and what the code answers to it
+module _ (g : Settings) (old new : List ℕ) (n words : ℕ) where
+  abbrev pub checks : List Refusal
+  checks = refusalsOf g (isRoom n words) old ++ newRefusalsOf new
 
--- what the checks let through
-pub record Checked (g : Settings) (old new : List ℕ) (n words : ℕ) : Type 0 where
-  pub settings : settingsOk g ≡ true
-  pub room : Roomy n words
-  pub old-records : ℕ
-  pub old-accepted : verdictOf old ≡ Accepted old-records
-  pub new-records : ℕ
-  pub new-accepted : verdictOf new ≡ Accepted new-records
+  abbrev pub answered : Answer
+  answered = firstOf (refusalsOf g (isRoom n words) old) Refused (firstOf (newRefusalsOf new) Refused (Done 0))
 
-pub all-checked : (g : Settings) (old new : List ℕ) (n words k : ℕ) → checkedOf g old new n words ≡ Done k → Checked g old new n words
-all-checked g old new n words k h =
-    let rest = newScored (verdictOf new) (Done 0) in
-    let p : Passed g (isRoom n words) old rest k = all-passed g (isRoom n words) old rest k h in
-    go p (verdictOf new) refl (p .score .follows)
-  where
-    go : Passed g (isRoom n words) old (newScored (verdictOf new) (Done 0)) k → (v : Verdict) → verdictOf new ≡ v → newScored v (Done 0) ≡ Done k → Checked g old new n words
-    go p (Accepted m) e h =
-        record { settings = p .settings; room = roomy n words (p .sized); old-records = p .score .records; old-accepted = p .score .accepted; new-records = m; new-accepted = e }
-    go p (Faulty f) e h = absurd (clash (cc))
+  answered-is : firstOf checks Refused (Done 0) ≡ answered
+  answered-is = first-append (refusalsOf g (isRoom n words) old) (newRefusalsOf new) Refused (Done 0)
+
+  pub answer-none : (k : ℕ) → answered ≡ Done k → checks ≡ []
+  answer-none k e = done-none checks 0 k (answered-is ∙ e)
+
+  pub answer-leads : (why : Refusal) → answered ≡ Refused why → Leads why checks
+  answer-leads why e = refused-leads checks 0 why (answered-is ∙ e)
+
+  -- what the checks let through
+  pub record Checked : Type 0 where
+    pub settings : settingsOk g ≡ true
+    pub room : Roomy n words
+    pub old-accepted : verdictOf old ≡ Accepted (countOf old)
+    pub new-accepted : verdictOf new ≡ Accepted (countOf new)
+
+  pub all-checked : checks ≡ [] → Checked
+  all-checked e =
+      let b = none-both (refusalsOf g (isRoom n words) old) (newRefusalsOf new) e in
+      let p = all-passed g (isRoom n words) old (b .0) in
+      record { settings = p .settings; room = roomy n words (p .sized); old-accepted = p .accepted; new-accepted = new-passed new (b .1) }
+
+  pub answer-checked : (k : ℕ) → answered ≡ Done k → Checked
+  answer-checked k e = all-checked (answer-none k e)
 
 module _ (g : Settings) (old new : List ℕ) (out : List Float) (shelf : List ℕ) where
-  pub checks-refuse : (why : Refusal) → checkedOf g old new (length out) (length shelf) ≡ Refused why → leaves (Refused why) out shelf ≡ rerenderOf g old new out shelf
-  unfolding rerenderOf
-  checks-refuse why e = rw e refl
+  abbrev plan : Plan
+  plan = planOf old new (length out)
 
-  pub checks-pass : (k : ℕ) → checkedOf g old new (length out) (length shelf) ≡ Done k → (plan : Plan) → planOf old new (length out) ≡ plan → runOf g old new plan out shelf ≡ rerenderOf g old new out shelf
+  abbrev tests : List Refusal
+  tests = checks g old new (length out) (length shelf)
+
+  -- what is left where the checks refuse nothing
+  abbrev rest : Outcome Answer
+  rest = firstOf (startRefusals new plan shelf) (keptOf out shelf) (runOf g old new plan out shelf)
+
+  in-turn : rerenderOf g old new out shelf ≡ firstOf tests (keptOf out shelf) rest
   unfolding rerenderOf
-  checks-pass k e plan q = rw (e, q) refl
+  in-turn = first-append tests (startRefusals new plan shelf) (keptOf out shelf) (runOf g old new plan out shelf)
+
+  pub checks-refuse : (why : Refusal) → answered g old new (length out) (length shelf) ≡ Refused why → leaves (Refused why) out shelf ≡ rerenderOf g old new out shelf
+  checks-refuse why e = sym (in-turn ∙ leads-first why tests (keptOf out shelf) rest (answer-leads g old new (length out) (length shelf) why e))
+
+  pub checks-pass : tests ≡ [] → rerenderOf g old new out shelf ≡ rest
+  checks-pass none = in-turn ∙ rw none refl
+
+  module _ (k : ℕ) (e : answered g old new (length out) (length shelf) ≡ Done k) where
+    goes : rerenderOf g old new out shelf ≡ rest
+    goes = checks-pass (answer-none g old new (length out) (length shelf) k e)
+
+    pub nothing-run : plan ≡ Nothing → leaves (Done 0) out shelf ≡ rerenderOf g old new out shelf
+    nothing-run q = sym (goes ∙ rw q refl)
+
+    pub mark-run : (m : ℕ) → plan ≡ From m → fromOf g old new m out shelf ≡ rerenderOf g old new out shelf
+    unfolding fromOf
+    mark-run m q = sym (goes ∙ rw q refl)

@@ -1,5 +1,5 @@
 -- Two outcomes that meet a public function's statement are equal. Assumes nothing.
-use mathlib.Core.Path.{_≡_, sym, _∙_}
+use mathlib.Core.Path.{_≡_}
 use mathlib.Core.List.{List}
 use Prim.Native.Nat.{ℕ}
 use lib.Ieee.{Float}
@@ -7,13 +7,9 @@ use Rattle.sections.specs.Outcome.{leaves}
 use Rattle.sections.proofs.Unique.{same-left}
 use Rattle.answers.specs.declared.Answer.{Answer}
 use Rattle.state.specs.declared.Settings.{Settings}
-use Rattle.rerender.specs.declared.Plan.{Plan}
-use Rattle.rerender.specs.Rerender.{planOf, rerenderOf}
+use Rattle.rerender.specs.Rerender.{rerenderOf}
 
 pub rerender-unique : (g : Settings) (old new : List ℕ) (out a b : List Float) (shelf c d : List ℕ) (r t : Answer) → leaves r a c ≡ rerenderOf g old new out shelf → leaves t b d ≡ rerenderOf g old new out shelf
     → (r ≡ t) × (a ≡ b) × (c ≡ d)
 rerender-unique g old new out a b shelf c d r t x y =
     same-left (rerenderOf g old new out shelf) r t a b c d x y
-
-pub planned-unique : (old new : List ℕ) (n : ℕ) (r t : Plan) → r ≡ planOf old new n → t ≡ planOf old new n → r ≡ t
-planned-unique old new n r t p q = p ∙ sym q

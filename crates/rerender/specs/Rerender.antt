@@ -1,39 +1,30 @@
 -- A re-render. 01, "The shelf": "A re-render takes both scores. P is the lower position of the two at the first index where they differ, or of the one that remains where the other has ended. It starts at entry
 -- floor(P/4096). Equal scores, or P at or above N, write nothing and count 0"; "8 | start entry is no state, or its records acted differ from the new score's records below its position"; "Order: 6, 7, the old or only
 -- score, the new score (same numbers plus 16), then 8"; "Where count is 0 for equal scores or a late P, no entry is read and 8 is not given". Demand 3: "The count is the samples from the mark to the end".
--- It is decided for every start entry that is a state, a doctored one too: what is made are the steps from it. First the checks, then a plan, then its run. Definitions only.
+-- It is decided for every start entry that is a state, a doctored one too: what is made are the steps from it. A plan, what it makes, and the call. Definitions only.
 use mathlib.Core.Bool.{Bool, cond, _&&_}
-use mathlib.Core.List.{List, _++_}
+use mathlib.Core.List.{List, [], _++_}
 use Prim.Native.Nat.{ℕ, _-_, _*_, _/_}
 use lib.Dec.{ltb, eqb}
 use lib.ListN.{length, take, drop}
 use lib.Ieee.{Float}
 use Rattle.sections.specs.Outcome.{Outcome, leaves}
+use Rattle.answers.specs.Order.{unless, firstOf}
 use Rattle.answers.specs.declared.Answer.{Answer}
 use Rattle.answers.specs.declared.Answer.the-variants.{Done, Refused}
-use Rattle.answers.specs.declared.Refusal.the-variants.{NewScore, StartEntry}
+use Rattle.answers.specs.declared.Refusal.{Refusal}
+use Rattle.answers.specs.declared.Refusal.the-variants.{StartEntry}
 use Rattle.score.specs.declared.Difference.{Difference}
 use Rattle.score.specs.declared.Difference.the-variants.{Equal, At}
-use Rattle.score.specs.declared.Verdict.{Verdict}
-use Rattle.score.specs.declared.Verdict.the-variants.{Accepted, Faulty}
-use Rattle.score.specs.Score.{verdictOf}
 use Rattle.score.specs.Below.{countBelow}
 use Rattle.score.specs.Apart.{differenceOf}
 use Rattle.shelf.specs.Shelf.{mark, entryWords, entriesFor, stateOf, isEntry, shelfOf}
 use Rattle.state.specs.declared.Settings.{Settings}
 use Rattle.state.specs.declared.State.{State}
 use Rattle.state.specs.Heart.{samplesFrom, entriesFrom}
-use Rattle.render.specs.Order.{judgedOf, isRoom}
+use Rattle.judging.specs.Judging.{refusalsOf, newRefusalsOf, isRoom}
 use Rattle.rerender.specs.declared.Plan.{Plan}
 use Rattle.rerender.specs.declared.Plan.the-variants.{Nothing, From}
-
--- ---- the checks: 6, 7, the old score, the new one; done with 0 means that all are passed
-abbrev pub newScored : Verdict → Answer → Answer
-newScored (Accepted n) rest = rest
-newScored (Faulty fault) rest = Refused (NewScore fault)
-
-abbrev pub checkedOf : Settings → List ℕ → List ℕ → ℕ → ℕ → Answer
-checkedOf g old new n words = judgedOf g (isRoom n words) old (newScored (verdictOf new) (Done 0))
 
 -- ---- the plan: nothing, or from a mark on
 unfoldable pub planFor : Difference → ℕ → Plan
@@ -73,20 +64,31 @@ madeFrom g old new m out shelf =
     (between (m * mark) stop out (samplesFrom g new (m * mark) v (stop - m * mark)))
     (between (m * entryWords) (entriesFor stop * entryWords) shelf (shelfOf (entriesFrom g new m v (entriesFor stop - m))))
 
-unfoldable pub fromOf : Settings → List ℕ → List ℕ → ℕ → List Float → List ℕ → Outcome Answer
-fromOf g old new m out shelf = cond (isStart new m shelf) (madeFrom g old new m out shelf) (leaves (Refused StartEntry) out shelf)
-
+-- ---- the call
+-- what a plan makes
 abbrev pub runOf : Settings → List ℕ → List ℕ → Plan → List Float → List ℕ → Outcome Answer
 runOf g old new Nothing out shelf = leaves (Done 0) out shelf
-runOf g old new (From m) out shelf = fromOf g old new m out shelf
+runOf g old new (From m) out shelf = madeFrom g old new m out shelf
 
--- ---- the call
-abbrev pub afterChecks : Answer → Settings → List ℕ → List ℕ → Plan → List Float → List ℕ → Outcome Answer
-afterChecks (Done n) g old new plan out shelf = runOf g old new plan out shelf
-afterChecks (Refused why) g old new plan out shelf = leaves (Refused why) out shelf
+-- 8, where an entry is read
+abbrev pub startRefusals : List ℕ → Plan → List ℕ → List Refusal
+startRefusals new Nothing shelf = []
+startRefusals new (From m) shelf = unless (isStart new m shelf) StartEntry
+
+-- 6, 7, the old score's, the new one's, 8
+abbrev pub rerenderRefusals : Settings → List ℕ → List ℕ → ℕ → List ℕ → List Refusal
+rerenderRefusals g old new n shelf = refusalsOf g (isRoom n (length shelf)) old ++ newRefusalsOf new ++ startRefusals new (planOf old new n) shelf
+
+-- a refusal leaves all as it came
+abbrev pub keptOf : List Float → List ℕ → Refusal → Outcome Answer
+keptOf out shelf why = leaves (Refused why) out shelf
 
 unfoldable pub rerenderOf : Settings → List ℕ → List ℕ → List Float → List ℕ → Outcome Answer
-rerenderOf g old new out shelf = afterChecks (checkedOf g old new (length out) (length shelf)) g old new (planOf old new (length out)) out shelf
+rerenderOf g old new out shelf = firstOf (rerenderRefusals g old new (length out) shelf) (keptOf out shelf) (runOf g old new (planOf old new (length out)) out shelf)
+
+-- what is left of the call at a mark where 6, 7 and the scores' numbers are not given. It serves a private function; no public statement cites it
+unfoldable pub fromOf : Settings → List ℕ → List ℕ → ℕ → List Float → List ℕ → Outcome Answer
+fromOf g old new m out shelf = firstOf (unless (isStart new m shelf) StartEntry) (keptOf out shelf) (madeFrom g old new m out shelf)
 
 -- how many samples a plan makes, of an output of n
 abbrev pub countFor : Settings → List ℕ → List ℕ → Plan → ℕ → ℕ

@@ -1,19 +1,16 @@
-// The re-render: each edit of a score carries on from what the score says, not from the air. The checks, then a plan,
+// The re-render: each edit of a score carries on from what the score says, not from the air. The judging, then a plan,
 // which is the last mark at or before the first changed record, and then its run, from the state that the shelf keeps
 // there. 01, "The shelf", and demand 3. No state is answered: the shelf has them.
 ghost use mathlib.Core.Path.{_≡_};
 ghost use Prim.Native.Nat.{_<_};
 ghost use lib.ListN.{length};
-ghost use Rattle.answers.specs.declared.Answer.the-variants.{Done};
 ghost use Rattle.score.specs.Below.{Sorted};
-ghost use Rattle.score.specs.Score.{verdictOf};
 ghost use Rattle.shelf.specs.Shelf.{entriesFor, wordsFor};
 ghost use Rattle.sections.specs.Outcome.{leaves};
-ghost use Rattle.rerender.specs.Rerender.{newScored, planOf, fromOf, rerenderOf};
+ghost use Rattle.rerender.specs.Rerender.{planOf, fromOf, rerenderOf};
 use answers::Answer;
 use answers::Refusal;
 use score::Difference;
-use score::Verdict;
 use shelf::ENTRY_WORDS;
 use shelf::MARK;
 use spans::Place;
@@ -36,8 +33,8 @@ pub fn rerender(
 ) -> Answer
     ensures { λ r. ⌜ leaves r (now (out .exit)) (now (shelf .exit)) ≡ rerenderOf settings (now (old .entry)) (now (new .entry)) (now (out .entry)) (now (shelf .entry)) ⌝ }
 {
-    let room = render::is_room(out.len(), shelf.len());
-    let checked = render::judged(settings, room, old, new_scored(new));
+    let room = judging::is_room(out.len(), shelf.len());
+    let checked = judging::judged(settings, room, old, judging::new_scored(new));
     if let Answer::Refused(why) = checked {
         return Answer::Refused(why);
     }
@@ -49,7 +46,7 @@ pub fn rerender(
 }
 
 // The plan for two scores and an output of so many samples.
-pub fn planned(old: &[u8], new: &[u8], samples: usize) -> Plan
+fn planned(old: &[u8], new: &[u8], samples: usize) -> Plan
     ensures { λ r. ⌜ r ≡ planOf (now (old .entry)) (now (new .entry)) samples ⌝ }
 {
     match score::first_difference(old, new) {
@@ -61,16 +58,6 @@ pub fn planned(old: &[u8], new: &[u8], samples: usize) -> Plan
             }
             Plan::Nothing
         }
-    }
-}
-
-// The new score's fault, or done.
-fn new_scored(new: &[u8]) -> Answer
-    ensures { λ r. ⌜ r ≡ newScored (verdictOf (now (new .entry))) (Done 0) ⌝ }
-{
-    match score::judge(new) {
-        Verdict::Accepted(_) => Answer::Done(0),
-        Verdict::Faulty(fault) => Answer::Refused(Refusal::NewScore(fault)),
     }
 }
 

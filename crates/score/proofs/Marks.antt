@@ -8,7 +8,7 @@ use Rattle.score.specs.declared.Difference.the-variants.{Equal, At}
 use Rattle.score.specs.declared.Record.{Record}
 use Rattle.score.specs.declared.Verdict.the-variants.{Accepted, Faulty}
 use Rattle.score.specs.Record.{positionAt, recordAt, encodeAll}
-use Rattle.score.specs.Score.{markRight, kindRight, fieldsRight, inOrder, verdictAt, verdictFrom, verdictOf}
+use Rattle.score.specs.Score.{markRight, kindRight, fieldsRight, inOrder, faultsAt, faultsFrom, faultsOf, verdictOf}
 use Rattle.score.specs.Apart.{sameTo, firstFrom, differenceOf}
 
 -- 56 4E 00 00 00 00 01 45 7F 00 56 4E 64 00 00 00 02 45 00 00
@@ -25,7 +25,7 @@ noteOff at = record { position = at; kind = Off; note = 69; velocity = 0 }
 
 -- it has the two records that 01's lister prints
 pub example-accepted : (verdictOf example ≡ Accepted 2) × (recordAt example 0 ≡ noteOn 0) × (recordAt example 1 ≡ noteOff 100) × (encodeAll (noteOn 0 ∷ noteOff 100 ∷ []) ≡ example)
-unfolding positionAt markRight kindRight fieldsRight inOrder verdictAt verdictFrom verdictOf
+unfolding positionAt markRight kindRight fieldsRight inOrder faultsAt faultsFrom faultsOf verdictOf
 example-accepted = (refl, refl, refl, refl)
 
 -- ten bytes with a kind, a note, a velocity and a last byte
@@ -46,7 +46,7 @@ pub record Refusals : Type 0 where
   pub falling : verdictOf (encodeAll (noteOn 5 ∷ noteOff 4 ∷ [])) ≡ Faulty (Order 1)
 
 pub refusals : Refusals
-unfolding positionAt markRight kindRight fieldsRight inOrder verdictAt verdictFrom verdictOf
+unfolding positionAt markRight kindRight fieldsRight inOrder faultsAt faultsFrom faultsOf verdictOf
 refusals =
     record {
       nothing = refl;

@@ -1,5 +1,5 @@
 -- A turn of each loop over what is left to look at: going on, stopping, ending. Assumes nothing.
-use mathlib.Core.Path.{_≡_, sym, ap, _∙_}
+use mathlib.Core.Path.{_≡_, refl, sym, ap, _∙_}
 use mathlib.Core.Bool.{true, false}
 use mathlib.Core.List.{List}
 use Prim.Native.Nat.{ℕ, suc, _+_, _-_, _<_, _≤_, min}
@@ -7,31 +7,40 @@ use native.Mathlib.Numerals.{add-one}
 use native.Mathlib.Omega.{arith}
 use lib.Dec.{leb}
 use borrow.Author.Tests.{le-leb, lt-ltb, le-ltb}
+use Rattle.answers.specs.Order.{firstOf}
 use Rattle.answers.specs.declared.ScoreFault.{ScoreFault}
+use Rattle.answers.proofs.Order.{first-append, leads-first}
+use Rattle.score.specs.declared.Verdict.{Verdict}
 use Rattle.score.specs.declared.Verdict.the-variants.{Accepted, Faulty}
 use Rattle.score.specs.Record.{countOf, positionAt}
-use Rattle.score.specs.Score.{inOrder, verdictAt, verdictFrom}
+use Rattle.score.specs.Score.{inOrder, faultsAt, faultsFrom}
+use Rattle.score.proofs.Verdicts.{accepted-none, faulty-leads}
 use Rattle.score.specs.Apart.{sameAt, firstFrom, firstIndex, differenceOf}
 use Rattle.score.specs.declared.Difference.the-variants.{Equal, At}
 
--- ---- the check, at record i of n
-pub judge-on : (s : List ℕ) (n i m : ℕ) → i < n → verdictAt s i ≡ Accepted m → verdictFrom s (n - i) i ≡ verdictFrom s (n - (i + 1)) (i + 1)
-unfolding verdictFrom
-judge-on s n i m h e =
-    let left : n - i ≡ suc (n - (i + 1)) = omega arith in
-    rw (left, e, add-one i)
+-- ---- the check, at record i of n: what is left of the faults decides
+-- the verdict of the faults from record i on
+abbrev pub verdictFrom : List ℕ → ℕ → ℕ → Verdict
+verdictFrom s n i = firstOf (faultsFrom s (n - i) i) Faulty (Accepted n)
 
-pub judge-stop : (s : List ℕ) (n i : ℕ) (f : ScoreFault) → i < n → verdictAt s i ≡ Faulty f → verdictFrom s (n - i) i ≡ Faulty f
-unfolding verdictFrom
-judge-stop s n i f h e =
-    let left : n - i ≡ suc (n - (i + 1)) = omega arith in
-    rw (left, e)
+module _ (s : List ℕ) (n i : ℕ) (h : i < n) where
+  next : verdictFrom s n i ≡ firstOf (faultsAt s i) Faulty (verdictFrom s n (i + 1))
+  unfolding faultsFrom
+  next =
+      let left : n - i ≡ suc (n - (i + 1)) = omega arith in
+      rw (left, add-one i) (first-append (faultsAt s i) (faultsFrom s (n - suc i) (suc i)) Faulty (Accepted n))
 
-pub judge-end : (s : List ℕ) (n i : ℕ) → i ≡ n → verdictFrom s (n - i) i ≡ Accepted n
-unfolding verdictFrom
+  pub judge-on : (m : ℕ) → firstOf (faultsAt s i) Faulty (Accepted 1) ≡ Accepted m → verdictFrom s n i ≡ verdictFrom s n (i + 1)
+  judge-on m e = next ∙ rw (accepted-none (faultsAt s i) 1 m e .0) refl
+
+  pub judge-stop : (f : ScoreFault) → firstOf (faultsAt s i) Faulty (Accepted 1) ≡ Faulty f → verdictFrom s n i ≡ Faulty f
+  judge-stop f e = next ∙ leads-first f (faultsAt s i) Faulty (verdictFrom s n (i + 1)) (faulty-leads (faultsAt s i) 1 f e)
+
+pub judge-end : (s : List ℕ) (n i : ℕ) → i ≡ n → verdictFrom s n i ≡ Accepted n
+unfolding faultsFrom
 judge-end s n i h =
     let left : n - i ≡ 0 = omega arith in
-    rw (left, h)
+    rw left refl
 
 -- no record is below the first, and each next one is held to the one before it
 pub order-first : (s : List ℕ) → inOrder s 0 ≡ leb 0 (positionAt s 0)

@@ -10,9 +10,9 @@ use Rattle.score.specs.declared.Difference.{Difference}
 use Rattle.score.specs.Record.{countOf, positionAt, recordAt, encodeOf}
 use Rattle.score.specs.Score.{verdictOf, answerOf}
 use Rattle.score.specs.Below.{partsAt}
-use Rattle.score.specs.Apart.{firstIndex, differenceOf}
+use Rattle.score.specs.Apart.{differenceOf}
 
-pub check-unique : (s : List ℕ) (a b : Answer) → a ≡ answerOf (verdictOf s) → b ≡ answerOf (verdictOf s) → a ≡ b
+pub check-unique : (s : List ℕ) (a b : Answer) → a ≡ answerOf s → b ≡ answerOf s → a ≡ b
 check-unique s a b p q = p ∙ sym q
 
 pub judge-unique : (s : List ℕ) (a b : Verdict) → a ≡ verdictOf s → b ≡ verdictOf s → a ≡ b
@@ -32,9 +32,6 @@ encode-unique r a b p q = p ∙ sym q
 
 pub parts-at-unique : (s : List ℕ) (k n : ℕ) (a b : Bool) → a ≡ partsAt s k n → b ≡ partsAt s k n → a ≡ b
 parts-at-unique s k n a b p q = p ∙ sym q
-
-pub first-index-unique : (s t : List ℕ) (a b : ℕ) → a ≡ firstIndex s t → b ≡ firstIndex s t → a ≡ b
-first-index-unique s t a b p q = p ∙ sym q
 
 pub first-difference-unique : (s t : List ℕ) (a b : Difference) → a ≡ differenceOf s t → b ≡ differenceOf s t → a ≡ b
 first-difference-unique s t a b p q = p ∙ sym q

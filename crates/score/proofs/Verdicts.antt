@@ -1,7 +1,7 @@
 -- What an accepted score has: its length, and every record right and in order; and that nothing else is asked. Assumes nothing.
-use mathlib.Core.Path.{_≡_, refl, ap, _∙_}
-use mathlib.Core.Bool.{Bool, true, false, _&&_}
-use mathlib.Core.List.{List}
+use mathlib.Core.Path.{_≡_, refl, _∙_}
+use mathlib.Core.Bool.{true, _&&_}
+use mathlib.Core.List.{List, [], _∷_, _++_}
 use mathlib.Core.Logic.{⊎-elim}
 use Prim.Native.Nat.{ℕ, zero, suc, _+_, _*_, _%_, _≤_, _<_}
 use native.Mathlib.Nat.{eq-or-lt-of-le}
@@ -9,70 +9,68 @@ use native.Mathlib.Omega.{arith}
 use lib.Dec.{leb, eqb}
 use lib.ListN.{length}
 use borrow.Author.Tests.{le-leb, leb-true, eq-eqb, eqb-true}
+use Rattle.answers.specs.Order.{unless, firstOf}
+use Rattle.answers.specs.declared.Answer.the-variants.{Done, Refused}
+use Rattle.answers.specs.declared.Refusal.the-variants.{Score}
 use Rattle.answers.specs.declared.ScoreFault.{ScoreFault}
 use Rattle.answers.specs.declared.ScoreFault.the-variants.{Length, Mark, Kind, Field, Order}
-use Rattle.score.specs.declared.Verdict.{Verdict}
+use Rattle.answers.proofs.Order.{first-map, Leads, leads-first, passed, none-both}
 use Rattle.score.specs.declared.Verdict.the-variants.{Accepted, Faulty}
 use Rattle.score.specs.Record.{countOf}
-use Rattle.score.specs.Score.{markRight, kindRight, fieldsRight, allRight, inOrder, unless, verdictAt, next, verdictFrom, verdictOf}
+use Rattle.score.specs.Score.{markRight, kindRight, fieldsRight, allRight, inOrder, faultsAt, faultsFrom, faultsOf, verdictOf, answerOf}
 use Rattle.score.proofs.Codec.{both, Right, tests-right, right-mark, right-kind, right-fields}
 
 clash : _≡_ {A = ℕ} 0 1 → ⊥
 clash h = omega arith
 
--- what is accepted passed the test, and then is what is left
-passed : (t : Bool) (f : ScoreFault) (v : Verdict) (n : ℕ) → unless t f v ≡ Accepted n → (t ≡ true) × (v ≡ Accepted n)
-passed true f v n h = (refl, h)
-passed false f v n h = absurd (clash (cc))
+-- a list of faults, none of which is there, and a verdict over it
+pub accepted-none : (xs : List ScoreFault) (k n : ℕ) → firstOf xs Faulty (Accepted k) ≡ Accepted n → (xs ≡ []) × (k ≡ n)
+accepted-none [] k n h = (refl, cc)
+accepted-none (x ∷ xs) k n h = absurd (clash (cc))
+
+pub faulty-leads : (xs : List ScoreFault) (k : ℕ) (f : ScoreFault) → firstOf xs Faulty (Accepted k) ≡ Faulty f → Leads f xs
+faulty-leads [] k f h = absurd (clash (cc))
+faulty-leads (x ∷ xs) k f h = cc
 
 -- ---- one record
 pub record Fine (s : List ℕ) (i : ℕ) : Type 0 where
   pub right : Right s i
   pub ordered : inOrder s i ≡ true
 
-pub accepted-fine : (s : List ℕ) (i n : ℕ) → verdictAt s i ≡ Accepted n → Fine s i
-unfolding verdictAt
-accepted-fine s i n h =
-    let order = unless (inOrder s i) (Order i) (Accepted 1) in
-    let fields = unless (fieldsRight s i) (Field i) order in
-    let kind = unless (kindRight s i) (Kind i) fields in
-    let a = passed (markRight s i) (Mark i) kind n h in
-    let b = passed (kindRight s i) (Kind i) fields n (a .1) in
-    let c = passed (fieldsRight s i) (Field i) order n (b .1) in
-    let d = passed (inOrder s i) (Order i) (Accepted 1) n (c .1) in
-    record { right = tests-right s i (a .0) (b .0) (c .0); ordered = d .0 }
+pub none-fine : (s : List ℕ) (i : ℕ) → faultsAt s i ≡ [] → Fine s i
+unfolding faultsAt
+none-fine s i h =
+    let mark = unless (markRight s i) (Mark i) in
+    let kind = unless (kindRight s i) (Kind i) in
+    let fields = unless (fieldsRight s i) (Field i) in
+    let c = none-both (mark ++ kind ++ fields) (unless (inOrder s i) (Order i)) h in
+    let b = none-both (mark ++ kind) fields (c .0) in
+    let a = none-both mark kind (b .0) in
+    record { right = tests-right s i (passed _ _ (a .0)) (passed _ _ (a .1)) (passed _ _ (b .1)); ordered = passed _ _ (c .1) }
 
-pub fine-accepted : (s : List ℕ) (i : ℕ) → Fine s i → verdictAt s i ≡ Accepted 1
-unfolding verdictAt
-fine-accepted s i f = rw (right-mark s i (f .right), right-kind s i (f .right), right-fields s i (f .right), f .ordered)
+pub fine-none : (s : List ℕ) (i : ℕ) → Fine s i → faultsAt s i ≡ []
+unfolding faultsAt
+fine-none s i f = rw (right-mark s i (f .right), right-kind s i (f .right), right-fields s i (f .right), f .ordered)
 
-pub right-accepted : (s : List ℕ) (i : ℕ) → allRight s i ≡ true → inOrder s i ≡ true → verdictAt s i ≡ Accepted 1
-unfolding verdictAt
-right-accepted s i h o =
+pub right-none : (s : List ℕ) (i : ℕ) → allRight s i ≡ true → inOrder s i ≡ true → faultsAt s i ≡ []
+unfolding faultsAt
+right-none s i h o =
     let a = both (markRight s i && kindRight s i) (fieldsRight s i) h in
     let b = both (markRight s i) (kindRight s i) (a .0) in
     rw (b .0, b .1, a .1, o)
 
 -- ---- k records from the i-th on
-from-fine : (s : List ℕ) (k i n : ℕ) → verdictFrom s k i ≡ Accepted n → (n ≡ i + k) × ((j : ℕ) → i ≤ j → j < i + k → Fine s j)
-unfolding verdictFrom
-from-fine s zero i n h = let e : i ≡ n = cc in (omega arith, λ j a b. absurd (clash (omega arith)))
-from-fine s (suc k) i n h = go (from-fine s k (suc i) n) (verdictAt s i) refl h
-  where
-    go : (verdictFrom s k (suc i) ≡ Accepted n → (n ≡ suc i + k) × ((j : ℕ) → suc i ≤ j → j < suc i + k → Fine s j)) → (v : Verdict) → verdictAt s i ≡ v → next v (verdictFrom s k (suc i)) ≡ Accepted n
-        → (n ≡ i + suc k) × ((j : ℕ) → i ≤ j → j < i + suc k → Fine s j)
-    go rest (Accepted m) e g =
-        let r = rest g in
-        (omega (arith, r .0), λ j a b. ⊎-elim (λ q. rw (← q) (accepted-fine s i m e)) (λ l. r .1 j l (omega arith)) (eq-or-lt-of-le a))
-    go rest (Faulty f) e g = absurd (clash (cc))
+from-fine : (s : List ℕ) (k i : ℕ) → faultsFrom s k i ≡ [] → (j : ℕ) → i ≤ j → j < i + k → Fine s j
+unfolding faultsFrom
+from-fine s zero i h j a b = absurd (clash (omega arith))
+from-fine s (suc k) i h j a b =
+    let n = none-both (faultsAt s i) (faultsFrom s k (suc i)) h in
+    ⊎-elim (λ q. rw (← q) (none-fine s i (n .0))) (λ l. from-fine s k (suc i) (n .1) j l (omega arith)) (eq-or-lt-of-le a)
 
-fine-from : (s : List ℕ) (k i : ℕ) → ((j : ℕ) → i ≤ j → j < i + k → Fine s j) → verdictFrom s k i ≡ Accepted (i + k)
-unfolding verdictFrom
-fine-from s zero i f = ap Accepted (omega arith)
-fine-from s (suc k) i f =
-    let here : verdictAt s i ≡ Accepted 1 = fine-accepted s i (f i (omega arith) (omega arith)) in
-    let e : suc i + k ≡ i + suc k = omega arith in
-    rw here (fine-from s k (suc i) (λ j a b. f j (omega arith) (omega arith)) ∙ ap Accepted e)
+fine-from : (s : List ℕ) (k i : ℕ) → ((j : ℕ) → i ≤ j → j < i + k → Fine s j) → faultsFrom s k i ≡ []
+unfolding faultsFrom
+fine-from s zero i f = refl
+fine-from s (suc k) i f = rw (fine-none s i (f i (omega arith) (omega arith))) (fine-from s k (suc i) (λ j a b. f j (omega arith) (omega arith)))
 
 -- ---- a score
 pub record AllFine (s : List ℕ) (n : ℕ) : Type 0 where
@@ -81,22 +79,58 @@ pub record AllFine (s : List ℕ) (n : ℕ) : Type 0 where
   pub fine : (i : ℕ) → i < n → Fine s i
 
 pub accepted-all : (s : List ℕ) (n : ℕ) → verdictOf s ≡ Accepted n → AllFine s n
-unfolding verdictOf
+unfolding verdictOf faultsOf
 accepted-all s n h =
-    let rest = verdictFrom s (countOf s) 0 in
-    let a = passed (eqb (length s % 10) 0) Length (unless (leb (countOf s) 4096) Length rest) n h in
-    let b = passed (leb (countOf s) 4096) Length rest n (a .1) in
-    let c = from-fine s (countOf s) 0 n (b .1) in
-    let whole : length s % 10 ≡ 0 = eqb-true _ _ (a .0) in
-    let few : countOf s ≤ 4096 = leb-true _ _ (b .0) in
-    let e : n ≡ countOf s = omega (arith, c .0) in
-    record { size = omega arith; few = omega arith; fine = λ i l. c .1 i (omega arith) (omega arith) }
+    let v = accepted-none (faultsOf s) (countOf s) n h in
+    let sized = eqb (length s % 10) 0 && leb (countOf s) 4096 in
+    let a = none-both (unless sized Length) (faultsFrom s (countOf s) 0) (v .0) in
+    let b = both (eqb (length s % 10) 0) (leb (countOf s) 4096) (passed sized Length (a .0)) in
+    let whole : length s % 10 ≡ 0 = eqb-true _ _ (b .0) in
+    let few : countOf s ≤ 4096 = leb-true _ _ (b .1) in
+    let e : countOf s ≡ n = v .1 in
+    record { size = omega arith; few = omega arith; fine = λ i l. from-fine s (countOf s) 0 (a .1) i (omega arith) (omega arith) }
+
+-- an accepted score has no fault, and the other way
+pub all-none : (s : List ℕ) (n : ℕ) → AllFine s n → faultsOf s ≡ []
+unfolding faultsOf
+all-none s n f =
+    let size : length s ≡ n * 10 = f .size in
+    let few : n ≤ 4096 = f .few in
+    let whole : length s % 10 ≡ 0 = omega arith in
+    let count : countOf s ≡ n = omega arith in
+    rw (eq-eqb _ _ whole, count, le-leb _ _ few) (fine-from s n 0 (λ j a b. f .fine j (omega arith)))
 
 pub all-accepted : (s : List ℕ) (n : ℕ) → AllFine s n → verdictOf s ≡ Accepted n
 unfolding verdictOf
 all-accepted s n f =
     let size : length s ≡ n * 10 = f .size in
-    let few : n ≤ 4096 = f .few in
-    let whole : length s % 10 ≡ 0 = omega arith in
     let count : countOf s ≡ n = omega arith in
-    rw (eq-eqb _ _ whole, count, le-leb _ _ few) (fine-from s n 0 (λ j a b. f .fine j (omega arith)) ∙ ap Accepted (omega arith))
+    rw (all-none s n f, count) refl
+
+pub accepted-faults : (s : List ℕ) (n : ℕ) → verdictOf s ≡ Accepted n → faultsOf s ≡ []
+unfolding verdictOf
+accepted-faults s n h = accepted-none (faultsOf s) (countOf s) n h .0
+
+pub none-accepted : (s : List ℕ) → faultsOf s ≡ [] → verdictOf s ≡ Accepted (countOf s)
+unfolding verdictOf
+none-accepted s e = rw e refl
+
+pub faulty-faults : (s : List ℕ) (f : ScoreFault) → verdictOf s ≡ Faulty f → Leads f (faultsOf s)
+unfolding verdictOf
+faulty-faults s f h = faulty-leads (faultsOf s) (countOf s) f h
+
+-- ---- what goes by the first fault goes by the verdict
+pub accepted-first : (s : List ℕ) (n : ℕ) → verdictOf s ≡ Accepted n → {R : Type 0} (f : ScoreFault → R) (d : R) → firstOf (faultsOf s) f d ≡ d
+accepted-first s n h f d = rw (accepted-faults s n h) refl
+
+pub faulty-first : (s : List ℕ) (fault : ScoreFault) → verdictOf s ≡ Faulty fault → {R : Type 0} (f : ScoreFault → R) (d : R) → firstOf (faultsOf s) f d ≡ f fault
+faulty-first s fault h f d = leads-first fault (faultsOf s) f d (faulty-faults s fault h)
+
+-- the call's answer
+pub answer-accepted : (s : List ℕ) (n : ℕ) → verdictOf s ≡ Accepted n → answerOf s ≡ Done 0
+unfolding answerOf
+answer-accepted s n h = first-map Score (faultsOf s) Refused (Done 0) ∙ accepted-first s n h (λ f. Refused (Score f)) (Done 0)
+
+pub answer-faulty : (s : List ℕ) (f : ScoreFault) → verdictOf s ≡ Faulty f → answerOf s ≡ Refused (Score f)
+unfolding answerOf
+answer-faulty s f h = first-map Score (faultsOf s) Refused (Done 0) ∙ faulty-first s f h (λ x. Refused (Score x)) (Done 0)

@@ -1,11 +1,12 @@
 -- What a score is refused for. 01, "What a call says": number 1 "score length no multiple of 10, or above 4,096 records"; "2 / 3 / 4: wrong mark / kind / a field out of range or last byte not 0";
 -- 5 "position below the record before"; "In a score 1 first, then each record 2, 3, 4, 5. Place is the record's index, else 0." Definitions only.
-use mathlib.Core.Bool.{Bool, true, false, cond, _&&_}
-use mathlib.Core.List.{List}
+use mathlib.Core.Bool.{Bool, true, cond, _&&_}
+use mathlib.Core.List.{List, [], _++_, map}
 use mathlib.Core.Path.{_≡_}
 use Prim.Native.Nat.{ℕ, zero, suc, _%_, _≤_, _<_}
 use lib.ListN.{length, getD}
 use lib.Dec.{leb, eqb}
+use Rattle.answers.specs.Order.{unless, firstOf}
 use Rattle.answers.specs.declared.Answer.{Answer}
 use Rattle.answers.specs.declared.Answer.the-variants.{Done, Refused}
 use Rattle.answers.specs.declared.Refusal.the-variants.{Score}
@@ -39,39 +40,27 @@ unfoldable pub inOrder : List ℕ → ℕ → Bool
 inOrder s zero = true
 inOrder s (suc i) = leb (positionAt s i) (positionAt s (suc i))
 
--- ---- the first fault
-abbrev pub unless : Bool → ScoreFault → Verdict → Verdict
-unless true fault rest = rest
-unless false fault rest = Faulty fault
-
--- of record i: 2, 3, 4, 5 in this order, or one record accepted
-unfoldable pub verdictAt : List ℕ → ℕ → Verdict
-verdictAt s i =
-    unless (markRight s i) (Mark i)
-    (unless (kindRight s i) (Kind i)
-    (unless (fieldsRight s i) (Field i)
-    (unless (inOrder s i) (Order i) (Accepted 1))))
-
--- what follows counts where the verdict before it is no fault
-abbrev pub next : Verdict → Verdict → Verdict
-next (Accepted n) rest = rest
-next (Faulty fault) rest = Faulty fault
+-- ---- the faults, in 01's order
+-- of record i: 2, 3, 4, 5
+unfoldable pub faultsAt : List ℕ → ℕ → List ScoreFault
+faultsAt s i = unless (markRight s i) (Mark i) ++ unless (kindRight s i) (Kind i) ++ unless (fieldsRight s i) (Field i) ++ unless (inOrder s i) (Order i)
 
 -- of k records from the i-th on
-unfoldable pub verdictFrom : List ℕ → ℕ → ℕ → Verdict
-verdictFrom s zero i = Accepted i
-verdictFrom s (suc k) i = next (verdictAt s i) (verdictFrom s k (suc i))
+unfoldable pub faultsFrom : List ℕ → ℕ → ℕ → List ScoreFault
+faultsFrom s zero i = []
+faultsFrom s (suc k) i = faultsAt s i ++ faultsFrom s k (suc i)
 
 -- 1 first, then record by record
+unfoldable pub faultsOf : List ℕ → List ScoreFault
+faultsOf s = unless (eqb (length s % 10) 0 && leb (countOf s) 4096) Length ++ faultsFrom s (countOf s) 0
+
+-- the first fault, or the number of records
 unfoldable pub verdictOf : List ℕ → Verdict
-verdictOf s =
-    unless (eqb (length s % 10) 0) Length
-    (unless (leb (countOf s) 4096) Length (verdictFrom s (countOf s) 0))
+verdictOf s = firstOf (faultsOf s) Faulty (Accepted (countOf s))
 
 -- the call's answer: no samples are written, so the count is 0
-abbrev pub answerOf : Verdict → Answer
-answerOf (Accepted n) = Done 0
-answerOf (Faulty fault) = Refused (Score fault)
+unfoldable pub answerOf : List ℕ → Answer
+answerOf s = firstOf (map Score (faultsOf s)) Refused (Done 0)
 
 -- ---- what a score is. 01, "The score": "At most 4,096 records, positions never falling"
 -- s is the encoding of rs, which are valid and in order

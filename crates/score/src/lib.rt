@@ -3,8 +3,10 @@
 ghost use mathlib.Core.Path.{_≡_};
 ghost use mathlib.Core.Bool.{true};
 ghost use Prim.Native.Nat.{_<_, _≤_, min};
+ghost use Rattle.answers.specs.Order.{firstOf};
+ghost use Rattle.score.specs.declared.Verdict.the-variants.{Accepted, Faulty};
 ghost use Rattle.score.specs.Record.{byteAt, wordOf, wordAt, markAt, restAt, positionAt, kindOf, kindByte, recordAt, encodeOf, countOf};
-ghost use Rattle.score.specs.Score.{mostOf, markRight, kindRight, fieldsRight, allRight, inOrder, verdictAt, verdictOf, answerOf};
+ghost use Rattle.score.specs.Score.{mostOf, markRight, kindRight, fieldsRight, allRight, inOrder, faultsAt, verdictOf, answerOf};
 ghost use Rattle.score.specs.Below.{lastBelow, partsAt};
 ghost use Rattle.score.specs.Apart.{sameAt, firstIndex, differenceOf};
 use answers::Answer;
@@ -44,7 +46,7 @@ pub enum Difference {
 
 // The call of 01: done, or refused with the first fault.
 pub fn check(score: &[u8]) -> Answer
-    ensures { λ r. ⌜ r ≡ answerOf (verdictOf (now (score .entry))) ⌝ }
+    ensures { λ r. ⌜ r ≡ answerOf (now (score .entry)) ⌝ }
 {
     match judge(score) {
         Verdict::Accepted(_) => Answer::Done(0),
@@ -132,7 +134,7 @@ pub fn parts_at(score: &[u8], k: u64, p: u64) -> bool
 }
 
 // The first index at which the records differ, or at which one of the two has ended.
-pub fn first_index(old: &[u8], new: &[u8]) -> usize
+fn first_index(old: &[u8], new: &[u8]) -> usize
     ensures { λ r. ⌜ r ≡ firstIndex (now (old .entry)) (now (new .entry)) ⌝ }
 {
     let n = fewer(count(old), count(new));
@@ -261,7 +263,7 @@ fn kind_byte(kind: Kind) -> u8
 fn judge_after(score: &[u8], i: usize, order: bool) -> Verdict
     requires { ⌜ i < countOf (now score) ⌝ }
     requires { ⌜ order ≡ inOrder (now score) i ⌝ }
-    ensures { λ r. ⌜ r ≡ verdictAt (now (score .entry)) i ⌝ }
+    ensures { λ r. ⌜ r ≡ firstOf (faultsAt (now (score .entry)) i) Faulty (Accepted 1) ⌝ }
 {
     if order & surely_right(score, i) {
         return Verdict::Accepted(1);
@@ -282,7 +284,7 @@ fn surely_right(score: &[u8], i: usize) -> bool
 
 // The first fault of record i, one test after the other, or that this one record is accepted.
 fn judge_record(score: &[u8], i: usize) -> Verdict
-    ensures { λ r. ⌜ r ≡ verdictAt (now (score .entry)) i ⌝ }
+    ensures { λ r. ⌜ r ≡ firstOf (faultsAt (now (score .entry)) i) Faulty (Accepted 1) ⌝ }
 {
     let mark = mark_right(score, i);
     let kind = kind_right(score, i);

@@ -16,7 +16,7 @@ use Rattle.answers.specs.declared.Answer.the-variants.{Done}
 use Rattle.answers.specs.declared.Refusal.{Refusal}
 use Rattle.answers.specs.declared.Refusal.the-variants.{Argument}
 use Rattle.answers.specs.Order.{unless}
-use Rattle.answers.proofs.First.{none-refused}
+use Rattle.answers.proofs.Order.{none-refused}
 use Rattle.voice.specs.Keys.{pressedOf, liftedOf, isKeys}
 use Rattle.voice.specs.Voice.{isLoud, isVoice, isMidi, isReleased, changedOr, offOr, struck, heardOf}
 use Rattle.voice.specs.Voice as voice

@@ -10,7 +10,7 @@ use lib.Ieee.Fits.{and-i, and-l, and-r}
 use Rattle.answers.specs.declared.Answer.the-variants.{Done}
 use Rattle.answers.specs.declared.Refusal.the-variants.{Argument}
 use Rattle.answers.specs.Order.{unless}
-use Rattle.answers.proofs.First.{passed, first-keeps}
+use Rattle.answers.proofs.Order.{held, first-keeps}
 use Rattle.domain.specs.Domain.{isPitch}
 use Rattle.pitch.specs.Pitch.{frequencyOf}
 use Rattle.pitch.proofs.Rules.{frequency-in}
@@ -67,7 +67,7 @@ module _ (s : VoiceState) (t : T (isVoice s)) where
       let ok = isVoice s && isMidi n && isMidi v in
       first-keeps (unless ok Argument) _ _ (λ (r : Changed). T (isVoice (r .voice))) (λ why. t)
       (λ e.
-      let g : T ok = passed ok Argument e in
+      let g : T ok = held ok Argument e in
       let hn : n ≤ 127 = leb→le n 127 (and-r (isVoice s) (isMidi n) (and-l (isVoice s && isMidi n) (isMidi v) g)) in
       let hv : v ≤ 127 = leb→le v 127 (and-r (isVoice s && isMidi n) (isMidi v) g) in
       struck-in (pressedOf (s .keys) n v) n v (pressed-keeps (s .keys) n v (voice-keys s t) hn hv) hn hv)

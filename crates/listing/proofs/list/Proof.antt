@@ -1,8 +1,7 @@
 -- `listing::list` meets its contract. Assumes nothing.
 use borrow.Author.Needs.{needs}
-use mathlib.Core.Path.{sym, ap, _∙_}
-use Rattle.listing.proofs.Puts.{put-listed, put-nothing}
-use Rattle.listing.specs.Listing.{textOf}
+use mathlib.Core.Path.{sym, _∙_}
+use Rattle.listing.proofs.Puts.{listing-accepted, listing-refused, put-listed, put-nothing}
 use Rattle.score.proofs.Verdicts.{accepted-all}
 use Rattle.listing.proofs.list.Statement.{statement}
 use Rattle.listing.proofs.list.Tie as tie
@@ -34,7 +33,7 @@ returns-2 : tie.Need-returns-2
 returns-2 c =
     let told = c .before .before .before .before .before in
     let judged = told .before .before in
-    put-listed _ _ _ _ _ (judged .before .if1 .left) (ap (textOf _) (sym (judged .judge .ensures) ∙ told .n .given .1)) (c .before .before .put-accepted .ensures)
+    put-listed _ _ _ _ _ (judged .before .if1 .left) (listing-accepted _ _ (sym (judged .judge .ensures) ∙ told .n .given .1)) (c .before .before .put-accepted .ensures)
 
 same-length-2 : tie.Need-same-length-2
 same-length-2 c = search needs
@@ -43,7 +42,7 @@ returns-3 : tie.Need-returns-3
 returns-3 c =
     let told = c .before .before .before .before .before in
     let judged = told .before .before in
-    put-listed _ _ _ _ _ (judged .before .if1 .left) (ap (textOf _) (sym (judged .judge .ensures) ∙ told .fault .given .1)) (c .before .before .put-refused .ensures)
+    put-listed _ _ _ _ _ (judged .before .if1 .left) (listing-refused _ _ (sym (judged .judge .ensures) ∙ told .fault .given .1)) (c .before .before .put-refused .ensures)
 
 pub list-spec : {M : Type 1} → statement M
 list-spec =

@@ -1,6 +1,7 @@
 -- `render::continue_render` meets its contract. Assumes nothing.
 use mathlib.Core.Path.{sym, _∙_}
-use Rattle.render.proofs.Judging.{done-sorted}
+use Rattle.answers.proofs.Order.{done-none}
+use Rattle.judging.proofs.Refusals.{passed-sorted}
 use Rattle.render.proofs.Outcomes.{continue-refused, continue-goes}
 use borrow.Author.Needs.{needs}
 use Rattle.render.proofs.continue_render.Statement.{statement}
@@ -21,12 +22,12 @@ enum-told c = search needs
 go-on-requires : tie.Need-go-on-requires
 go-on-requires c κs =
     let told = c .before in
-    done-sorted _ _ _ _ _ (sym (told .before .before .judged .ensures) ∙ told .enum-told .given .1)
+    passed-sorted _ _ _ (done-none _ _ _ (sym (told .before .before .judged .ensures) ∙ told .enum-told .given .1))
 
 returns : tie.Need-returns
 returns c =
     let x = c .before .before .before in
-    continue-refused _ _ _ _ _ _ (sym (rw (x .before .is-stretch .ensures) at (x .judged .ensures)) ∙ c .before .answer .given .1)
+    continue-refused _ _ _ _ _ _ _ (sym (rw (x .before .is-stretch .ensures) at (x .judged .ensures)) ∙ c .before .answer .given .1)
 
 same-length : tie.Need-same-length
 same-length c = search needs
@@ -36,7 +37,7 @@ returns-2 c =
     let made = c .before .before in
     let told = made .before .before in
     let x = told .before .before in
-    made .go-on .ensures ∙ continue-goes _ _ _ _ _ _ (sym (rw (x .before .is-stretch .ensures) at (x .judged .ensures)) ∙ told .enum-told .given .1)
+    made .go-on .ensures ∙ continue-goes _ _ _ _ _ _ _ (sym (rw (x .before .is-stretch .ensures) at (x .judged .ensures)) ∙ told .enum-told .given .1)
 
 pub continue-render-spec : {M : Type 1} → statement M
 continue-render-spec =

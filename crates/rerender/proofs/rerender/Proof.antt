@@ -1,7 +1,7 @@
 -- `rerender::rerender` meets its contract. Assumes nothing.
 use mathlib.Core.Path.{sym, _∙_}
 use Rattle.score.proofs.Cuts.{accepted-sorted}
-use Rattle.rerender.proofs.Cases.{plan-there, all-checked, checks-refuse, checks-pass}
+use Rattle.rerender.proofs.Cases.{plan-there, answer-checked, checks-refuse, nothing-run, mark-run}
 use borrow.Author.Needs.{needs}
 use Rattle.rerender.proofs.rerender.Statement.{statement}
 use Rattle.rerender.proofs.rerender.Tie as tie
@@ -40,7 +40,7 @@ run-from-requires c κs =
     let made = c .before .before .before .before .before in
     let told = made .before in
     let x = told .before .before in
-    let k = all-checked _ _ _ _ _ _ (sym (rw (x .before .new-scored .ensures, x .before .before .is-room .ensures) at (x .judged .ensures)) ∙ told .enum-told .given .1) in
+    let k = answer-checked _ _ _ _ _ _ (sym (rw (x .before .new-scored .ensures, x .before .before .is-room .ensures) at (x .judged .ensures)) ∙ told .enum-told .given .1) in
     (accepted-sorted _ _ (k .new-accepted), (k .room .fits, plan-there _ _ _ _ (sym (made .planned .ensures) ∙ c .before .before .before .plan .given .1)))
 
 returns-2 : tie.Need-returns-2
@@ -48,7 +48,7 @@ returns-2 c =
     let made = c .before .before in
     let told = made .before in
     let x = told .before .before in
-    checks-pass _ _ _ _ _ _ (sym (rw (x .before .new-scored .ensures, x .before .before .is-room .ensures) at (x .judged .ensures)) ∙ told .enum-told .given .1) _ (sym (made .planned .ensures) ∙ c .enum-told2 .given .1)
+    nothing-run _ _ _ _ _ _ (sym (rw (x .before .new-scored .ensures, x .before .before .is-room .ensures) at (x .judged .ensures)) ∙ told .enum-told .given .1) (sym (made .planned .ensures) ∙ c .enum-told2 .given .1)
 
 same-length : tie.Need-same-length
 same-length c = search needs
@@ -63,7 +63,7 @@ returns-3 c =
     let told = made .before in
     let x = told .before .before in
     run .run-from .ensures
-    ∙ checks-pass _ _ _ _ _ _ (sym (rw (x .before .new-scored .ensures, x .before .before .is-room .ensures) at (x .judged .ensures)) ∙ told .enum-told .given .1) _ (sym (made .planned .ensures) ∙ run .before .before .before .before .plan .given .1)
+    ∙ mark-run _ _ _ _ _ _ (sym (rw (x .before .new-scored .ensures, x .before .before .is-room .ensures) at (x .judged .ensures)) ∙ told .enum-told .given .1) _ (sym (made .planned .ensures) ∙ run .before .before .before .before .plan .given .1)
 
 pub rerender-spec : {M : Type 1} → statement M
 rerender-spec =

@@ -1,6 +1,7 @@
 -- `score::check` meets its contract. Assumes nothing.
 use borrow.Author.Needs.{needs}
-use mathlib.Core.Path.{refl}
+use mathlib.Core.Path.{sym, _∙_}
+use Rattle.score.proofs.Verdicts.{answer-accepted, answer-faulty}
 use Rattle.score.proofs.check.Statement.{statement}
 use Rattle.score.proofs.check.Tie as tie
 
@@ -14,10 +15,10 @@ enum-known-fault : tie.Need-enum-known-fault
 enum-known-fault c = search needs
 
 returns : tie.Need-returns
-returns c = rw (← c .before .before .judge .ensures, c .enum-told .given .1) refl
+returns c = sym (answer-accepted _ _ (sym (c .before .before .judge .ensures) ∙ c .enum-told .given .1))
 
 returns-2 : tie.Need-returns-2
-returns-2 c = rw (← c .before .before .before .judge .ensures, c .before .fault .given .1) refl
+returns-2 c = sym (answer-faulty _ _ (sym (c .before .before .before .judge .ensures) ∙ c .before .fault .given .1))
 
 pub check-spec : {M : Type 1} → statement M
 check-spec = tie.close (tie.spec judge-requires enum-told enum-known-fault returns returns-2)

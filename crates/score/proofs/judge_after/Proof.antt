@@ -1,8 +1,8 @@
 -- `score::judge_after` meets its contract. Assumes nothing.
 use borrow.Author.Needs.{needs}
-use mathlib.Core.Path.{sym, _∙_}
+use mathlib.Core.Path.{refl, sym, _∙_}
 use Rattle.score.proofs.Codec.{both}
-use Rattle.score.proofs.Verdicts.{right-accepted}
+use Rattle.score.proofs.Verdicts.{right-none}
 use Rattle.score.proofs.judge_after.Statement.{statement}
 use Rattle.score.proofs.judge_after.Tie as tie
 
@@ -13,7 +13,7 @@ returns : tie.Need-returns
 returns c =
     let b = both _ _ (c .if1 .taken) in
     let x = c .before in
-    sym (right-accepted _ _ (x .surely-right .ensures (b .1)) (sym (x .before .before .pre .1) ∙ b .0))
+    rw (right-none _ _ (x .surely-right .ensures (b .1)) (sym (x .before .before .pre .1) ∙ b .0)) refl
 
 judge-record-requires : tie.Need-judge-record-requires
 judge-record-requires c κs = search needs

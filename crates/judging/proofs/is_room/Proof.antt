@@ -1,8 +1,8 @@
--- `render::is_room` meets its contract. Assumes nothing.
+-- `judging::is_room` meets its contract. Assumes nothing.
 use mathlib.Core.Path.{refl}
 use borrow.Author.Needs.{needs}
-use Rattle.render.proofs.is_room.Statement.{statement}
-use Rattle.render.proofs.is_room.Tie as tie
+use Rattle.judging.proofs.is_room.Statement.{statement}
+use Rattle.judging.proofs.is_room.Tie as tie
 
 words-for-requires : tie.Need-words-for-requires
 words-for-requires c κs = search needs

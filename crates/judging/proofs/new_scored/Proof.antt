@@ -1,9 +1,9 @@
--- `rerender::new_scored` meets its contract. Assumes nothing.
+-- `judging::new_scored` meets its contract. Assumes nothing.
 use mathlib.Core.Path.{sym, _∙_}
-use Rattle.rerender.proofs.Cases.{newly-refused}
+use Rattle.judging.proofs.Refusals.{new-taken, new-faulty}
 use borrow.Author.Needs.{needs}
-use Rattle.rerender.proofs.new_scored.Statement.{statement}
-use Rattle.rerender.proofs.new_scored.Tie as tie
+use Rattle.judging.proofs.new_scored.Statement.{statement}
+use Rattle.judging.proofs.new_scored.Tie as tie
 
 judge-requires : tie.Need-judge-requires
 judge-requires c κs = search needs
@@ -15,10 +15,10 @@ enum-known-fault : tie.Need-enum-known-fault
 enum-known-fault c = search needs
 
 returns : tie.Need-returns
-returns c = newly-refused _ _ (sym (c .before .before .judge .ensures) ∙ c .enum-told .given .1)
+returns c = new-taken _ _ _ (sym (c .before .before .judge .ensures) ∙ c .enum-told .given .1)
 
 returns-2 : tie.Need-returns-2
-returns-2 c = newly-refused _ _ (sym (c .before .before .before .judge .ensures) ∙ c .before .fault .given .1)
+returns-2 c = new-faulty _ _ _ (sym (c .before .before .before .judge .ensures) ∙ c .before .fault .given .1)
 
 pub new-scored-spec : {M : Type 1} → statement M
 new-scored-spec = tie.close (tie.spec judge-requires enum-told enum-known-fault returns returns-2)

@@ -1,10 +1,10 @@
--- `render::judged` meets its contract. Assumes nothing.
+-- `judging::judged` meets its contract. Assumes nothing.
 use mathlib.Core.Path.{sym, _∙_}
 use borrow.Author.Tests.{not-true, not-false}
-use Rattle.render.proofs.Judging.{no-settings, no-room, by-score}
+use Rattle.judging.proofs.Refusals.{no-settings, no-room, score-taken, score-faulty}
 use borrow.Author.Needs.{needs}
-use Rattle.render.proofs.judged.Statement.{statement}
-use Rattle.render.proofs.judged.Tie as tie
+use Rattle.judging.proofs.judged.Statement.{statement}
+use Rattle.judging.proofs.judged.Tie as tie
 
 is-settings-requires : tie.Need-is-settings-requires
 is-settings-requires c κs = search needs
@@ -27,12 +27,12 @@ enum-known-fault c = search needs
 returns-3 : tie.Need-returns-3
 returns-3 c =
     let x = c .before .before in
-    by-score _ _ _ _ (sym (x .before .before .before .is-settings .ensures) ∙ not-false _ (x .before .before .if1 .left)) (not-false _ (x .before .if2 .left)) _ (sym (x .judge .ensures) ∙ c .enum-told .given .1)
+    score-taken _ _ _ _ (sym (x .before .before .before .is-settings .ensures) ∙ not-false _ (x .before .before .if1 .left)) (not-false _ (x .before .if2 .left)) _ (sym (x .judge .ensures) ∙ c .enum-told .given .1)
 
 returns-4 : tie.Need-returns-4
 returns-4 c =
     let x = c .before .before .before in
-    by-score _ _ _ _ (sym (x .before .before .before .is-settings .ensures) ∙ not-false _ (x .before .before .if1 .left)) (not-false _ (x .before .if2 .left)) _ (sym (x .judge .ensures) ∙ c .before .fault .given .1)
+    score-faulty _ _ _ _ (sym (x .before .before .before .is-settings .ensures) ∙ not-false _ (x .before .before .if1 .left)) (not-false _ (x .before .if2 .left)) _ (sym (x .judge .ensures) ∙ c .before .fault .given .1)
 
 pub judged-spec : {M : Type 1} → statement M
 judged-spec =

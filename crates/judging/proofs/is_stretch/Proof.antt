@@ -1,7 +1,7 @@
--- `render::is_stretch` meets its contract. Assumes nothing.
-use Rattle.render.proofs.Judging.{stretch-late, stretch-in}
-use Rattle.render.proofs.is_stretch.Statement.{statement}
-use Rattle.render.proofs.is_stretch.Tie as tie
+-- `judging::is_stretch` meets its contract. Assumes nothing.
+use Rattle.judging.proofs.Refusals.{stretch-late, stretch-in}
+use Rattle.judging.proofs.is_stretch.Statement.{statement}
+use Rattle.judging.proofs.is_stretch.Tie as tie
 
 returns : tie.Need-returns
 returns c = stretch-late _ _ (c .if1 .taken)

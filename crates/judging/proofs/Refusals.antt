@@ -1,0 +1,105 @@
+-- The refusals case by case, and what a call that has none of them has passed. Assumes nothing.
+use mathlib.Core.Path.{_≡_, refl, sym, _∙_}
+use mathlib.Core.Bool.{Bool, true, false}
+use mathlib.Core.List.{List, [], _++_, map}
+use Prim.Native.Nat.{ℕ, _+_, _-_, _≤_, _<_}
+use native.Mathlib.Omega.{arith}
+use lib.Dec.{leb, eqb}
+use borrow.Author.Tests.{le-leb, lt-leb, leb-true, leb-false, eqb-true}
+use Rattle.answers.specs.Order.{unless, firstOf}
+use Rattle.answers.specs.declared.Answer.{Answer}
+use Rattle.answers.specs.declared.Answer.the-variants.{Refused}
+use Rattle.answers.specs.declared.Refusal.the-variants.{Score, NewScore, Setting, Size}
+use Rattle.answers.specs.declared.ScoreFault.{ScoreFault}
+use Rattle.answers.proofs.Order.{first-map, passed, none-both, none-map}
+use Rattle.score.specs.declared.Verdict.the-variants.{Accepted, Faulty}
+use Rattle.score.specs.Record.{countOf}
+use Rattle.score.specs.Score.{faultsOf, verdictOf}
+use Rattle.score.specs.Below.{Sorted}
+use Rattle.score.proofs.Codec.{both}
+use Rattle.score.proofs.Cuts.{accepted-sorted}
+use Rattle.score.proofs.Verdicts.{accepted-faults, none-accepted, accepted-first, faulty-first}
+use Rattle.shelf.specs.Shelf.{wordsFor}
+use Rattle.state.specs.declared.Settings.{Settings}
+use Rattle.state.specs.Settings.{settingsOk}
+use Rattle.judging.specs.Judging.{refusalsOf, newRefusalsOf, most, isRoom, isStretch}
+
+-- ---- what the first of them leaves
+module _ (g : Settings) (room : Bool) (s : List ℕ) (rest : Answer) where
+  pub no-settings : settingsOk g ≡ false → Refused Setting ≡ firstOf (refusalsOf g room s) Refused rest
+  unfolding refusalsOf
+  no-settings e = rw e refl
+
+  pub no-room : settingsOk g ≡ true → room ≡ false → Refused Size ≡ firstOf (refusalsOf g room s) Refused rest
+  unfolding refusalsOf
+  no-room e f = rw (e, f) refl
+
+  module _ (e : settingsOk g ≡ true) (f : room ≡ true) where
+    by-score : firstOf (faultsOf s) (λ fault. Refused (Score fault)) rest ≡ firstOf (refusalsOf g room s) Refused rest
+    unfolding refusalsOf
+    by-score = rw (e, f) (sym (first-map Score (faultsOf s) Refused rest))
+
+    pub score-taken : (n : ℕ) → verdictOf s ≡ Accepted n → rest ≡ firstOf (refusalsOf g room s) Refused rest
+    score-taken n h = sym (accepted-first s n h (λ fault. Refused (Score fault)) rest) ∙ by-score
+
+    pub score-faulty : (fault : ScoreFault) → verdictOf s ≡ Faulty fault → Refused (Score fault) ≡ firstOf (refusalsOf g room s) Refused rest
+    score-faulty fault h = sym (faulty-first s fault h (λ x. Refused (Score x)) rest) ∙ by-score
+
+-- the new score alone
+module _ (s : List ℕ) (rest : Answer) where
+  by-new : firstOf (faultsOf s) (λ fault. Refused (NewScore fault)) rest ≡ firstOf (newRefusalsOf s) Refused rest
+  unfolding newRefusalsOf
+  by-new = sym (first-map NewScore (faultsOf s) Refused rest)
+
+  pub new-taken : (n : ℕ) → verdictOf s ≡ Accepted n → rest ≡ firstOf (newRefusalsOf s) Refused rest
+  new-taken n h = sym (accepted-first s n h (λ fault. Refused (NewScore fault)) rest) ∙ by-new
+
+  pub new-faulty : (fault : ScoreFault) → verdictOf s ≡ Faulty fault → Refused (NewScore fault) ≡ firstOf (newRefusalsOf s) Refused rest
+  new-faulty fault h = sym (faulty-first s fault h (λ x. Refused (NewScore x)) rest) ∙ by-new
+
+-- ---- none of them
+pub record Passed (g : Settings) (room : Bool) (s : List ℕ) : Type 0 where
+  pub settings : settingsOk g ≡ true
+  pub sized : room ≡ true
+  pub accepted : verdictOf s ≡ Accepted (countOf s)
+
+pub all-passed : (g : Settings) (room : Bool) (s : List ℕ) → refusalsOf g room s ≡ [] → Passed g room s
+unfolding refusalsOf
+all-passed g room s e =
+    let b = none-both (unless (settingsOk g) Setting ++ unless room Size) (map Score (faultsOf s)) e in
+    let a = none-both (unless (settingsOk g) Setting) (unless room Size) (b .0) in
+    record { settings = passed _ _ (a .0); sized = passed _ _ (a .1); accepted = none-accepted s (none-map Score (faultsOf s) (b .1)) }
+
+pub none-refused : (g : Settings) (room : Bool) (s : List ℕ) (n : ℕ) → settingsOk g ≡ true → room ≡ true → verdictOf s ≡ Accepted n → refusalsOf g room s ≡ []
+unfolding refusalsOf
+none-refused g room s n e f h = rw (e, f, accepted-faults s n h) refl
+
+pub new-passed : (s : List ℕ) → newRefusalsOf s ≡ [] → verdictOf s ≡ Accepted (countOf s)
+unfolding newRefusalsOf
+new-passed s e = none-accepted s (none-map NewScore (faultsOf s) e)
+
+pub none-newly : (s : List ℕ) (n : ℕ) → verdictOf s ≡ Accepted n → newRefusalsOf s ≡ []
+unfolding newRefusalsOf
+none-newly s n h = rw (accepted-faults s n h) refl
+
+pub passed-sorted : (g : Settings) (room : Bool) (s : List ℕ) → refusalsOf g room s ≡ [] → Sorted s
+passed-sorted g room s e = accepted-sorted s (countOf s) (all-passed g room s e .accepted)
+
+-- ---- sizes
+pub record Roomy (n words : ℕ) : Type 0 where
+  pub short : n ≤ most
+  pub fits : words ≡ wordsFor n
+
+pub roomy : (n words : ℕ) → isRoom n words ≡ true → Roomy n words
+roomy n words h = let b = both (leb n most) (eqb words (wordsFor n)) h in record { short = leb-true n most (b .0); fits = eqb-true words (wordsFor n) (b .1) }
+
+-- the sum is judged without being made
+pub stretch-late : (p n : ℕ) → most < p → false ≡ isStretch p n
+stretch-late p n h = sym (lt-leb (p + n) most (omega arith))
+
+pub stretch-in : (p n : ℕ) → p ≤ most → leb n (most - p) ≡ isStretch p n
+stretch-in p n h = go (leb n (most - p)) refl
+  where
+    go : (t : Bool) → leb n (most - p) ≡ t → t ≡ isStretch p n
+    go true e = let q : n ≤ most - p = leb-true n (most - p) e in sym (le-leb (p + n) most (omega arith))
+    go false e = let q : most - p < n = leb-false n (most - p) e in sym (lt-leb (p + n) most (omega arith))

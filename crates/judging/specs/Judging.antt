@@ -1,0 +1,35 @@
+-- What render, re-render and continuing call are refused for first. 01, "What a call says": "Order: 6, 7, the old or only score, the new score (same numbers plus 16), then 8 or 10"; "6 | rate, waveform's duty or an ADSR setting
+-- outside the domain"; "7 | N above 16,777,216, or shelf not 12 words per entry"; "A continuing call that would pass 16,777,216 is 7". The first of a call's refusals decides its outcome (`firstOf` of `answers`). Definitions only.
+use mathlib.Core.Bool.{Bool, _&&_}
+use mathlib.Core.List.{List, _++_, map}
+use Prim.Native.Nat.{ℕ, _+_}
+use lib.Dec.{leb, eqb}
+use Rattle.answers.specs.Order.{unless}
+use Rattle.answers.specs.declared.Refusal.{Refusal}
+use Rattle.answers.specs.declared.Refusal.the-variants.{Score, NewScore, Setting, Size}
+use Rattle.score.specs.Score.{faultsOf}
+use Rattle.shelf.specs.Shelf.{wordsFor}
+use Rattle.state.specs.declared.Settings.{Settings}
+use Rattle.state.specs.Settings.{settingsOk}
+
+-- ---- the refusals
+-- 6, 7, and the old or only score's
+unfoldable pub refusalsOf : Settings → Bool → List ℕ → List Refusal
+refusalsOf g room s = unless (settingsOk g) Setting ++ unless room Size ++ map Score (faultsOf s)
+
+-- the new score's
+unfoldable pub newRefusalsOf : List ℕ → List Refusal
+newRefusalsOf s = map NewScore (faultsOf s)
+
+-- ---- the room
+-- the most samples of an output
+abbrev pub most : ℕ
+most = 16777216
+
+-- an output of n samples, and a shelf of so many words
+abbrev pub isRoom : ℕ → ℕ → Bool
+isRoom n words = leb n most && eqb words (wordsFor n)
+
+-- n samples from p on end at or before sample 16,777,216
+abbrev pub isStretch : ℕ → ℕ → Bool
+isStretch p n = leb (p + n) most

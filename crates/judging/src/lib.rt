@@ -1,0 +1,56 @@
+// What render, re-render and continuing call are judged by first: the settings, the sizes, the old or only score, and the new
+// one. 01, "What a call says". What a call is refused for after these, it judges itself.
+ghost use mathlib.Core.Path.{_≡_};
+ghost use Rattle.answers.specs.Order.{firstOf};
+ghost use Rattle.answers.specs.declared.Answer.the-variants.{Done, Refused};
+ghost use Rattle.judging.specs.Judging.{refusalsOf, newRefusalsOf, isRoom, isStretch};
+use answers::Answer;
+use answers::Refusal;
+use score::Verdict;
+use state::Settings;
+
+// The most samples of an output.
+const MOST: u64 = 16_777_216;
+
+// 6, 7, the old or only score, and then the answer that follows.
+pub fn judged(settings: Settings, room: bool, score: &[u8], rest: Answer) -> Answer
+    ensures { λ r. ⌜ r ≡ firstOf (refusalsOf settings room (now (score .entry))) Refused rest ⌝ }
+{
+    if !state::is_settings(settings) {
+        return Answer::Refused(Refusal::Setting);
+    }
+    if !room {
+        return Answer::Refused(Refusal::Size);
+    }
+    match score::judge(score) {
+        Verdict::Accepted(_) => rest,
+        Verdict::Faulty(fault) => Answer::Refused(Refusal::Score(fault)),
+    }
+}
+
+// The new score's fault, or done.
+pub fn new_scored(new: &[u8]) -> Answer
+    ensures { λ r. ⌜ r ≡ firstOf (newRefusalsOf (now (new .entry))) Refused (Done 0) ⌝ }
+{
+    match score::judge(new) {
+        Verdict::Accepted(_) => Answer::Done(0),
+        Verdict::Faulty(fault) => Answer::Refused(Refusal::NewScore(fault)),
+    }
+}
+
+// Whether an output and its shelf have sizes that go together.
+pub fn is_room(samples: usize, words: usize) -> bool
+    ensures { λ r. ⌜ r ≡ isRoom samples words ⌝ }
+{
+    (samples as u64 <= MOST) & (words == shelf::words_for(samples))
+}
+
+// Whether so many samples from a position on end in time.
+pub fn is_stretch(position: u64, samples: usize) -> bool
+    ensures { λ r. ⌜ r ≡ isStretch position samples ⌝ }
+{
+    if position > MOST {
+        return false;
+    }
+    samples as u64 <= MOST - position
+}
