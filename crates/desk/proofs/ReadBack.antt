@@ -64,12 +64,14 @@ module _ (g : Settings) where
   rerender-reads old new out shelf = read-back (rerenderOf g old new out shelf .result) (rerender-fits g old new out shelf)
 
 -- a continuing call, from words that are no state too
-pub continue-reads : (a : Asked) (s ws : List ℕ) (p : ℕ) (part : List Float) → numbersIn (continueFor a s ws p part .result) ≡ numbersOf (continueSays a s ws p (length part))
+pub continue-says : (a : Asked) (s ws : List ℕ) (p : ℕ) (part : List Float) → continueFor a s ws p part .result ≡ packedOf (continueSays a s ws p (length part))
 unfolding continueFor
-continue-reads a s ws p part =
+continue-says a s ws p part =
     let refusals = codeRefusals (a .code) ++ continueRefusals (settingsOf a) s (isGivenIn s p ws) p (length part) in
-    ap numbersIn (first-through (λ (o : Continued ℕ). o .result) refusals (keptIn part ws) (madeIn (settingsOf a) s ws p (length part)) ∙ sym (first-through packedOf refusals Refused (Done (length part))))
-    ∙ read-back (continueSays a s ws p (length part)) (continue-fits a s ws p (length part))
+    first-through (λ (o : Continued ℕ). o .result) refusals (keptIn part ws) (madeIn (settingsOf a) s ws p (length part)) ∙ sym (first-through packedOf refusals Refused (Done (length part)))
+
+pub continue-reads : (a : Asked) (s ws : List ℕ) (p : ℕ) (part : List Float) → numbersIn (continueFor a s ws p part .result) ≡ numbersOf (continueSays a s ws p (length part))
+continue-reads a s ws p part = ap numbersIn (continue-says a s ws p part) ∙ read-back (continueSays a s ws p (length part)) (continue-fits a s ws p (length part))
 
 pub fresh-reads : (numbersIn (packedOf (Done 0)) ≡ numbersOf (Done 0)) × (numbersIn (packedOf (Refused Argument)) ≡ numbersOf (Refused Argument))
 fresh-reads = (read-back (Done 0) (done-fits 0 (omega arith)), read-back (Refused Argument) (refused-fits Argument (omega arith)))
