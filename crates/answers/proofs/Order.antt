@@ -98,6 +98,44 @@ module _ (xs : List Refusal) (n : ℕ) where
       go [] e = absurd (clash (cc))
       go (x ∷ xs) e = cc
 
+-- ---- a call: what it answers goes by its list, and what it leaves by what it answers, both ways
+pub record Decided {R : Type 0} (says : R → Answer) (refusals : List Refusal) (kept : Refusal → R) (made : R) (n : ℕ) (o : R) : Type 0 where
+  pub refused : (why : Refusal) → says o ≡ Refused why → Leads why refusals
+  pub is-refused : (why : Refusal) → Leads why refusals → says o ≡ Refused why
+  pub keeps : (why : Refusal) → says o ≡ Refused why → o ≡ kept why
+  pub done : (m : ℕ) → says o ≡ Done m → refusals ≡ []
+  pub is-done : refusals ≡ [] → says o ≡ Done n
+  pub makes : (m : ℕ) → says o ≡ Done m → o ≡ made
+  pub counts : (m : ℕ) → says o ≡ Done m → n ≡ m
+
+-- of an outcome that is what the first refusal keeps, or what is made with a count n
+pub decided : {R : Type 0} (says : R → Answer) (refusals : List Refusal) (kept : Refusal → R) (made : R) (n : ℕ) → ((why : Refusal) → says (kept why) ≡ Refused why) → says made ≡ Done n
+    → Decided says refusals kept made n (firstOf refusals kept made)
+decided says refusals kept made n a b = go refusals
+  where
+    go : (xs : List Refusal) → Decided says xs kept made n (firstOf xs kept made)
+    go [] =
+        record {
+          refused = λ why e. absurd (clash (cc));
+          is-refused = λ why h. absurd h;
+          keeps = λ why e. absurd (clash (cc));
+          done = λ m e. refl;
+          is-done = λ e. b;
+          makes = λ m e. refl;
+          counts = λ m e. cc;
+        }
+    go (x ∷ xs) =
+        let said = a x in
+        record {
+          refused = λ why e. cc;
+          is-refused = λ why h. said ∙ ap Refused h;
+          keeps = λ why e. (let same : x ≡ why = cc in ap kept same);
+          done = λ m e. absurd (clash (cc));
+          is-done = λ e. absurd (clash (cc));
+          makes = λ m e. absurd (clash (cc));
+          counts = λ m e. absurd (clash (cc));
+        }
+
 -- ---- a refusal in its place
 pub leads-append : {A : Type 0} (why : A) (xs ys : List A) → Leads why xs → Leads why (xs ++ ys)
 leads-append why [] ys h = absurd h

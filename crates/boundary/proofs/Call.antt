@@ -1,26 +1,28 @@
 -- A continuing call on the words of a state is that call on the state, its answer packed; where its word has number 0 it has made the whole part. Assumes nothing.
-use mathlib.Core.Path.{_≡_, refl, sym, ap, _∙_}
+use mathlib.Core.Path.{_≡_, refl, ap, _∙_}
 use mathlib.Core.Bool.{true}
-use mathlib.Core.List.{List, _∷_}
+use mathlib.Core.List.{List, [], _∷_, _++_}
 use Prim.Native.Nat.{ℕ}
 use lib.ListN.{length}
 use lib.Ieee.{Float}
-use Rattle.sections.specs.Outcome.{Outcome, leaves}
 use Rattle.answers.specs.declared.Answer.the-variants.{Done}
-use Rattle.answers.specs.declared.Refusal.the-variants.{GivenState}
+use Rattle.answers.specs.declared.Refusal.{Refusal}
+use Rattle.answers.proofs.Order.{none-both, done-none}
 use Rattle.shelf.specs.declared.Entry.{Entry}
 use Rattle.shelf.specs.Shelf.{entryOf, stateOf, isEntry, decodedOf}
+use Rattle.shelf.proofs.Back.{entry-is-state}
 use Rattle.state.specs.declared.Settings.{Settings}
 use Rattle.state.specs.declared.State.{State}
-use Rattle.state.specs.Heart.{samplesFrom}
-use Rattle.render.specs.Order.{unless}
-use Rattle.render.specs.Calls.{PartOutcome, isStretch, isGiven, continueOf}
-use Rattle.render.proofs.Judging.{passed, all-passed}
+use Rattle.state.specs.Limits.{isState}
+use Rattle.state.specs.Heart.{stateFrom, samplesFrom}
+use Rattle.render.specs.Calls.{isGiven, continueRefusals, continueOf}
+use Rattle.render.proofs.Outcomes.{continue-decided}
 use Rattle.demands.specs.Chain.{Step}
-use Rattle.demands.proofs.Link.{answer-is, call-leaves, after, onward}
-use Rattle.desk.specs.declared.Choice.the-variants.{Known}
+use Rattle.demands.proofs.Link.{after, onward}
 use Rattle.desk.specs.Packed.{packedOf, numbersIn}
-use Rattle.desk.specs.Desk.{Asked, choiceOf, continued, continueFor}
+use Rattle.desk.specs.Desk.{Continued, continues, Asked, settingsOf, isCode, codeRefusals, isGivenIn, continueFor}
+use Rattle.desk.proofs.Fits.{continueSays}
+use Rattle.desk.proofs.ReadBack.{continue-says}
 use Rattle.boundary.specs.WordsChain.{andThen, wordsChainFrom}
 use Rattle.boundary.proofs.Zero.{zero-done}
 
@@ -28,25 +30,41 @@ use Rattle.boundary.proofs.Zero.{zero-done}
 abbrev pub Read : State → Type 0
 Read v = decodedOf (entryOf v) ≡ record { holds = true; state = v }
 
-module _ (a : Asked) (g : Settings) (is : choiceOf a ≡ Known g) (v : State) (read : Read v) (p : ℕ) where
-  pub in-words : (s : List ℕ) (part : List Float) → continueFor (choiceOf a) s (entryOf v) p part ≡ continued (continueOf g s v p part) (entryOf v)
-  in-words s part =
-      let h : isEntry (entryOf v) ≡ true = ap (λ (e : Entry). e .holds) read in
-      let e : stateOf (entryOf v) ≡ v = ap (λ (e : Entry). e .state) read in
-      rw (is, h, e) refl
+module _ (a : Asked) (v : State) (read : Read v) (p : ℕ) where
+  abbrev g : Settings
+  g = settingsOf a
 
-  pub zero-whole : (s : List ℕ) (part : List Float) → numbersIn (continueFor (choiceOf a) s (entryOf v) p part .result) .number ≡ 0 → continueOf g s v p part .result .answer ≡ Done (length part)
+  is-entry : isEntry (entryOf v) ≡ true
+  is-entry = ap (λ (e : Entry). e .holds) read
+
+  read-as : stateOf (entryOf v) ≡ v
+  read-as = ap (λ (e : Entry). e .state) read
+
+  -- so the call on the words has the refusals of the call on the state
+  same-refusals : (s : List ℕ) (n : ℕ) → continueRefusals g s (isGivenIn s p (entryOf v)) p n ≡ continueRefusals g s (isGiven s p v) p n
+  same-refusals s n = let is-state : isState v ≡ true = rw read-as at (entry-is-state (entryOf v) is-entry) in rw (is-entry, read-as, is-state) refl
+
+  pub zero-whole : (s : List ℕ) (part : List Float) → numbersIn (continueFor a s (entryOf v) p part .result) .number ≡ 0 → continueOf g s v p part .result .answer ≡ Done (length part)
   zero-whole s part z =
       let n = length part in
-      let d = zero-done (continueOf g s v p part .result .answer) (rw (in-words s part) at z) in
-      let b = all-passed g (isStretch p n) s (unless (isGiven s p v) GivenState (Done n)) (d .0) (sym (answer-is g s v p part) ∙ d .1) in
-      d .1 ∙ sym (passed (isGiven s p v) GivenState (Done n) (d .0) (b .score .follows) .1)
+      let later = continueRefusals g s (isGivenIn s p (entryOf v)) p n in
+      let d = zero-done (continueSays a s (entryOf v) p n) (rw (continue-says a s (entryOf v) p part) at z) in
+      let none : later ≡ [] = none-both (codeRefusals (a .code)) later (done-none (codeRefusals (a .code) ++ later) n (d .0) (d .1)) .1 in
+      continue-decided g s v p part .is-done (rw (same-refusals s n) at none)
 
   -- the first call of a chain, done, leaves its samples, and the rest goes on from the words of the state after them
-  pub words-step : (x : Step) (xs : List Step) → continueOf g (x .score) v p (x .part) .result .answer ≡ Done (length (x .part))
-      → wordsChainFrom a (entryOf v) p (x ∷ xs)
-      ≡ andThen (leaves (packedOf (Done (length (x .part)))) (samplesFrom g (x .score) p v (length (x .part))) (entryOf (after g v p x xs))) (wordsChainFrom a (entryOf (after g v p x xs)) (onward g v p x xs) xs)
-  unfolding wordsChainFrom
-  words-step x xs e =
-      ap (λ (o : Outcome ℕ). andThen o (wordsChainFrom a (o .stored) (onward g v p x xs) xs))
-      (in-words (x .score) (x .part) ∙ ap (λ (c : PartOutcome). continued c (entryOf v)) (call-leaves g (x .score) v p (x .part) e))
+  module _ (is : isCode (a .code) ≡ true) (x : Step) (xs : List Step) where
+    abbrev n : ℕ
+    n = length (x .part)
+
+    in-words : continueOf g (x .score) v p (x .part) .result .answer ≡ Done n → continueFor a (x .score) (entryOf v) p (x .part) ≡ continues (packedOf (Done n)) (samplesFrom g (x .score) p v n) (entryOf (stateFrom g (x .score) p v n))
+    unfolding continueFor
+    in-words e =
+        let none : continueRefusals g (x .score) (isGivenIn (x .score) p (entryOf v)) p n ≡ [] = same-refusals (x .score) n ∙ continue-decided g (x .score) v p (x .part) .done n e in
+        rw (is, none, read-as) refl
+
+    pub words-step : continueOf g (x .score) v p (x .part) .result .answer ≡ Done n
+        → wordsChainFrom a (entryOf v) p (x ∷ xs)
+        ≡ andThen (continues (packedOf (Done n)) (samplesFrom g (x .score) p v n) (entryOf (after g v p x xs))) (wordsChainFrom a (entryOf (after g v p x xs)) (onward g v p x xs) xs)
+    unfolding wordsChainFrom
+    words-step e = ap (λ (o : Continued ℕ). andThen o (wordsChainFrom a (o .words) (onward g v p x xs) xs)) (in-words e)

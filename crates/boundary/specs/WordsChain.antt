@@ -5,28 +5,24 @@ use mathlib.Core.List.{List, [], _∷_, _++_}
 use Prim.Native.Nat.{ℕ, _+_}
 use lib.ListN.{length}
 use lib.Ieee.{Float}
-use Rattle.sections.specs.Outcome.{Outcome, leaves}
 use Rattle.shelf.specs.Shelf.{entryOf}
 use Rattle.render.specs.Calls.{renderOf}
 use Rattle.demands.specs.Chain.{Step}
 use Rattle.desk.specs.Packed.{numbersIn}
-use Rattle.desk.specs.declared.Choice.{Choice}
-use Rattle.desk.specs.declared.Choice.the-variants.{Known, Unknown}
-use Rattle.desk.specs.Desk.{Asked, choiceOf, continueFor}
+use Rattle.desk.specs.Desk.{Continued, continues, Asked, settingsOf, continueFor}
 
--- a call, and the rest after it: the word that each answered, the parts one after the other, and the words that are stored last
-abbrev pub andThen : Outcome ℕ → Outcome (List ℕ) → Outcome (List ℕ)
-andThen c rest = leaves (c .result ∷ rest .result) (c .heard ++ rest .heard) (rest .stored)
+-- a call, and the rest after it: the word that each answered, the parts one after the other, and the words that are left last
+abbrev pub andThen : Continued ℕ → Continued (List ℕ) → Continued (List ℕ)
+andThen c rest = continues (c .result ∷ rest .result) (c .heard ++ rest .heard) (rest .words)
 
 -- from the words ws at position p: a call on its part, then the rest from the words that it left, at the end of that part
-unfoldable pub wordsChainFrom : Asked → List ℕ → ℕ → List Step → Outcome (List ℕ)
-wordsChainFrom a ws p [] = leaves [] [] ws
-wordsChainFrom a ws p (x ∷ xs) = let c = continueFor (choiceOf a) (x .score) ws p (x .part) in andThen c (wordsChainFrom a (c .stored) (p + length (x .part)) xs)
+unfoldable pub wordsChainFrom : Asked → List ℕ → ℕ → List Step → Continued (List ℕ)
+wordsChainFrom a ws p [] = continues [] [] ws
+wordsChainFrom a ws p (x ∷ xs) = let c = continueFor a (x .score) ws p (x .part) in andThen c (wordsChainFrom a (c .words) (p + length (x .part)) xs)
 
--- the words of the state that a render ends in; none where the settings are unknown
-abbrev pub endWords : Choice → List ℕ → List Float → List ℕ → List ℕ
-endWords (Known g) s out shelf = entryOf (renderOf g s out shelf .result .state)
-endWords Unknown s out shelf = []
+-- the words of the state that a render ends in
+abbrev pub endWords : Asked → List ℕ → List Float → List ℕ → List ℕ
+endWords a s out shelf = entryOf (renderOf (settingsOf a) s out shelf .result .state)
 
 -- ---- what is asked of the answers: number 0 in every word
 abbrev pub AllZero : List ℕ → Type 0

@@ -4,7 +4,7 @@
 -- that a render leaves. The sustain setting is a value of an f64, which is what owning it tells. Assumes nothing.
 use mathlib.Core.Path.{_≡_, refl, ap, sym, _∙_}
 use mathlib.Core.Bool.{true}
-use mathlib.Core.List.{List, []}
+use mathlib.Core.List.{List}
 use Prim.Native.Nat.{ℕ, _+_, _*_, _%_, _≤_, _<_}
 use native.Mathlib.Nat.{zero-add}
 use native.Mathlib.Omega.{arith}
@@ -12,11 +12,7 @@ use borrow.Author.Tests.{eq-eqb}
 use lib.Dec.{T}
 use lib.ListN.{length, take, drop}
 use lib.Ieee.{Float, binary64, fits}
-use Rattle.sections.specs.Outcome.{Outcome}
-use Rattle.answers.specs.Order.{firstOf}
-use Rattle.answers.specs.declared.Answer.the-variants.{Done, Refused}
-use Rattle.answers.specs.declared.Refusal.{Refusal}
-use Rattle.answers.proofs.Order.{first-through, done-none}
+use Rattle.answers.specs.declared.Answer.the-variants.{Done}
 use Rattle.score.specs.declared.Verdict.the-variants.{Accepted}
 use Rattle.score.specs.Record.{countOf}
 use Rattle.score.specs.Score.{verdictOf}
@@ -38,10 +34,10 @@ use Rattle.shelf.specs.declared.Entry.{Entry}
 use Rattle.shelf.specs.Shelf.{entryWords, mark, entriesFor, entryOf, isEntry, decodedOf, shelfOf}
 use Rattle.shelf.proofs.There.{Fitting, encode-decode}
 use Rattle.shelf.proofs.Whole.{entry-words}
-use Rattle.judging.specs.Judging.{refusalsOf, isRoom}
+use Rattle.judging.specs.Judging.{isRoom}
 use Rattle.judging.proofs.Refusals.{Passed, all-passed}
-use Rattle.render.specs.declared.Rendered.{Rendered}
-use Rattle.render.specs.Calls.{madeOf, renderOf, isGiven}
+use Rattle.render.specs.Calls.{renderOf, isGiven}
+use Rattle.render.proofs.Outcomes.{render-decided}
 
 -- ---- values of an f64 and arrays of 16, through every step, of any score
 pub fresh-fitting : (acted : ℕ) → Fitting (freshOf acted)
@@ -113,27 +109,16 @@ module _ (g : Settings) (ok : settingsOk g ≡ true) (w : T (fits binary64 (g .a
   fresh-entries-honest k j h = rw (zero-add j) at (entries-honest 0 (freshOf 0) fresh-is-state none-acted (fresh-fitting 0) k j h)
 
 -- ---- the shelf that a render leaves
-done-inj : {n m : ℕ} → Done n ≡ Done m → n ≡ m
-done-inj e = cc
-
 module _ (g : Settings) (s : List ℕ) (out : List Float) (shelf : List ℕ) where
-  abbrev refusals : List Refusal
-  refusals = refusalsOf g (isRoom (length out) (length shelf)) s
-
-  -- what a render answers is its first refusal, or done with every sample
-  pub render-says : renderOf g s out shelf .result .answer ≡ firstOf refusals Refused (Done (length out))
-  unfolding renderOf
-  render-says = first-through (λ (o : Outcome Rendered). o .result .answer) refusals _ (madeOf g s (length out))
-
-  pub render-passed : (n : ℕ) → renderOf g s out shelf .result .answer ≡ Done n → Passed g (isRoom (length out) (length shelf)) s × (renderOf g s out shelf ≡ madeOf g s n)
-  unfolding renderOf
-  render-passed n d =
-      let e : firstOf refusals Refused (Done (length out)) ≡ Done n = sym render-says ∙ d in
-      let none : refusals ≡ [] = done-none refusals (length out) n e in
-      let same : length out ≡ n = done-inj (rw none at e) in
-      (all-passed g (isRoom (length out) (length shelf)) s none, rw (none, same) refl)
+  -- what a render has passed that is done
+  pub render-passed : (n : ℕ) → renderOf g s out shelf .result .answer ≡ Done n → Passed g (isRoom (length out) (length shelf)) s
+  render-passed n d = all-passed g (isRoom (length out) (length shelf)) s (render-decided g s out shelf .done n d)
 
   -- entry i, of as many as n samples have
   pub render-honest : T (fits binary64 (g .adsr .sustain)) → (n : ℕ) → renderOf g s out shelf .result .answer ≡ Done n → (i : ℕ) → i < entriesFor n
       → HonestEntry s (i * mark) (stateFrom g s 0 (freshOf 0) (i * mark)) (take entryWords (drop (i * entryWords) (renderOf g s out shelf .stored)))
-  render-honest w n d i h = let p = render-passed n d in rw (p .1) (fresh-entries-honest g (p .0 .settings) w s (countOf s) (p .0 .accepted) (entriesFor n) i h)
+  render-honest w n d i h =
+      let p = render-passed n d in
+      let c = render-decided g s out shelf in
+      let many : i < entriesFor (length out) = rw (c .counts n d) h in
+      rw (c .makes n d) (fresh-entries-honest g (p .settings) w s (countOf s) (p .accepted) (entriesFor (length out)) i many)

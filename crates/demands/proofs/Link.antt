@@ -11,11 +11,10 @@ use lib.ListN.{length}
 use lib.Ieee.{Float}
 use borrow.Author.Tests.{le-leb, leb-true, eq-eqb, eqb-true, ne-eqb}
 use Rattle.answers.specs.declared.Answer.{Answer}
-use Rattle.answers.specs.Order.{unless, firstOf}
-use Rattle.answers.specs.declared.Answer.the-variants.{Done, Refused}
-use Rattle.answers.specs.declared.Refusal.{Refusal}
+use Rattle.answers.specs.Order.{unless}
+use Rattle.answers.specs.declared.Answer.the-variants.{Done}
 use Rattle.answers.specs.declared.Refusal.the-variants.{GivenState}
-use Rattle.answers.proofs.Order.{first-through, passed, none-both, done-none}
+use Rattle.answers.proofs.Order.{passed, none-both}
 use Rattle.score.specs.declared.Verdict.the-variants.{Accepted}
 use Rattle.score.specs.Record.{countOf, positionAt}
 use Rattle.score.specs.Score.{verdictOf}
@@ -34,7 +33,8 @@ use Rattle.state.proofs.Depends.{Shared, state-shared, samples-shared, grown-sh
 use Rattle.state.proofs.Acted.{acted-fresh}
 use Rattle.judging.specs.Judging.{refusalsOf, most, isStretch}
 use Rattle.judging.proofs.Refusals.{all-passed, none-refused}
-use Rattle.render.specs.Calls.{PartOutcome, isGiven, continueRefusals, madePart, keptPart, continueOf}
+use Rattle.render.specs.Calls.{PartOutcome, isGiven, madePart, keptPart, continueOf}
+use Rattle.render.proofs.Outcomes.{continue-decided}
 use Rattle.demands.specs.Chain.{Step, ChainOutcome, andThen, chainFrom, AllDone, Grown, NoneBelow}
 
 -- ---- one call
@@ -52,28 +52,12 @@ module _ (g : Settings) (t : List ℕ) (v : State) (p : ℕ) (part : List Float)
   abbrev call : PartOutcome
   call = continueOf g t v p part
 
-  abbrev refusals : List Refusal
-  refusals = continueRefusals g t (isGiven t p v) p n
-
-  -- what a call answers is its first refusal, or done with the part
-  answer-is : call .result .answer ≡ firstOf refusals Refused (Done n)
-  unfolding continueOf
-  answer-is = first-through (λ (o : PartOutcome). o .result .answer) refusals (keptPart v part) (madePart g t v p n)
-
-  pub done-refuses-none : (m : ℕ) → call .result .answer ≡ Done m → refusals ≡ []
-  done-refuses-none m e = done-none refusals n m (sym answer-is ∙ e)
-
   pub call-passed : (m : ℕ) → call .result .answer ≡ Done m → PassedCall g t v p n
   call-passed m e =
-      let b = none-both (refusalsOf g (isStretch p n) t) (unless (isGiven t p v) GivenState) (done-refuses-none m e) in
+      let b = none-both (refusalsOf g (isStretch p n) t) (unless (isGiven t p v) GivenState) (continue-decided g t v p part .done m e) in
       let a = all-passed g (isStretch p n) t (b .0) in
       let c = both (isState v) (eqb (v .acted) (countBelow t p)) (passed (isGiven t p v) GivenState (b .1)) in
       record { settings = a .settings; in-time = leb-true (p + n) most (a .sized); accepted = a .accepted; acted = eqb-true (v .acted) (countBelow t p) (c .1) }
-
-  -- where that is 0, it leaves its samples, and the state after them
-  pub call-leaves : (m : ℕ) → call .result .answer ≡ Done m → call ≡ madePart g t v p n
-  unfolding continueOf
-  call-leaves m e = rw (done-refuses-none m e) refl
 
   -- under good settings, in time, with an accepted score, the given state alone counts
   module _ (ok : settingsOk g ≡ true) (l : p + n ≤ most) (m : ℕ) (a : verdictOf t ≡ Accepted m) where
@@ -82,7 +66,7 @@ module _ (g : Settings) (t : List ℕ) (v : State) (p : ℕ) (part : List Float)
 
     -- 0 where it is a state and as many records acted as are below p
     pub call-done : isState v ≡ true → v .acted ≡ countBelow t p → call .result .answer ≡ Done n
-    call-done i c = answer-is ∙ rw (none-before, i, eq-eqb (v .acted) (countBelow t p) c) refl
+    call-done i c = continue-decided g t v p part .is-done (rw (none-before, i, eq-eqb (v .acted) (countBelow t p) c) refl)
 
     -- 10 where another number of records acted: all is left as it came
     pub call-late : (v .acted ≡ countBelow t p → ⊥) → call ≡ keptPart v part GivenState
@@ -149,7 +133,7 @@ module _ (g : Settings) (v : State) (p : ℕ) (x : Step) (xs : List Step) where
   pub chain-step : continueOf g (x .score) v p (x .part) .result .answer ≡ Done (length (x .part))
       → chainFrom g v p (x ∷ xs) ≡ andThen (madePart g (x .score) v p (length (x .part))) (chainFrom g after onward xs)
   unfolding chainFrom
-  chain-step e = ap (λ (c : PartOutcome). andThen c (chainFrom g (c .result .state) onward xs)) (call-leaves g (x .score) v p (x .part) (length (x .part)) e)
+  chain-step e = ap (λ (c : PartOutcome). andThen c (chainFrom g (c .result .state) onward xs)) (continue-decided g (x .score) v p (x .part) .makes (length (x .part)) e)
 
   pub first-done : AllDone g v p (x ∷ xs) → continueOf g (x .score) v p (x .part) .result .answer ≡ Done (length (x .part))
   unfolding chainFrom

@@ -1,44 +1,42 @@
 -- Every answer that the desk packs has room in its word: its number is below 2^8, its place below 2^24, its count below 2^32. Assumes nothing.
-use mathlib.Core.Path.{_≡_, refl}
-use mathlib.Core.Bool.{Bool, true, false, cond}
-use mathlib.Core.List.{List, _++_}
+use mathlib.Core.Path.{_≡_, subst}
+use mathlib.Core.Bool.{Bool, _&&_}
+use mathlib.Core.List.{List, [], _++_, map}
+use mathlib.Core.Logic.{⊎-elim}
 use Prim.Native.Nat.{ℕ, zero, suc, _+_, _-_, _*_, _%_, _≤_, _<_}
 use native.Mathlib.Omega.{arith}
 use lib.Dec.{leb, eqb}
 use lib.ListN.{length}
 use lib.Ieee.{Float}
 use borrow.Author.Tests.{leb-true}
-use Rattle.sections.specs.Outcome.{Outcome, leaves}
+use Rattle.sections.specs.Outcome.{Outcome}
 use Rattle.answers.specs.declared.Answer.{Answer}
 use Rattle.answers.specs.declared.Answer.the-variants.{Done, Refused}
 use Rattle.answers.specs.declared.Refusal.{Refusal}
 use Rattle.answers.specs.declared.Refusal.the-variants.{Score, NewScore, Setting, Size, StartEntry, Argument, GivenState}
 use Rattle.answers.specs.declared.ScoreFault.{ScoreFault}
 use Rattle.answers.specs.declared.ScoreFault.the-variants.{Length, Mark, Kind, Field, Order}
+use Rattle.answers.specs.declared.Value.{Value}
 use Rattle.answers.specs.Numbers.{faultNumber, faultPlace, refusalNumber, refusalPlace, numbersOf}
-use Rattle.answers.specs.Order.{unless}
+use Rattle.answers.specs.Order.{unless, firstOf}
 use Rattle.answers.specs.Value.{valueOr}
-use Rattle.floats.specs.Double.{naught}
+use Rattle.answers.proofs.Order.{passed, none-both, Leads, first-holds, leads-parts, leads-unless, leads-map}
+use Rattle.judging.specs.Judging.{refusalsOf, newRefusalsOf, most, isRoom, isStretch}
+use Rattle.judging.proofs.Refusals.{all-passed, roomy}
 use Rattle.domain.specs.Domain.{isPhase}
-use Rattle.render.specs.Calls.{renderAnswer, renderedOf, renderOf, isStretch, isGiven, continueAnswer, continuedOf, continueOf}
-use Rattle.render.specs.Order as render
-use Rattle.render.specs.Order.{most, scored, judgedOf, isRoom}
-use Rattle.render.proofs.Judging.{roomy}
+use Rattle.render.specs.declared.Rendered.{Rendered}
+use Rattle.render.specs.Calls.{madeOf, renderOf, continueRefusals}
 use Rattle.rerender.specs.declared.Plan.{Plan}
 use Rattle.rerender.specs.declared.Plan.the-variants.{Nothing, From}
-use Rattle.rerender.specs.Rerender.{newScored, checkedOf, planOf, isStart, madeFrom, fromOf, runOf, afterChecks, rerenderOf}
-use Rattle.rerender.proofs.Cases.{all-checked}
-use Rattle.score.specs.declared.Verdict.{Verdict}
-use Rattle.score.specs.declared.Verdict.the-variants.{Accepted, Faulty}
+use Rattle.rerender.specs.Rerender.{planOf, isStart, runOf, startRefusals, rerenderRefusals, keptOf, rerenderOf}
+use Rattle.rerender.proofs.Cases.{checks, all-checked}
 use Rattle.score.specs.Record.{countOf}
-use Rattle.score.specs.Score.{markRight, kindRight, fieldsRight, inOrder, unless, verdictAt, next, verdictFrom, verdictOf, answerOf}
+use Rattle.score.specs.Score.{markRight, kindRight, fieldsRight, inOrder, faultsAt, faultsFrom, faultsOf, answerOf}
+use Rattle.score.proofs.Codec.{both}
 use Rattle.state.specs.declared.Settings.{Settings}
 use Rattle.state.specs.Settings.{settingsOk}
-use Rattle.state.specs.declared.State.{State}
 use Rattle.waveform.specs.Waveform.{isWaveform, valueOf}
-use Rattle.desk.specs.declared.Shape.{Shape}
-use Rattle.desk.specs.declared.Shape.the-variants.{Known, Unknown}
-use Rattle.desk.specs.Desk.{singleFor}
+use Rattle.desk.specs.Desk.{Asked, waveformOf, settingsOf, isCode, codeRefusals, singleOf, isGivenIn}
 
 pub record Fits (a : Answer) : Type 0 where
   pub number-fits : numbersOf a .number < 256
@@ -69,116 +67,114 @@ pub refused-fits : (r : Refusal) → refusalPlace r ≤ 4096 → Fits (Refused r
 refused-fits r h = record { number-fits = refusal-number r; place-fits = omega arith; count-fits = omega arith }
 
 -- ---- the place of a score's fault is at most 4,096
-abbrev Low : ℕ → Verdict → Type 0
-Low b (Accepted n) = Unit
-Low b (Faulty f) = faultPlace f ≤ b
-
-unless-low : (b : ℕ) (t : Bool) (f : ScoreFault) (v : Verdict) → faultPlace f ≤ b → Low b v → Low b (unless t f v)
-unless-low b true f v p q = q
-unless-low b false f v p q = p
-
-lower : (a b : ℕ) → a ≤ b → (v : Verdict) → Low a v → Low b v
-lower a b h (Accepted n) q = tt
-lower a b h (Faulty f) q = omega arith
-
-next-low : (b : ℕ) (v rest : Verdict) → Low b v → Low b rest → Low b (next v rest)
-next-low b (Accepted n) rest p q = q
-next-low b (Faulty f) rest p q = p
-
-record-low : (s : List ℕ) (i : ℕ) → Low i (verdictAt s i)
-unfolding verdictAt
-record-low s i =
-    unless-low i (markRight s i) (Mark i) _ (omega arith)
-    (unless-low i (kindRight s i) (Kind i) _ (omega arith)
-    (unless-low i (fieldsRight s i) (Field i) _ (omega arith)
-    (unless-low i (inOrder s i) (Order i) (Accepted 1) (omega arith) tt)))
-
-from-low : (s : List ℕ) (k i b : ℕ) → i + k ≤ b → Low b (verdictFrom s k i)
-unfolding verdictFrom
-from-low s zero i b h = tt
-from-low s (suc k) i b h = next-low b (verdictAt s i) (verdictFrom s k (suc i)) (lower i b (omega arith) (verdictAt s i) (record-low s i)) (from-low s k (suc i) b (omega arith))
-
-verdict-low : (s : List ℕ) → Low 4096 (verdictOf s)
-unfolding verdictOf
-verdict-low s = unless-low 4096 (eqb (length s % 10) 0) Length (unless (leb (countOf s) 4096) Length (verdictFrom s (countOf s) 0)) (omega arith) (go (leb (countOf s) 4096) refl)
+record-low : (s : List ℕ) (i : ℕ) (f : ScoreFault) → Leads f (faultsAt s i) → faultPlace f ≤ i
+unfolding faultsAt
+record-low s i f h =
+    let mark = unless (markRight s i) (Mark i) in
+    let kind = unless (kindRight s i) (Kind i) in
+    let fields = unless (fieldsRight s i) (Field i) in
+    ⊎-elim
+    (λ h. ⊎-elim
+    (λ h. ⊎-elim (λ h. here (markRight s i) (Mark i) (omega arith) h) (λ h. here (kindRight s i) (Kind i) (omega arith) (h .1)) (leads-parts f mark kind h))
+    (λ h. here (fieldsRight s i) (Field i) (omega arith) (h .1)) (leads-parts f (mark ++ kind) fields h))
+    (λ h. here (inOrder s i) (Order i) (omega arith) (h .1)) (leads-parts f (mark ++ kind ++ fields) (unless (inOrder s i) (Order i)) h)
   where
-    go : (t : Bool) → leb (countOf s) 4096 ≡ t → Low 4096 (unless t Length (verdictFrom s (countOf s) 0))
-    go true e = let h : countOf s ≤ 4096 = leb-true (countOf s) 4096 e in from-low s (countOf s) 0 4096 (omega arith)
-    go false e = omega arith
+    here : (t : Bool) (x : ScoreFault) → faultPlace x ≤ i → Leads f (unless t x) → faultPlace f ≤ i
+    here t x l h = subst (λ (y : ScoreFault). faultPlace y ≤ i) (leads-unless f t x h .1) l
 
--- ---- the checks
-pub scored-fits : (s : List ℕ) (rest : Answer) → Fits rest → Fits (scored (verdictOf s) rest)
-scored-fits s rest f = go (verdictOf s) (verdict-low s)
-  where
-    go : (v : Verdict) → Low 4096 v → Fits (scored v rest)
-    go (Accepted n) l = f
-    go (Faulty fault) l = refused-fits (Score fault) l
+from-low : (s : List ℕ) (k i : ℕ) (f : ScoreFault) → Leads f (faultsFrom s k i) → faultPlace f ≤ i + k
+unfolding faultsFrom
+from-low s zero i f h = absurd h
+from-low s (suc k) i f h =
+    ⊎-elim (λ h. omega (arith, record-low s i f h)) (λ h. omega (arith, from-low s k (suc i) f (h .1))) (leads-parts f (faultsAt s i) (faultsFrom s k (suc i)) h)
 
-pub newly-fits : (s : List ℕ) → Fits (newScored (verdictOf s) (Done 0))
-newly-fits s = go (verdictOf s) (verdict-low s)
-  where
-    go : (v : Verdict) → Low 4096 v → Fits (newScored v (Done 0))
-    go (Accepted n) l = done-fits 0 (omega arith)
-    go (Faulty fault) l = refused-fits (NewScore fault) l
+fault-low : (s : List ℕ) (f : ScoreFault) → Leads f (faultsOf s) → faultPlace f ≤ 4096
+unfolding faultsOf
+fault-low s f h =
+    let sized = eqb (length s % 10) 0 && leb (countOf s) 4096 in
+    ⊎-elim (λ h. subst (λ (y : ScoreFault). faultPlace y ≤ 4096) (leads-unless f sized Length h .1) (omega arith))
+    (λ h. let few : countOf s ≤ 4096 = leb-true _ _ (both (eqb (length s % 10) 0) (leb (countOf s) 4096) (passed sized Length (h .0)) .1) in omega (arith, from-low s (countOf s) 0 f (h .1)))
+    (leads-parts f (unless sized Length) (faultsFrom s (countOf s) 0) h)
 
-unless-fits : (t : Bool) (why : Refusal) (rest : Answer) → refusalPlace why ≤ 4096 → (t ≡ true → Fits rest) → Fits (render.unless t why rest)
-unless-fits true why rest p f = f refl
-unless-fits false why rest p f = refused-fits why p
+-- ---- so is that of every refusal of a list
+abbrev Low : List Refusal → Type 0
+Low xs = (why : Refusal) → Leads why xs → refusalPlace why ≤ 4096
 
-pub judged-fits : (g : Settings) (room : Bool) (s : List ℕ) (rest : Answer) → (room ≡ true → Fits rest) → Fits (judgedOf g room s rest)
-unfolding judgedOf
-judged-fits g room s rest f = unless-fits (settingsOk g) Setting _ (omega arith) (λ e. unless-fits room Size _ (omega arith) (λ h. scored-fits s rest (f h)))
+unless-low : (t : Bool) (x : Refusal) → refusalPlace x ≤ 4096 → Low (unless t x)
+unless-low t x l why h = subst (λ (y : Refusal). refusalPlace y ≤ 4096) (leads-unless why t x h .1) l
+
+append-low : (xs ys : List Refusal) → Low xs → Low ys → Low (xs ++ ys)
+append-low xs ys a b why h = ⊎-elim (λ l. a why l) (λ l. b why (l .1)) (leads-parts why xs ys h)
+
+score-low : (s : List ℕ) → Low (map Score (faultsOf s))
+score-low s why h = let x = leads-map Score why (faultsOf s) h in subst (λ (y : Refusal). refusalPlace y ≤ 4096) (x .2) (fault-low s (x .0) (x .1))
+
+new-low : (s : List ℕ) → Low (newRefusalsOf s)
+unfolding newRefusalsOf
+new-low s why h = let x = leads-map NewScore why (faultsOf s) h in subst (λ (y : Refusal). refusalPlace y ≤ 4096) (x .2) (fault-low s (x .0) (x .1))
+
+judged-low : (g : Settings) (room : Bool) (s : List ℕ) → Low (refusalsOf g room s)
+unfolding refusalsOf
+judged-low g room s =
+    append-low (unless (settingsOk g) Setting ++ unless room Size) (map Score (faultsOf s))
+    (append-low (unless (settingsOk g) Setting) (unless room Size) (unless-low (settingsOk g) Setting (omega arith)) (unless-low room Size (omega arith)))
+    (score-low s)
 
 -- ---- the calls
-pub check-fits : (s : List ℕ) → Fits (answerOf (verdictOf s))
-check-fits s = go (verdictOf s) (verdict-low s)
-  where
-    go : (v : Verdict) → Low 4096 v → Fits (answerOf v)
-    go (Accepted n) l = done-fits 0 (omega arith)
-    go (Faulty fault) l = refused-fits (Score fault) l
+-- an answer by a list of such refusals, done with a count that has room
+first-fits : (xs : List Refusal) → Low xs → (n : ℕ) → (xs ≡ [] → n < 4294967296) → Fits (firstOf xs Refused (Done n))
+first-fits xs low n h = first-holds Fits xs Refused (Done n) (λ why l. refused-fits why (low why l)) (λ none. done-fits n (h none))
 
-value-fits : (t : Bool) (why : Refusal) (x : Float) → refusalPlace why ≤ 4096 → Fits (valueOr (unless t why) x .answer)
-value-fits true why x p = done-fits 0 (omega arith)
-value-fits false why x p = refused-fits why p
+value-fits : (xs : List Refusal) → Low xs → (x : Float) → Fits (valueOr xs x .answer)
+value-fits xs low x = first-holds (λ (v : Value). Fits (v .answer)) xs _ _ (λ why l. refused-fits why (low why l)) (λ none. done-fits 0 (omega arith))
 
-pub single-fits : (x : Shape) (phase dt : Float) → Fits (singleFor x phase dt .answer)
-single-fits Unknown phase dt = refused-fits Setting (omega arith)
-single-fits (Known w) phase dt = go (isWaveform w)
-  where
-    go : (t : Bool) → Fits (valueOr (unless t Setting ++ unless (isPhase phase dt) Argument) (valueOf w phase dt) .answer)
-    go true = value-fits (isPhase phase dt) Argument (valueOf w phase dt) (omega arith)
-    go false = refused-fits Setting (omega arith)
+pub check-fits : (s : List ℕ) → Fits (answerOf s)
+unfolding answerOf
+check-fits s = first-fits (map Score (faultsOf s)) (score-low s) 0 (λ none. omega arith)
+
+pub single-fits : (code : ℕ) (phase dt duty : Float) → Fits (singleOf code phase dt duty .answer)
+unfolding singleOf
+single-fits code phase dt duty =
+    let w = waveformOf code duty in
+    first-holds (λ (v : Value). Fits (v .answer)) (codeRefusals code) _ _ (λ why l. refused-fits why (unless-low (isCode code) Setting (omega arith) why l))
+    (λ none. value-fits (unless (isWaveform w) Setting ++ unless (isPhase phase dt) Argument)
+    (append-low (unless (isWaveform w) Setting) (unless (isPhase phase dt) Argument) (unless-low (isWaveform w) Setting (omega arith)) (unless-low (isPhase phase dt) Argument (omega arith))) (valueOf w phase dt))
 
 pub render-fits : (g : Settings) (s : List ℕ) (out : List Float) (shelf : List ℕ) → Fits (renderOf g s out shelf .result .answer)
 unfolding renderOf
-render-fits g s out shelf = go (renderAnswer g s (length out) (length shelf)) (judged-fits g (isRoom (length out) (length shelf)) s (Done (length out)) (λ e. done-fits (length out) (omega (arith, roomy (length out) (length shelf) e .short))))
-  where
-    go : (a : Answer) → Fits a → Fits (renderedOf a g s out shelf .result .answer)
-    go (Done n) f = f
-    go (Refused why) f = f
-
-pub continue-fits : (g : Settings) (s : List ℕ) (v : State) (p : ℕ) (part : List Float) → Fits (continueOf g s v p part .result .answer)
-unfolding continueOf
-continue-fits g s v p part =
-    go (continueAnswer g s v p (length part))
-    (judged-fits g (isStretch p (length part)) s _ (λ e. (let h : p + length part ≤ most = leb-true (p + length part) most e in unless-fits (isGiven s p v) GivenState (Done (length part)) (omega arith) (λ y. done-fits (length part) (omega arith)))))
-  where
-    go : (a : Answer) → Fits a → Fits (continuedOf a g s v p part .result .answer)
-    go (Done n) f = f
-    go (Refused why) f = f
+render-fits g s out shelf =
+    let room = isRoom (length out) (length shelf) in
+    first-holds (λ (o : Outcome Rendered). Fits (o .result .answer)) (refusalsOf g room s) _ (madeOf g s (length out)) (λ why l. refused-fits why (judged-low g room s why l))
+    (λ none. done-fits (length out) (omega (arith, roomy (length out) (length shelf) (all-passed g room s none .sized) .short)))
 
 pub rerender-fits : (g : Settings) (old new : List ℕ) (out : List Float) (shelf : List ℕ) → Fits (rerenderOf g old new out shelf .result)
-unfolding rerenderOf fromOf
-rerender-fits g old new out shelf = go (checkedOf g old new (length out) (length shelf)) refl
+unfolding rerenderOf
+rerender-fits g old new out shelf =
+    let n = length out in
+    let plan = planOf old new n in
+    let tests = checks g old new n (length shelf) in
+    first-holds (λ (o : Outcome Answer). Fits (o .result)) (rerenderRefusals g old new n shelf) (keptOf out shelf) (runOf g old new plan out shelf)
+    (λ why l. refused-fits why (append-low tests (startRefusals new plan shelf) (append-low (refusalsOf g (isRoom n (length shelf)) old) (newRefusalsOf new) (judged-low g (isRoom n (length shelf)) old) (new-low new)) (start-low plan) why l))
+    (λ none. run-fits plan (all-checked g old new n (length shelf) (none-both tests (startRefusals new plan shelf) none .0) .room .short))
   where
-    from : (m : ℕ) → length out ≤ most → (t : Bool) → Fits (cond {A = Outcome Answer} t (madeFrom g old new m out shelf) (leaves (Refused StartEntry) out shelf) .result)
-    from m h true = done-fits (length out - m * 4096) (omega arith)
-    from m h false = refused-fits StartEntry (omega arith)
+    start-low : (q : Plan) → Low (startRefusals new q shelf)
+    start-low Nothing why h = absurd h
+    start-low (From m) why h = unless-low (isStart new m shelf) StartEntry (omega arith) why h
 
-    run : (plan : Plan) → length out ≤ most → Fits (runOf g old new plan out shelf .result)
-    run Nothing h = done-fits 0 (omega arith)
-    run (From m) h = from m h (isStart new m shelf)
+    run-fits : (q : Plan) → length out ≤ most → Fits (runOf g old new q out shelf .result)
+    run-fits Nothing h = done-fits 0 (omega arith)
+    run-fits (From m) h = done-fits (length out - m * 4096) (omega arith)
 
-    go : (a : Answer) → checkedOf g old new (length out) (length shelf) ≡ a → Fits (afterChecks a g old new (planOf old new (length out)) out shelf .result)
-    go (Done n) e = run (planOf old new (length out)) (all-checked g old new (length out) (length shelf) n e .room .short)
-    go (Refused why) e = rw e at (judged-fits g (isRoom (length out) (length shelf)) old (newScored (verdictOf new) (Done 0)) (λ h. newly-fits new))
+-- what a continuing call in words answers
+abbrev pub continueSays : Asked → List ℕ → List ℕ → ℕ → ℕ → Answer
+continueSays a s ws p n = firstOf (codeRefusals (a .code) ++ continueRefusals (settingsOf a) s (isGivenIn s p ws) p n) Refused (Done n)
+
+pub continue-fits : (a : Asked) (s ws : List ℕ) (p n : ℕ) → Fits (continueSays a s ws p n)
+continue-fits a s ws p n =
+    let g = settingsOf a in
+    let judged = refusalsOf g (isStretch p n) s in
+    let given = unless (isGivenIn s p ws) GivenState in
+    first-fits (codeRefusals (a .code) ++ (judged ++ given))
+    (append-low (codeRefusals (a .code)) (judged ++ given) (unless-low (isCode (a .code)) Setting (omega arith)) (append-low judged given (judged-low g (isStretch p n) s) (unless-low (isGivenIn s p ws) GivenState (omega arith))))
+    n
+    (λ none. let short : p + n ≤ most = leb-true (p + n) most (all-passed g (isStretch p n) s (none-both judged given (none-both (codeRefusals (a .code)) (judged ++ given) none .1) .0) .sized) in omega arith)

@@ -3,8 +3,6 @@
 pub mod Lines
 -- each way out of a call
 pub mod Cases
--- 10 in its place in the order, of words that are no state too
-pub mod Tenth
 -- every answer has room in its word
 pub mod Fits
 -- so the host reads number, place and count in it

@@ -3,20 +3,18 @@ use mathlib.Core.List.{List}
 use Prim.Native.Nat.{ℕ, zero, suc, _*_, _≤_, _<_}
 use native.Mathlib.Omega.{arith}
 use lib.ListN.{length, length-append}
-use mathlib.Core.Path.{_≡_, refl}
 use Rattle.answers.specs.declared.Answer.the-variants.{Refused}
 use Rattle.answers.specs.declared.Refusal.the-variants.{Score}
 use Rattle.answers.specs.Numbers.{numbersOf}
-use Rattle.listing.specs.Listing.{kindWord, lineOf, linesTo, textOf, listingOf}
+use Rattle.answers.proofs.Order.{first-holds}
+use Rattle.listing.specs.Listing.{kindWord, lineOf, linesTo, acceptedText, refusedText, listingOf}
 use Rattle.listing.proofs.Digits.{twenty-digits}
 use Rattle.score.specs.declared.Kind.{Kind}
 use Rattle.score.specs.declared.Kind.the-variants.{On, Off, Reset}
 use Rattle.score.specs.declared.Record.{Record}
-use Rattle.score.specs.declared.Verdict.{Verdict}
-use Rattle.score.specs.declared.Verdict.the-variants.{Accepted, Faulty}
-use Rattle.score.specs.Record.{recordAt}
-use Rattle.score.specs.Score.{verdictOf}
-use Rattle.score.proofs.Verdicts.{accepted-all}
+use Rattle.score.specs.Record.{countOf, recordAt}
+use Rattle.score.specs.Score.{faultsOf}
+use Rattle.score.proofs.Verdicts.{accepted-all, none-accepted}
 
 kind-length : (k : Kind) → length (kindWord k) ≤ 7
 kind-length On = omega arith
@@ -31,16 +29,11 @@ unfolding linesTo
 lines-length s zero = omega arith
 lines-length s (suc n) = rw length-append (omega (arith, lines-length s n, line-length (recordAt s n)))
 
-text-length : (s : List ℕ) (v : Verdict) → verdictOf s ≡ v → length (textOf s v) < 4294967296
-text-length s (Accepted n) e = simp length-append (omega (arith, twenty-digits n, lines-length s n, accepted-all s n e .few))
-text-length s (Faulty f) e = let m = numbersOf (Refused (Score f)) in simp length-append (omega (arith, twenty-digits (m .number), twenty-digits (m .place)))
-
 pub listing-fits : (s : List ℕ) → length (listingOf s) < 4294967296
-listing-fits s = text-length s (verdictOf s) refl
+listing-fits s =
+    first-holds (λ (text : List ℕ). length text < 4294967296) (faultsOf s) refusedText (acceptedText s (countOf s))
+    (λ f l. let m = numbersOf (Refused (Score f)) in simp length-append (omega (arith, twenty-digits (m .number), twenty-digits (m .place))))
+    (λ none. simp length-append (omega (arith, twenty-digits (countOf s), lines-length s (countOf s), accepted-all s (countOf s) (none-accepted s none) .few)))
 
 pub listing-starts : (s : List ℕ) → 0 < length (listingOf s)
-listing-starts s = go (verdictOf s)
-  where
-    go : (v : Verdict) → 0 < length (textOf s v)
-    go (Accepted n) = omega arith
-    go (Faulty f) = omega arith
+listing-starts s = first-holds (λ (text : List ℕ). 0 < length text) (faultsOf s) refusedText (acceptedText s (countOf s)) (λ f l. omega arith) (λ none. omega arith)

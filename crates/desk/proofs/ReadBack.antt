@@ -1,26 +1,24 @@
 -- What a host reads in a word is what the call answered: number, place and count. Assumes nothing.
-use mathlib.Core.Path.{_≡_, refl}
-use mathlib.Core.Bool.{false}
-use mathlib.Core.List.{List}
+use mathlib.Core.Path.{_≡_, refl, sym, ap, _∙_}
+use mathlib.Core.List.{List, _++_}
 use Prim.Native.Nat.{ℕ, _+_, _*_, _/_, _%_, _<_}
 use native.Mathlib.Omega.{arith}
 use lib.ListN.{length}
 use lib.Ieee.{Float}
 use Rattle.answers.specs.declared.Answer.{Answer}
 use Rattle.answers.specs.declared.Answer.the-variants.{Done, Refused}
-use Rattle.answers.specs.declared.Refusal.the-variants.{Setting, Size, Argument, GivenState}
+use Rattle.answers.specs.declared.Refusal.the-variants.{Setting, Size, Argument}
 use Rattle.answers.specs.Numbers.{numbersOf}
+use Rattle.answers.proofs.Order.{first-through}
 use Rattle.listing.specs.Listing.{listingOf}
-use Rattle.render.specs.Calls.{renderOf, isStretch, continueOf}
-use Rattle.render.specs.Order.{judgedOf}
+use Rattle.render.specs.Calls.{renderOf, continueRefusals}
 use Rattle.rerender.specs.Rerender.{rerenderOf}
-use Rattle.score.specs.Score.{verdictOf, answerOf}
+use Rattle.score.specs.Score.{answerOf}
 use Rattle.state.specs.declared.Settings.{Settings}
-use Rattle.shelf.specs.Shelf.{stateOf}
 use Rattle.desk.specs.Packed.{packedOf, numbersIn}
-use Rattle.desk.specs.Desk.{shapeOf, checkOf, singleOf, rendered, rerendered, continued, continueIn}
+use Rattle.desk.specs.Desk.{Continued, Asked, settingsOf, codeRefusals, checkOf, singleOf, rendered, rerendered, isGivenIn, madeIn, keptIn, continueFor}
 use Rattle.desk.proofs.Lines.{listing-fits}
-use Rattle.desk.proofs.Fits.{Fits, done-fits, refused-fits, judged-fits, check-fits, single-fits, render-fits, rerender-fits, continue-fits}
+use Rattle.desk.proofs.Fits.{Fits, done-fits, refused-fits, check-fits, single-fits, render-fits, rerender-fits, continueSays, continue-fits}
 
 -- three numbers in one, and each out of it again
 module _ (n p c : ℕ) (a : n < 256) (b : p < 16777216) (d : c < 4294967296) where
@@ -48,11 +46,11 @@ read-back a f =
     rw (number-back n p c x y z, place-back n p c x y z, count-back n p c x y z) refl
 
 -- ---- call by call
-pub check-reads : (s : List ℕ) → numbersIn (checkOf s) ≡ numbersOf (answerOf (verdictOf s))
-check-reads s = read-back (answerOf (verdictOf s)) (check-fits s)
+pub check-reads : (s : List ℕ) → numbersIn (checkOf s) ≡ numbersOf (answerOf s)
+check-reads s = read-back (answerOf s) (check-fits s)
 
 pub sample-reads : (code : ℕ) (phase dt duty : Float) → numbersIn (packedOf (singleOf code phase dt duty .answer)) ≡ numbersOf (singleOf code phase dt duty .answer)
-sample-reads code phase dt duty = read-back (singleOf code phase dt duty .answer) (single-fits (shapeOf code duty) phase dt)
+sample-reads code phase dt duty = read-back (singleOf code phase dt duty .answer) (single-fits code phase dt duty)
 
 -- a code above 4, whatever else is given
 pub unknown-reads : numbersIn (packedOf (Refused Setting)) ≡ numbersOf (Refused Setting)
@@ -65,12 +63,15 @@ module _ (g : Settings) where
   pub rerender-reads : (old new : List ℕ) (out : List Float) (shelf : List ℕ) → numbersIn (rerendered (rerenderOf g old new out shelf) .result) ≡ numbersOf (rerenderOf g old new out shelf .result)
   rerender-reads old new out shelf = read-back (rerenderOf g old new out shelf .result) (rerender-fits g old new out shelf)
 
-  pub continue-reads : (s ws : List ℕ) (p : ℕ) (part : List Float) → numbersIn (continued (continueOf g s (stateOf ws) p part) ws .result) ≡ numbersOf (continueOf g s (stateOf ws) p part .result .answer)
-  continue-reads s ws p part = read-back (continueOf g s (stateOf ws) p part .result .answer) (continue-fits g s (stateOf ws) p part)
+-- a continuing call, from words that are no state too
+pub continue-says : (a : Asked) (s ws : List ℕ) (p : ℕ) (part : List Float) → continueFor a s ws p part .result ≡ packedOf (continueSays a s ws p (length part))
+unfolding continueFor
+continue-says a s ws p part =
+    let refusals = codeRefusals (a .code) ++ continueRefusals (settingsOf a) s (isGivenIn s p ws) p (length part) in
+    first-through (λ (o : Continued ℕ). o .result) refusals (keptIn part ws) (madeIn (settingsOf a) s ws p (length part)) ∙ sym (first-through packedOf refusals Refused (Done (length part)))
 
-  -- from words that are no state
-  pub continue-none-reads : (s ws : List ℕ) (p : ℕ) (part : List Float) → numbersIn (continueIn false g s ws p part .result) ≡ numbersOf (judgedOf g (isStretch p (length part)) s (Refused GivenState))
-  continue-none-reads s ws p part = read-back (judgedOf g (isStretch p (length part)) s (Refused GivenState)) (judged-fits g (isStretch p (length part)) s (Refused GivenState) (λ h. refused-fits GivenState (omega arith)))
+pub continue-reads : (a : Asked) (s ws : List ℕ) (p : ℕ) (part : List Float) → numbersIn (continueFor a s ws p part .result) ≡ numbersOf (continueSays a s ws p (length part))
+continue-reads a s ws p part = ap numbersIn (continue-says a s ws p part) ∙ read-back (continueSays a s ws p (length part)) (continue-fits a s ws p (length part))
 
 pub fresh-reads : (numbersIn (packedOf (Done 0)) ≡ numbersOf (Done 0)) × (numbersIn (packedOf (Refused Argument)) ≡ numbersOf (Refused Argument))
 fresh-reads = (read-back (Done 0) (done-fits 0 (omega arith)), read-back (Refused Argument) (refused-fits Argument (omega arith)))

@@ -7,7 +7,7 @@ use Rattle.sections.specs.Outcome.{leaves}
 use Rattle.sections.proofs.Unique.{same-left}
 use Rattle.desk.specs.Packed.{packedOf}
 use Rattle.desk.specs.Version.{version}
-use Rattle.desk.specs.Desk.{Asked, Filled, fills, choiceOf, checkOf, singleOf, renderFor, rerenderFor, continueFor, freshFor, listFor}
+use Rattle.desk.specs.Desk.{Filled, fills, Continued, continues, Asked, checkOf, singleOf, renderFor, rerenderFor, continueFor, freshFor, listFor}
 
 pub gav-version-unique : (r t : ℕ) → r ≡ version → t ≡ version → r ≡ t
 gav-version-unique r t p q = p ∙ sym q
@@ -28,16 +28,18 @@ same-filled o r t a b x y =
     (ap (λ (l : Filled). l .result) e, ap (λ (l : Filled). l .left) e)
 
 pub gav-render-unique : (a : Asked) (s : List ℕ) (out : List Float) (shelf : List ℕ) (r t : ℕ) (ys zs : List Float) (c d : List ℕ)
-    → leaves r ys c ≡ renderFor (choiceOf a) s out shelf → leaves t zs d ≡ renderFor (choiceOf a) s out shelf → (r ≡ t) × (ys ≡ zs) × (c ≡ d)
-gav-render-unique a s out shelf r t ys zs c d x y = same-left (renderFor (choiceOf a) s out shelf) r t ys zs c d x y
+    → leaves r ys c ≡ renderFor a s out shelf → leaves t zs d ≡ renderFor a s out shelf → (r ≡ t) × (ys ≡ zs) × (c ≡ d)
+gav-render-unique a s out shelf r t ys zs c d x y = same-left (renderFor a s out shelf) r t ys zs c d x y
 
 pub gav-rerender-unique : (a : Asked) (old new : List ℕ) (out : List Float) (shelf : List ℕ) (r t : ℕ) (ys zs : List Float) (c d : List ℕ)
-    → leaves r ys c ≡ rerenderFor (choiceOf a) old new out shelf → leaves t zs d ≡ rerenderFor (choiceOf a) old new out shelf → (r ≡ t) × (ys ≡ zs) × (c ≡ d)
-gav-rerender-unique a old new out shelf r t ys zs c d x y = same-left (rerenderFor (choiceOf a) old new out shelf) r t ys zs c d x y
+    → leaves r ys c ≡ rerenderFor a old new out shelf → leaves t zs d ≡ rerenderFor a old new out shelf → (r ≡ t) × (ys ≡ zs) × (c ≡ d)
+gav-rerender-unique a old new out shelf r t ys zs c d x y = same-left (rerenderFor a old new out shelf) r t ys zs c d x y
 
 pub gav-continue-unique : (a : Asked) (s ws : List ℕ) (p : ℕ) (part : List Float) (r t : ℕ) (ys zs : List Float) (c d : List ℕ)
-    → leaves r ys c ≡ continueFor (choiceOf a) s ws p part → leaves t zs d ≡ continueFor (choiceOf a) s ws p part → (r ≡ t) × (ys ≡ zs) × (c ≡ d)
-gav-continue-unique a s ws p part r t ys zs c d x y = same-left (continueFor (choiceOf a) s ws p part) r t ys zs c d x y
+    → continues r ys c ≡ continueFor a s ws p part → continues t zs d ≡ continueFor a s ws p part → (r ≡ t) × (ys ≡ zs) × (c ≡ d)
+gav-continue-unique a s ws p part r t ys zs c d x y =
+    let e : continues r ys c ≡ continues t zs d = x ∙ sym y in
+    (ap (λ (o : Continued ℕ). o .result) e, ap (λ (o : Continued ℕ). o .heard) e, ap (λ (o : Continued ℕ). o .words) e)
 
 pub gav-fresh-unique : (ws : List ℕ) (r t : ℕ) (a b : List ℕ) → fills r a ≡ freshFor ws → fills t b ≡ freshFor ws → (r ≡ t) × (a ≡ b)
 gav-fresh-unique ws r t a b x y = same-filled (freshFor ws) r t a b x y

@@ -1,7 +1,7 @@
 -- The refusals case by case, and what a call that has none of them has passed. Assumes nothing.
-use mathlib.Core.Path.{_≡_, refl, sym, _∙_}
+use mathlib.Core.Path.{_≡_, refl, sym, subst, _∙_}
 use mathlib.Core.Bool.{Bool, true, false}
-use mathlib.Core.List.{List, [], _++_, map}
+use mathlib.Core.List.{List, [], _∷_, _++_, map}
 use Prim.Native.Nat.{ℕ, _+_, _-_, _≤_, _<_}
 use native.Mathlib.Omega.{arith}
 use lib.Dec.{leb, eqb}
@@ -9,16 +9,17 @@ use borrow.Author.Tests.{le-leb, lt-leb, leb-true, leb-false, eqb-true}
 use Rattle.answers.specs.Order.{unless, firstOf}
 use Rattle.answers.specs.declared.Answer.{Answer}
 use Rattle.answers.specs.declared.Answer.the-variants.{Refused}
+use Rattle.answers.specs.declared.Refusal.{Refusal}
 use Rattle.answers.specs.declared.Refusal.the-variants.{Score, NewScore, Setting, Size}
 use Rattle.answers.specs.declared.ScoreFault.{ScoreFault}
-use Rattle.answers.proofs.Order.{first-map, passed, none-both, none-map}
+use Rattle.answers.proofs.Order.{first-map, passed, none-both, none-map, Leads, map-leads}
 use Rattle.score.specs.declared.Verdict.the-variants.{Accepted, Faulty}
 use Rattle.score.specs.Record.{countOf}
 use Rattle.score.specs.Score.{faultsOf, verdictOf}
 use Rattle.score.specs.Below.{Sorted}
 use Rattle.score.proofs.Codec.{both}
 use Rattle.score.proofs.Cuts.{accepted-sorted}
-use Rattle.score.proofs.Verdicts.{accepted-faults, none-accepted, accepted-first, faulty-first}
+use Rattle.score.proofs.Verdicts.{accepted-faults, none-accepted, faulty-faults, accepted-first, faulty-first}
 use Rattle.shelf.specs.Shelf.{wordsFor}
 use Rattle.state.specs.declared.Settings.{Settings}
 use Rattle.state.specs.Settings.{settingsOk}
@@ -84,6 +85,45 @@ none-newly s n h = rw (accepted-faults s n h) refl
 
 pub passed-sorted : (g : Settings) (room : Bool) (s : List ℕ) → refusalsOf g room s ≡ [] → Sorted s
 passed-sorted g room s e = accepted-sorted s (countOf s) (all-passed g room s e .accepted)
+
+-- ---- the first of them, both ways
+module _ (g : Settings) (room : Bool) (s : List ℕ) where
+  -- what holds of each where it is given holds of the first
+  pub judged-first : (P : Refusal → Type 0) → (settingsOk g ≡ false → P Setting) → (settingsOk g ≡ true → room ≡ false → P Size) → (settingsOk g ≡ true → room ≡ true → (fault : ScoreFault) → verdictOf s ≡ Faulty fault → P (Score fault))
+      → (why : Refusal) → Leads why (refusalsOf g room s) → P why
+  unfolding refusalsOf verdictOf
+  judged-first P six seven score why h = go (settingsOk g) refl room refl (faultsOf s) refl h
+    where
+      go : (a : Bool) → settingsOk g ≡ a → (b : Bool) → room ≡ b → (fs : List ScoreFault) → faultsOf s ≡ fs → Leads why (unless a Setting ++ unless b Size ++ map Score fs) → P why
+      go false e b f fs q h = subst P h (six e)
+      go true e false f fs q h = subst P h (seven e f)
+      go true e true f [] q h = absurd h
+      go true e true f (x ∷ fs) q h = subst P h (score e f x (rw q refl))
+
+  pub six-first : settingsOk g ≡ false → Leads Setting (refusalsOf g room s)
+  unfolding refusalsOf
+  six-first e = rw e refl
+
+  pub seven-first : settingsOk g ≡ true → room ≡ false → Leads Size (refusalsOf g room s)
+  unfolding refusalsOf
+  seven-first e f = rw (e, f) refl
+
+  pub score-first : settingsOk g ≡ true → room ≡ true → (fault : ScoreFault) → verdictOf s ≡ Faulty fault → Leads (Score fault) (refusalsOf g room s)
+  unfolding refusalsOf
+  score-first e f fault h = rw (e, f) (map-leads Score fault (faultsOf s) (faulty-faults s fault h))
+
+module _ (s : List ℕ) where
+  pub newly-first : (P : Refusal → Type 0) → ((fault : ScoreFault) → verdictOf s ≡ Faulty fault → P (NewScore fault)) → (why : Refusal) → Leads why (newRefusalsOf s) → P why
+  unfolding newRefusalsOf verdictOf
+  newly-first P score why h = go (faultsOf s) refl h
+    where
+      go : (fs : List ScoreFault) → faultsOf s ≡ fs → Leads why (map NewScore fs) → P why
+      go [] q h = absurd h
+      go (x ∷ fs) q h = subst P h (score x (rw q refl))
+
+  pub new-first : (fault : ScoreFault) → verdictOf s ≡ Faulty fault → Leads (NewScore fault) (newRefusalsOf s)
+  unfolding newRefusalsOf
+  new-first fault h = map-leads NewScore fault (faultsOf s) (faulty-faults s fault h)
 
 -- ---- sizes
 pub record Roomy (n words : ℕ) : Type 0 where

@@ -12,7 +12,7 @@ use Rattle.answers.specs.Order.{unless, firstOf}
 use Rattle.answers.specs.declared.Answer.the-variants.{Done, Refused}
 use Rattle.answers.specs.declared.Refusal.{Refusal}
 use Rattle.answers.specs.declared.Refusal.the-variants.{GivenState}
-use Rattle.answers.proofs.Order.{first-append, leads-first, done-none, refused-leads}
+use Rattle.answers.proofs.Order.{first-append, leads-first, done-none, refused-leads, Decided, decided}
 use Rattle.score.specs.Below.{partsAt, Sorted, Cut}
 use Rattle.score.proofs.Codec.{both}
 use Rattle.score.proofs.Cuts.{parts-cut, parts-count}
@@ -29,7 +29,8 @@ use Rattle.sections.specs.Sections.{playOnOf}
 use Rattle.sections.proofs.Agrees.{made}
 use Rattle.judging.specs.Judging.{refusalsOf, isRoom, isStretch}
 use Rattle.judging.proofs.Refusals.{all-passed, passed-sorted, roomy}
-use Rattle.render.specs.Calls.{says, madeOf, renderOf, PartOutcome, leavesPart, isGiven, madePart, keptPart, continueOf}
+use Rattle.render.specs.declared.Rendered.{Rendered}
+use Rattle.render.specs.Calls.{says, madeOf, renderOf, PartOutcome, leavesPart, isGiven, continueRefusals, madePart, keptPart, continueOf}
 
 module _ (g : Settings) (s : List ℕ) (out : List Float) (shelf : List ℕ) where
   abbrev n : ℕ
@@ -41,6 +42,11 @@ module _ (g : Settings) (s : List ℕ) (out : List Float) (shelf : List ℕ) whe
   pub render-refused : (why : Refusal) → firstOf refusals Refused (Done n) ≡ Refused why → leaves (says (Refused why) (freshOf 0)) out shelf ≡ renderOf g s out shelf
   unfolding renderOf
   render-refused why e = sym (leads-first why refusals _ (madeOf g s n) (refused-leads refusals n why e))
+
+  -- what it answers goes by the list, and what it leaves by what it answers
+  pub render-decided : Decided (λ (o : Outcome Rendered). o .result .answer) refusals (λ (why : Refusal). leaves (says (Refused why) (freshOf 0)) out shelf) (madeOf g s n) n (renderOf g s out shelf)
+  unfolding renderOf
+  render-decided = decided (λ (o : Outcome Rendered). o .result .answer) refusals _ (madeOf g s n) n (λ why. refl) refl
 
   -- sample zero has no record before it
   at-zero : Cut s 0 0
@@ -69,6 +75,10 @@ module _ (g : Settings) (s : List ℕ) (v : State) (p : ℕ) (part : List Float)
   in-turn : continueOf g s v p part ≡ firstOf (refusalsOf g room s) (keptPart v part) rest
   unfolding continueOf
   in-turn = first-append (refusalsOf g room s) (unless (isGiven s p v) GivenState) (keptPart v part) (madePart g s v p (length part))
+
+  pub continue-decided : Decided (λ (o : PartOutcome). o .result .answer) (continueRefusals g s (isGiven s p v) p (length part)) (keptPart v part) (madePart g s v p (length part)) (length part) (continueOf g s v p part)
+  unfolding continueOf
+  continue-decided = decided (λ (o : PartOutcome). o .result .answer) _ (keptPart v part) (madePart g s v p (length part)) (length part) (λ why. refl) refl
 
   module _ (n : ℕ) where
     pub continue-refused : (why : Refusal) → firstOf (refusalsOf g room s) Refused (Done n) ≡ Refused why → keptPart v part why ≡ continueOf g s v p part

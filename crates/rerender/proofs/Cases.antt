@@ -14,7 +14,7 @@ use Rattle.answers.specs.declared.Answer.{Answer}
 use Rattle.answers.specs.declared.Answer.the-variants.{Done, Refused}
 use Rattle.answers.specs.declared.Refusal.{Refusal}
 use Rattle.answers.specs.declared.Refusal.the-variants.{StartEntry}
-use Rattle.answers.proofs.Order.{first-append, Leads, leads-first, done-none, refused-leads, none-both}
+use Rattle.answers.proofs.Order.{first-append, Leads, leads-first, done-none, refused-leads, none-both, Decided, decided}
 use Rattle.score.specs.declared.Difference.{Difference}
 use Rattle.score.specs.declared.Difference.the-variants.{Equal, At}
 use Rattle.score.specs.declared.Verdict.the-variants.{Accepted}
@@ -38,7 +38,7 @@ use Rattle.judging.specs.Judging.{refusalsOf, newRefusalsOf, isRoom}
 use Rattle.judging.proofs.Refusals.{all-passed, new-passed, Roomy, roomy}
 use Rattle.rerender.specs.declared.Plan.{Plan}
 use Rattle.rerender.specs.declared.Plan.the-variants.{Nothing, From}
-use Rattle.rerender.specs.Rerender.{planFor, planOf, entryAt, startOf, isStart, between, madeFrom, runOf, startRefusals, keptOf, rerenderOf, fromOf}
+use Rattle.rerender.specs.Rerender.{planFor, planOf, entryAt, startOf, isStart, between, madeFrom, runOf, startRefusals, rerenderRefusals, keptOf, rerenderOf, fromOf, countFor}
 
 -- ---- the plan
 module _ (old new : List ℕ) (n : ℕ) where
@@ -180,3 +180,12 @@ module _ (g : Settings) (old new : List ℕ) (out : List Float) (shelf : List �
     pub mark-run : (m : ℕ) → plan ≡ From m → fromOf g old new m out shelf ≡ rerenderOf g old new out shelf
     unfolding fromOf
     mark-run m q = sym (goes ∙ rw q refl)
+
+  -- what it answers goes by the list, and what it leaves by what it answers
+  pub rerender-decided : Decided (λ (o : Outcome Answer). o .result) (rerenderRefusals g old new (length out) shelf) (keptOf out shelf) (runOf g old new plan out shelf) (countFor g old new plan (length out)) (rerenderOf g old new out shelf)
+  unfolding rerenderOf
+  rerender-decided = decided (λ (o : Outcome Answer). o .result) _ (keptOf out shelf) (runOf g old new plan out shelf) (countFor g old new plan (length out)) (λ why. refl) (run-counts plan)
+    where
+      run-counts : (q : Plan) → runOf g old new q out shelf .result ≡ Done (countFor g old new q (length out))
+      run-counts Nothing = refl
+      run-counts (From m) = refl
