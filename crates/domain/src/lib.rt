@@ -1,7 +1,7 @@
 // The domain of the ported calls, as 01 states it: the limits that more than one crate judges by, and a test for each. Left out:
-// which refusal a call gives, and what one crate alone judges (notes, ADSR settings, given states).
+// which refusal a call gives, and what one crate alone judges (ADSR settings, given states).
 ghost use mathlib.Core.Path.{_≡_};
-ghost use Rattle.domain.specs.Domain.{isPhase, isDuty, isRate, isDepth, isRadians};
+ghost use Rattle.domain.specs.Domain.{isPhase, isDuty, isRate, isDepth, isRadians, isMidi};
 
 // The highest frequency of an oscillator and of an LFO, in Hz.
 pub const HIGHEST_TONE: f64 = 20000.0;
@@ -39,4 +39,11 @@ pub fn is_radians(phase: f64) -> bool
     ensures { λ r. ⌜ r ≡ isRadians phase ⌝ }
 {
     (0.0 <= phase) & (phase < 1000.0)
+}
+
+// A note or a velocity.
+pub fn is_midi(number: u8) -> bool
+    ensures { λ r. ⌜ r ≡ isMidi number ⌝ }
+{
+    number <= 127
 }
