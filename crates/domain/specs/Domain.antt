@@ -21,7 +21,7 @@ isDuty duty = within naught one duty
 unfoldable pub isRate : ℕ → Bool
 isRate rate = leb 8000 rate && leb rate 192000
 
--- 20,000 Hz, and 100 Hz for the LFO
+-- 20,000 Hz, and for the LFO 100 Hz
 abbrev pub highestTone : Float
 highestTone = ofBits binary64 0x40d3_8800_0000_0000
 
@@ -47,8 +47,7 @@ isRadians x = le naught x && lt x thousand
 abbrev pub isMidi : ℕ → Bool
 isMidi n = leb n 127
 
--- the frequency that sounds, in the voice an f32, in a state an f64
--- 12,544 Hz, as code of either width has it
+-- 12,544 Hz, as code of either width has it: what sounds is an f32 in a voice and an f64 in a state
 abbrev pub highestPitch : Format → Float
 highestPitch binary32 = ofBits binary32 0x4644_0000
 highestPitch binary64 = ofBits binary64 0x40c8_8000_0000_0000

@@ -3,9 +3,10 @@
 ghost use mathlib.Core.Path.{_≡_};
 ghost use Rattle.domain.specs.Domain.{isPhase, isDuty, isRate, isDepth, isRadians, isMidi};
 
-// The highest frequency of an oscillator and of an LFO, in Hz.
+// The highest frequency of an oscillator, in Hz.
 pub const HIGHEST_TONE: f64 = 20000.0;
 
+// The highest frequency of an LFO, in Hz.
 pub const HIGHEST_LFO: f64 = 100.0;
 
 // A normalised phase from 0 to 1, and a step of it from 0 to 4.
