@@ -1,5 +1,5 @@
 -- The domain of the ported calls, each limit once. 01, "Domain of the ported calls": "Phase and dt are normalised: phase 0 to 1, dt 0 to 4, duty 0 to 1. Block calls take a rate of 8,000 to 192,000 (whole Hz),
--- frequency 0 to 20,000 Hz (LFO 0 to 100), depth 0 to 1, start phase 0 up to but not including 1,000 radians."; and of "the shelf's limits", which hold for a given voice too: "phase is at least 0 and below 1,000",
+-- frequency 0 to 20,000 Hz (LFO 0 to 100), depth 0 to 1, start phase 0 up to but not including 1,000 radians. Notes and velocities are 0 to 127."; and of "the shelf's limits", which hold for a given voice too: "phase is at least 0 and below 1,000",
 -- "frequency above 0 and at most 12,544". Ranges are comparisons of floats: a NaN is outside, and -0 counts as 0, so that a frequency of -0 sounds in a block and is none of a voice. Which number a refusal has stands
 -- with the calls. Definitions only.
 use mathlib.Core.Bool.{Bool, _&&_}
@@ -21,7 +21,7 @@ isDuty duty = within naught one duty
 unfoldable pub isRate : ℕ → Bool
 isRate rate = leb 8000 rate && leb rate 192000
 
--- 20,000 Hz, and 100 Hz for the LFO
+-- 20,000 Hz, and for the LFO 100 Hz
 abbrev pub highestTone : Float
 highestTone = ofBits binary64 0x40d3_8800_0000_0000
 
@@ -42,8 +42,12 @@ thousand = ofBits binary64 0x408f_4000_0000_0000
 abbrev pub isRadians : Float → Bool
 isRadians x = le naught x && lt x thousand
 
--- ---- the voice, whose frequency is an f32, and a state, whose frequency is an f64
--- 12,544 Hz, as code of either width has it
+-- ---- the voice
+-- a note or a velocity
+abbrev pub isMidi : ℕ → Bool
+isMidi n = leb n 127
+
+-- 12,544 Hz, as code of either width has it: what sounds is an f32 in a voice and an f64 in a state
 abbrev pub highestPitch : Format → Float
 highestPitch binary32 = ofBits binary32 0x4644_0000
 highestPitch binary64 = ofBits binary64 0x40c8_8000_0000_0000

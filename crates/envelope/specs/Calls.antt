@@ -27,12 +27,9 @@ answerOr refusals n = firstOf refusals (λ (why : Refusal). Refused why) (Done n
 abbrev pub withEnvelope : EnvelopeBlock → Envelope → EnvelopeBlock
 withEnvelope b e = record { adsr = b .adsr; envelope = e }
 
--- the block has the envelope after, unless the call is refused: then it is as it came
-abbrev pub changedOr : List Refusal → EnvelopeBlock → Envelope → Processed
-changedOr refusals b e = firstOf refusals (λ (why : Refusal). record { answer = Refused why; block = b }) (record { answer = Done 0; block = withEnvelope b e })
-
+-- the block has the envelope after; 9 hands it back as it came
 abbrev pub changedOf : EnvelopeBlock → Envelope → Processed
-changedOf b e = changedOr (unless (isEnvelope (b .envelope)) Argument) b e
+changedOf b e = firstOf (unless (isEnvelope (b .envelope)) Argument) (λ (why : Refusal). record { answer = Refused why; block = b }) (record { answer = Done 0; block = withEnvelope b e })
 
 -- ---- the calls
 -- a fresh envelope, and the settings as they are given

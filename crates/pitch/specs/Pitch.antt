@@ -1,11 +1,10 @@
 -- The pitch of a note. 01: "a table of the f32 answers of `midi_note_to_frequency`, widened"; "Notes and velocities are 0 to 127"; number 9 for any other note, with +0 for the number.
 -- An f32 is the same number as an f64, so both readers have one definition. No samples are written: count is 0. Definitions only.
-use mathlib.Core.Bool.{Bool}
 use mathlib.Core.List.{List}
 use Prim.Native.Nat.{ℕ}
-use lib.Dec.{ltb}
 use lib.ListN.{getD}
 use lib.Ieee.{Float, binary32, ofBits}
+use Rattle.domain.specs.Domain.{isMidi}
 use Rattle.answers.specs.declared.Answer.the-variants.{Done, Refused}
 use Rattle.answers.specs.declared.Refusal.{Refusal}
 use Rattle.answers.specs.declared.Refusal.the-variants.{Argument}
@@ -19,16 +18,13 @@ use Rattle.pitch.specs.declared.Frequency.{Frequency}
 unfoldable pub frequencyOf : ℕ → Float
 frequencyOf note = ofBits binary32 (getD patterns note 0)
 
-abbrev pub isNote : ℕ → Bool
-isNote note = ltb note 128
-
 -- the number, unless the call is refused
 abbrev pub frequencyOr : List Refusal → Float → Frequency
 frequencyOr refusals x = firstOf refusals (λ (why : Refusal). record { answer = Refused why; value = ofBits binary32 0 }) (record { answer = Done 0; value = x })
 
 -- ---- the calls, in f32 and in f64
 abbrev pub midiNoteToFrequencyOf : ℕ → Frequency
-midiNoteToFrequencyOf note = frequencyOr (unless (isNote note) Argument) (frequencyOf note)
+midiNoteToFrequencyOf note = frequencyOr (unless (isMidi note) Argument) (frequencyOf note)
 
 abbrev pub midiNoteToFrequencyF64Of : ℕ → Value
-midiNoteToFrequencyF64Of note = valueOr (unless (isNote note) Argument) (frequencyOf note)
+midiNoteToFrequencyF64Of note = valueOr (unless (isMidi note) Argument) (frequencyOf note)

@@ -3,7 +3,7 @@
 ghost use mathlib.Core.Path.{_≡_};
 ghost use Rattle.answers.specs.Order.{unless};
 ghost use Rattle.answers.specs.declared.Refusal.the-variants.{Argument};
-ghost use Rattle.pitch.specs.Pitch.{frequencyOf, isNote, frequencyOr, midiNoteToFrequencyOf, midiNoteToFrequencyF64Of};
+ghost use Rattle.pitch.specs.Pitch.{frequencyOf, frequencyOr, midiNoteToFrequencyOf, midiNoteToFrequencyF64Of};
 use answers::Answer;
 use answers::Refusal;
 use answers::Value;
@@ -20,14 +20,18 @@ pub struct Frequency {
 pub fn midi_note_to_frequency(note: u8) -> Frequency
     ensures { λ r. ⌜ r ≡ midiNoteToFrequencyOf note ⌝ }
 {
-    frequency_if(is_note(note), frequency_of(note))
+    frequency_if(domain::is_midi(note), frequency_of(note))
 }
 
 // The same, widened.
 pub fn midi_note_to_frequency_f64(note: u8) -> Value
     ensures { λ r. ⌜ r ≡ midiNoteToFrequencyF64Of note ⌝ }
 {
-    answers::value_if(is_note(note), Refusal::Argument, frequency_of_f64(note))
+    answers::value_if(
+        domain::is_midi(note),
+        Refusal::Argument,
+        frequency_of_f64(note),
+    )
 }
 
 // The frequency of a note that is known to be one; +0 above 127.
@@ -45,12 +49,6 @@ pub fn frequency_of_f64(note: u8) -> f64
     ensures { λ r. ⌜ r ≡ frequencyOf note ⌝ }
 {
     frequency_of(note) as f64
-}
-
-fn is_note(note: u8) -> bool
-    ensures { λ r. ⌜ r ≡ isNote note ⌝ }
-{
-    note < 128
 }
 
 // The frequency, or a refusal with +0.

@@ -11,14 +11,14 @@ use borrow.Author.Tests.{le-leb}
 use Rattle.floats.specs.Range.{lit0, lit1}
 use Rattle.floats.specs.Double.{naught, one}
 use Rattle.floats.proofs.Literals.{lit0-is, lit1-is}
-use Rattle.domain.specs.Domain.{highestPitch, isPitch}
+use Rattle.domain.specs.Domain.{isMidi, highestPitch, isPitch}
 use Rattle.answers.specs.declared.Answer.the-variants.{Done}
 use Rattle.answers.specs.declared.Refusal.{Refusal}
 use Rattle.answers.specs.declared.Refusal.the-variants.{Argument}
 use Rattle.answers.specs.Order.{unless}
 use Rattle.answers.proofs.Order.{none-refused}
 use Rattle.voice.specs.Keys.{pressedOf, liftedOf, isKeys}
-use Rattle.voice.specs.Voice.{isLoud, isVoice, isMidi, isReleased, changedOr, offOr, struck, heardOf}
+use Rattle.voice.specs.Voice.{isLoud, isVoice, isReleased, changedOr, offOr, struck, heardOf}
 use Rattle.voice.specs.Voice as voice
 use Rattle.voice.specs.declared.VoiceState.{VoiceState}
 use Rattle.voice.specs.declared.Changed.{Changed}

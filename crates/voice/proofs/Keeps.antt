@@ -11,11 +11,11 @@ use Rattle.answers.specs.declared.Answer.the-variants.{Done}
 use Rattle.answers.specs.declared.Refusal.the-variants.{Argument}
 use Rattle.answers.specs.Order.{unless}
 use Rattle.answers.proofs.Order.{held, first-keeps}
-use Rattle.domain.specs.Domain.{isPitch}
+use Rattle.domain.specs.Domain.{isMidi, isPitch}
 use Rattle.pitch.specs.Pitch.{frequencyOf}
 use Rattle.pitch.proofs.Rules.{frequency-in}
 use Rattle.voice.specs.Keys.{pressedOf, liftedOf, atMost, isKeys}
-use Rattle.voice.specs.Voice.{isLoud, isVoice, isMidi, isReleased, struck, heardOf, offOr, newOf, noteOnOf, noteOffOf, resetOf}
+use Rattle.voice.specs.Voice.{isLoud, isVoice, isReleased, struck, heardOf, offOr, newOf, noteOnOf, noteOffOf, resetOf}
 use Rattle.voice.specs.declared.keys.Keys.{Keys}
 use Rattle.voice.specs.declared.keys.NoteOff.{NoteOff}
 use Rattle.voice.specs.declared.keys.NoteOff.the-variants.{Released, FellBack, NoChange}

@@ -5,12 +5,11 @@
 use mathlib.Core.Bool.{Bool, true, false, _&&_}
 use mathlib.Core.List.{List}
 use Prim.Native.Nat.{ℕ}
-use lib.Dec.{leb}
 use lib.IntN.{pos}
 use lib.ListN.{length}
 use lib.Ieee.{Float, binary32, ofBits, ofInt, div}
 use Rattle.floats.specs.Range.{lit0, lit1, within}
-use Rattle.domain.specs.Domain.{isPitch}
+use Rattle.domain.specs.Domain.{isMidi, isPitch}
 use Rattle.pitch.specs.Pitch.{frequencyOf}
 use Rattle.answers.specs.declared.Answer.the-variants.{Done, Refused}
 use Rattle.answers.specs.declared.Refusal.{Refusal}
@@ -37,9 +36,6 @@ abbrev pub concert : Float
 concert = ofBits binary32 0x43dc_0000
 
 -- ---- the domain
-abbrev pub isMidi : ℕ → Bool
-isMidi n = leb n 127
-
 abbrev pub isLoud : Float → Bool
 isLoud x = within (lit0 binary32) (lit1 binary32) x
 

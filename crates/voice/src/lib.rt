@@ -4,7 +4,7 @@
 ghost use mathlib.Core.Path.{_≡_};
 ghost use Rattle.answers.specs.Order.{unless};
 ghost use Rattle.answers.specs.declared.Refusal.the-variants.{Argument};
-ghost use Rattle.voice.specs.Voice.{velocityOf, isVoice, isMidi, struck, heardOf, isReleased, isNote, changedOr, offOr, activeOr, countOr};
+ghost use Rattle.voice.specs.Voice.{velocityOf, isVoice, struck, heardOf, isReleased, isNote, changedOr, offOr, activeOr, countOr};
 ghost use Rattle.voice.specs.Voice.{newOf, noteOnOf, noteOffOf, resetOf, isActiveOf, heldNoteCountOf};
 use answers::Answer;
 use answers::Refusal;
@@ -70,7 +70,7 @@ impl VoiceState {
             frequency: pitch::frequency_of(note),
         };
         changed_if(
-            is_voice(self) & is_midi(note) & is_midi(velocity),
+            is_voice(self) & domain::is_midi(note) & domain::is_midi(velocity),
             self,
             after,
         )
@@ -83,7 +83,7 @@ impl VoiceState {
         let keys = self.keys;
         let lift = keys::lifted(keys, note);
         off_if(
-            is_voice(self) & is_midi(note),
+            is_voice(self) & domain::is_midi(note),
             is_released(lift),
             self,
             heard(self, lift),
@@ -138,13 +138,6 @@ fn is_voice(voice: VoiceState) -> bool
     let loud = (0.0 <= velocity) & (velocity <= 1.0);
     let pitched = (0.0 < frequency) & (frequency <= 12544.0);
     keys::is_keys(keys) & loud & pitched
-}
-
-// A note or a velocity.
-fn is_midi(number: u8) -> bool
-    ensures { λ r. ⌜ r ≡ isMidi number ⌝ }
-{
-    number <= 127
 }
 
 fn is_note(keys: Keys) -> bool
