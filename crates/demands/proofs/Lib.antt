@@ -1,4 +1,8 @@
 -- What was ordered of the calls together, in the order to read it.
+-- a score's faults, each exactly when its line holds first
+pub mod Faults
+-- demand 1: each refusal of a call exactly when its line holds first, and all is as it came
+pub mod Demand1
 -- an honest shelf is never refused
 pub mod Honest
 -- a continuing call, and the rest of a chain after it

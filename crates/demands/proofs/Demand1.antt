@@ -1,0 +1,169 @@
+-- Demand 1: of render, continuing call and re-render each refusal is given exactly when its line holds and no earlier one does, and leaves all as it came. Assumes nothing.
+use mathlib.Core.Path.{_≡_, refl, subst}
+use mathlib.Core.Bool.{Bool, true}
+use mathlib.Core.List.{List, [], _++_}
+use mathlib.Core.Logic.{⊎-elim}
+use Prim.Native.Nat.{ℕ}
+use lib.ListN.{length}
+use lib.Ieee.{Float}
+use Rattle.answers.specs.Order.{unless}
+use Rattle.answers.specs.declared.Refusal.{Refusal}
+use Rattle.answers.specs.declared.Refusal.the-variants.{Score, NewScore, Setting, Size, StartEntry, Argument, GivenState}
+use Rattle.answers.proofs.Order.{passed, none-both, Leads, leads-append, leads-after, leads-parts, leads-unless}
+use Rattle.judging.specs.Judging.{refusalsOf, newRefusalsOf, isRoom, isStretch}
+use Rattle.judging.proofs.Refusals.{all-passed, none-refused, new-passed, none-newly, judged-first, six-first, seven-first, score-first, newly-first, new-first}
+use Rattle.render.specs.Calls.{isGiven}
+use Rattle.render.proofs.Outcomes.{render-decided, continue-decided}
+use Rattle.rerender.specs.declared.Plan.{Plan}
+use Rattle.rerender.specs.declared.Plan.the-variants.{Nothing, From}
+use Rattle.rerender.specs.Rerender.{planOf, isStart, startRefusals, rerenderRefusals}
+use Rattle.rerender.proofs.Cases.{checks, rerender-decided}
+use Rattle.score.specs.declared.Verdict.the-variants.{Accepted}
+use Rattle.score.specs.Record.{countOf}
+use Rattle.score.specs.Score.{verdictOf}
+use Rattle.state.specs.declared.Settings.{Settings}
+use Rattle.state.specs.declared.State.{State}
+use Rattle.demands.specs.Demand1.{Passes, RenderWhen, ContinueWhen, RerenderWhen, RenderExactly, ContinueExactly, RerenderExactly}
+
+-- ---- 6, 7 and the old or only score's
+module _ (g : Settings) (room : Bool) (s : List ℕ) where
+  passes : refusalsOf g room s ≡ [] → Passes g room s
+  passes e = let p = all-passed g room s e in record { settings = p .settings; sized = p .sized; accepted = p .accepted }
+
+  none : Passes g room s → refusalsOf g room s ≡ []
+  none p = none-refused g room s (countOf s) (p .settings) (p .sized) (p .accepted)
+
+  render-first : (why : Refusal) → RenderWhen g room s why → Leads why (refusalsOf g room s)
+  render-first Setting h = six-first g room s h
+  render-first Size h = seven-first g room s (h .0) (h .1)
+  render-first (Score fault) h = score-first g room s (h .0) (h .1) fault (h .2)
+  render-first (NewScore fault) h = absurd h
+  render-first StartEntry h = absurd h
+  render-first Argument h = absurd h
+  render-first GivenState h = absurd h
+
+pub render-exactly : (g : Settings) (s : List ℕ) (out : List Float) (shelf : List ℕ) → RenderExactly g s out shelf
+render-exactly g s out shelf =
+    let c = render-decided g s out shelf in
+    let room = isRoom (length out) (length shelf) in
+    record {
+      refused = λ why. record {
+        only-when = λ e. judged-first g room s (RenderWhen g room s) (λ a. a) (λ a b. (a, b)) (λ a b fault v. (a, b, v)) why (c .refused why e);
+        whenever = λ h. c .is-refused why (render-first g room s why h);
+      };
+      done = record { only-when = λ e. passes g room s (c .done (length out) e); whenever = λ h. c .is-done (none g room s h) };
+      as-it-came = c .keeps;
+    }
+
+-- ---- then 10
+module _ (g : Settings) (room : Bool) (s : List ℕ) (given : Bool) where
+  abbrev judged : List Refusal
+  judged = refusalsOf g room s
+
+  abbrev tenth : List Refusal
+  tenth = unless given GivenState
+
+  continue-only : (why : Refusal) → Leads why (judged ++ tenth) → ContinueWhen g room s given why
+  continue-only why h =
+      ⊎-elim (λ l. judged-first g room s (ContinueWhen g room s given) (λ a. a) (λ a b. (a, b)) (λ a b fault v. (a, b, v)) why l)
+      (λ l. let u = leads-unless why given GivenState (l .1) in subst (ContinueWhen g room s given) (u .1) (passes g room s (l .0), u .0))
+      (leads-parts why judged tenth h)
+
+  continue-first : (why : Refusal) → ContinueWhen g room s given why → Leads why (judged ++ tenth)
+  continue-first GivenState h = leads-after GivenState judged tenth (none g room s (h .0)) (rw (h .1) refl)
+  continue-first Setting h = leads-append Setting judged tenth (render-first g room s Setting h)
+  continue-first Size h = leads-append Size judged tenth (render-first g room s Size h)
+  continue-first (Score fault) h = leads-append (Score fault) judged tenth (render-first g room s (Score fault) h)
+  continue-first (NewScore fault) h = absurd h
+  continue-first StartEntry h = absurd h
+  continue-first Argument h = absurd h
+
+pub continue-exactly : (g : Settings) (s : List ℕ) (v : State) (p : ℕ) (part : List Float) → ContinueExactly g s v p part
+continue-exactly g s v p part =
+    let c = continue-decided g s v p part in
+    let room = isStretch p (length part) in
+    let given = isGiven s p v in
+    record {
+      refused = λ why. record { only-when = λ e. continue-only g room s given why (c .refused why e); whenever = λ h. c .is-refused why (continue-first g room s given why h) };
+      done = record {
+        only-when = λ e. (let b = none-both (refusalsOf g room s) (unless given GivenState) (c .done (length part) e) in (passes g room s (b .0), passed given GivenState (b .1)));
+        whenever = λ h. c .is-done (rw (none g room s (h .0), h .1) refl);
+      };
+      as-it-came = c .keeps;
+    }
+
+-- ---- then the new score's, and 8
+module _ (g : Settings) (old new : List ℕ) (n : ℕ) (shelf : List ℕ) where
+  abbrev room : Bool
+  room = isRoom n (length shelf)
+
+  abbrev plan : Plan
+  plan = planOf old new n
+
+  abbrev When : Refusal → Type 0
+  When = RerenderWhen g room old new n shelf
+
+  abbrev tests : List Refusal
+  tests = checks g old new n (length shelf)
+
+  abbrev eighth : List Refusal
+  eighth = startRefusals new plan shelf
+
+  -- an entry is read, and is no start
+  start-only : (why : Refusal) → Passes g room old → verdictOf new ≡ Accepted (countOf new) → Leads why eighth → When why
+  start-only why p a h = go plan refl h
+    where
+      go : (q : Plan) → planOf old new n ≡ q → Leads why (startRefusals new q shelf) → When why
+      go Nothing e h = absurd h
+      go (From m) e h = let u = leads-unless why (isStart new m shelf) StartEntry h in subst When (u .1) (p, a, (m, e, u .0))
+
+  rerender-only : (why : Refusal) → Leads why (rerenderRefusals g old new n shelf) → When why
+  rerender-only why h =
+      ⊎-elim
+      (λ l. ⊎-elim (λ l. judged-first g room old When (λ a. a) (λ a b. (a, b)) (λ a b fault v. (a, b, v)) why l)
+      (λ l. newly-first new When (λ fault v. (passes g room old (l .0), v)) why (l .1)) (leads-parts why (refusalsOf g room old) (newRefusalsOf new) l))
+      (λ l. let b = none-both (refusalsOf g room old) (newRefusalsOf new) (l .0) in start-only why (passes g room old (b .0)) (new-passed new (b .1)) (l .1))
+      (leads-parts why tests eighth h)
+
+  none-tested : Passes g room old → verdictOf new ≡ Accepted (countOf new) → tests ≡ []
+  none-tested p a = rw (none g room old p, none-newly new (countOf new) a) refl
+
+  early : (why : Refusal) → RenderWhen g room old why → Leads why (rerenderRefusals g old new n shelf)
+  early why h = leads-append why tests eighth (leads-append why (refusalsOf g room old) (newRefusalsOf new) (render-first g room old why h))
+
+  rerender-first : (why : Refusal) → When why → Leads why (rerenderRefusals g old new n shelf)
+  rerender-first (NewScore fault) h = leads-append (NewScore fault) tests eighth (leads-after (NewScore fault) (refusalsOf g room old) (newRefusalsOf new) (none g room old (h .0)) (new-first new fault (h .1)))
+  rerender-first StartEntry h = leads-after StartEntry tests eighth (none-tested (h .0) (h .1)) (rw (h .2 .1, h .2 .2) refl)
+  rerender-first Setting h = early Setting h
+  rerender-first Size h = early Size h
+  rerender-first (Score fault) h = early (Score fault) h
+  rerender-first Argument h = absurd h
+  rerender-first GivenState h = absurd h
+
+  -- no entry is read, or it is a start
+  starts : eighth ≡ [] → (m : ℕ) → planOf old new n ≡ From m → isStart new m shelf ≡ true
+  starts e m q = let none : unless (isStart new m shelf) StartEntry ≡ [] = rw q at e in passed (isStart new m shelf) StartEntry none
+
+  none-eighth : ((m : ℕ) → planOf old new n ≡ From m → isStart new m shelf ≡ true) → eighth ≡ []
+  none-eighth f = go plan refl
+    where
+      go : (q : Plan) → planOf old new n ≡ q → startRefusals new q shelf ≡ []
+      go Nothing e = refl
+      go (From m) e = rw (f m e) refl
+
+pub rerender-exactly : (g : Settings) (old new : List ℕ) (out : List Float) (shelf : List ℕ) → RerenderExactly g old new out shelf
+rerender-exactly g old new out shelf =
+    let c = rerender-decided g old new out shelf in
+    let n = length out in
+    let at = isRoom n (length shelf) in
+    record {
+      refused = λ why. record { only-when = λ e. rerender-only g old new n shelf why (c .refused why e); whenever = λ h. c .is-refused why (rerender-first g old new n shelf why h) };
+      done = record {
+        only-when = λ e. (
+            let b = none-both (checks g old new n (length shelf)) (startRefusals new (planOf old new n) shelf) (c .done _ e) in
+            let a = none-both (refusalsOf g at old) (newRefusalsOf new) (b .0) in
+            (passes g at old (a .0), new-passed new (a .1), starts g old new n shelf (b .1)));
+        whenever = λ h. c .is-done (rw (none-tested g old new n shelf (h .0) (h .1), none-eighth g old new n shelf (h .2)) refl);
+      };
+      as-it-came = c .keeps;
+    }

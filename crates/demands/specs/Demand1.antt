@@ -1,0 +1,108 @@
+-- Demand 1, of a score's check, render, continuing call and re-render: each number exactly when its line holds and no earlier one does, and a refusal leaves all as it came. 01, "What a call says": the table "No. | Given exactly when";
+-- "Order: 6, 7, the old or only score, the new score (same numbers plus 16), then 8 or 10 .. In a score 1 first, then each record 2, 3, 4, 5. Place is the record's index"; "A refusal .. hands back state by value as it came, and writes
+-- nowhere". A table for each call says when each of its refusals is given; a number that is not the call's is never given. Definitions only.
+use mathlib.Core.Path.{_≡_}
+use mathlib.Core.Bool.{Bool, true, false, _&&_}
+use mathlib.Core.List.{List}
+use Prim.Native.Nat.{ℕ, _%_, _<_}
+use lib.Dec.{leb, eqb}
+use lib.ListN.{length}
+use lib.Ieee.{Float}
+use Rattle.answers.specs.declared.Answer.the-variants.{Done, Refused}
+use Rattle.answers.specs.declared.Refusal.{Refusal}
+use Rattle.answers.specs.declared.Refusal.the-variants.{Score, NewScore, Setting, Size, StartEntry, Argument, GivenState}
+use Rattle.answers.specs.declared.ScoreFault.{ScoreFault}
+use Rattle.answers.specs.declared.ScoreFault.the-variants.{Length, Mark, Kind, Field, Order}
+use Rattle.judging.specs.Judging.{isRoom, isStretch}
+use Rattle.render.specs.Calls.{says, renderOf, leavesPart, isGiven, continueOf}
+use Rattle.rerender.specs.declared.Plan.the-variants.{From}
+use Rattle.rerender.specs.Rerender.{planOf, isStart, countFor, rerenderOf}
+use Rattle.score.specs.declared.Verdict.the-variants.{Accepted, Faulty}
+use Rattle.score.specs.Record.{countOf}
+use Rattle.score.specs.Score.{markRight, kindRight, fieldsRight, allRight, inOrder, verdictOf}
+use Rattle.sections.specs.Outcome.{leaves}
+use Rattle.state.specs.declared.Settings.{Settings}
+use Rattle.state.specs.declared.State.{State}
+use Rattle.state.specs.Settings.{settingsOk}
+use Rattle.state.specs.State.{freshOf}
+
+-- A holds exactly when B does
+pub record Exactly (A B : Type 0) : Type 0 where
+  pub only-when : A → B
+  pub whenever : B → A
+
+-- ---- a score's faults
+-- a multiple of 10 bytes, and at most 4,096 records
+abbrev pub isSized : List ℕ → Bool
+isSized s = eqb (length s % 10) 0 && leb (countOf s) 4096
+
+-- record i is there, the length is right, and so is every record before it
+pub record Reaches (s : List ℕ) (i : ℕ) : Type 0 where
+  pub sized : isSized s ≡ true
+  pub there : i < countOf s
+  pub before : (j : ℕ) → j < i → (allRight s j ≡ true) × (inOrder s j ≡ true)
+
+-- when each fault is the first
+abbrev pub FaultWhen : List ℕ → ScoreFault → Type 0
+FaultWhen s Length = isSized s ≡ false
+FaultWhen s (Mark i) = Reaches s i × (markRight s i ≡ false)
+FaultWhen s (Kind i) = Reaches s i × (markRight s i ≡ true) × (kindRight s i ≡ false)
+FaultWhen s (Field i) = Reaches s i × (markRight s i ≡ true) × (kindRight s i ≡ true) × (fieldsRight s i ≡ false)
+FaultWhen s (Order i) = Reaches s i × (allRight s i ≡ true) × (inOrder s i ≡ false)
+
+pub record FaultsExactly (s : List ℕ) : Type 0 where
+  pub faulty : (fault : ScoreFault) → Exactly (verdictOf s ≡ Faulty fault) (FaultWhen s fault)
+
+-- ---- the calls
+-- 6, 7 and the old or only score's numbers passed
+pub record Passes (g : Settings) (room : Bool) (s : List ℕ) : Type 0 where
+  pub settings : settingsOk g ≡ true
+  pub sized : room ≡ true
+  pub accepted : verdictOf s ≡ Accepted (countOf s)
+
+-- when a render is refused for each of these
+abbrev pub RenderWhen : Settings → Bool → List ℕ → Refusal → Type 0
+RenderWhen g room s Setting = settingsOk g ≡ false
+RenderWhen g room s Size = (settingsOk g ≡ true) × (room ≡ false)
+RenderWhen g room s (Score fault) = (settingsOk g ≡ true) × (room ≡ true) × (verdictOf s ≡ Faulty fault)
+RenderWhen g room s (NewScore fault) = ⊥
+RenderWhen g room s StartEntry = ⊥
+RenderWhen g room s Argument = ⊥
+RenderWhen g room s GivenState = ⊥
+
+-- a continuing call: 10 after these
+abbrev pub ContinueWhen : Settings → Bool → List ℕ → Bool → Refusal → Type 0
+ContinueWhen g room s given Setting = RenderWhen g room s Setting
+ContinueWhen g room s given Size = RenderWhen g room s Size
+ContinueWhen g room s given (Score fault) = RenderWhen g room s (Score fault)
+ContinueWhen g room s given (NewScore fault) = ⊥
+ContinueWhen g room s given StartEntry = ⊥
+ContinueWhen g room s given Argument = ⊥
+ContinueWhen g room s given GivenState = Passes g room s × (given ≡ false)
+
+-- a re-render: the new score's numbers after these, and then 8 where an entry is read
+abbrev pub RerenderWhen : Settings → Bool → List ℕ → List ℕ → ℕ → List ℕ → Refusal → Type 0
+RerenderWhen g room old new n shelf Setting = RenderWhen g room old Setting
+RerenderWhen g room old new n shelf Size = RenderWhen g room old Size
+RerenderWhen g room old new n shelf (Score fault) = RenderWhen g room old (Score fault)
+RerenderWhen g room old new n shelf (NewScore fault) = Passes g room old × (verdictOf new ≡ Faulty fault)
+RerenderWhen g room old new n shelf StartEntry = Passes g room old × (verdictOf new ≡ Accepted (countOf new)) × ((m : ℕ) × (planOf old new n ≡ From m) × (isStart new m shelf ≡ false))
+RerenderWhen g room old new n shelf Argument = ⊥
+RerenderWhen g room old new n shelf GivenState = ⊥
+
+pub record RenderExactly (g : Settings) (s : List ℕ) (out : List Float) (shelf : List ℕ) : Type 0 where
+  pub refused : (why : Refusal) → Exactly (renderOf g s out shelf .result .answer ≡ Refused why) (RenderWhen g (isRoom (length out) (length shelf)) s why)
+  pub done : Exactly (renderOf g s out shelf .result .answer ≡ Done (length out)) (Passes g (isRoom (length out) (length shelf)) s)
+  pub as-it-came : (why : Refusal) → renderOf g s out shelf .result .answer ≡ Refused why → renderOf g s out shelf ≡ leaves (says (Refused why) (freshOf 0)) out shelf
+
+pub record ContinueExactly (g : Settings) (s : List ℕ) (v : State) (p : ℕ) (part : List Float) : Type 0 where
+  pub refused : (why : Refusal) → Exactly (continueOf g s v p part .result .answer ≡ Refused why) (ContinueWhen g (isStretch p (length part)) s (isGiven s p v) why)
+  pub done : Exactly (continueOf g s v p part .result .answer ≡ Done (length part)) (Passes g (isStretch p (length part)) s × (isGiven s p v ≡ true))
+  pub as-it-came : (why : Refusal) → continueOf g s v p part .result .answer ≡ Refused why → continueOf g s v p part ≡ leavesPart (says (Refused why) v) part
+
+pub record RerenderExactly (g : Settings) (old new : List ℕ) (out : List Float) (shelf : List ℕ) : Type 0 where
+  pub refused : (why : Refusal) → Exactly (rerenderOf g old new out shelf .result ≡ Refused why) (RerenderWhen g (isRoom (length out) (length shelf)) old new (length out) shelf why)
+  pub done : Exactly
+      (rerenderOf g old new out shelf .result ≡ Done (countFor g old new (planOf old new (length out)) (length out)))
+      (Passes g (isRoom (length out) (length shelf)) old × (verdictOf new ≡ Accepted (countOf new)) × ((m : ℕ) → planOf old new (length out) ≡ From m → isStart new m shelf ≡ true))
+  pub as-it-came : (why : Refusal) → rerenderOf g old new out shelf .result ≡ Refused why → rerenderOf g old new out shelf ≡ leaves (Refused why) out shelf
