@@ -1,4 +1,4 @@
--- `waveform::run` meets its contract. The loop's invariant is `Running` of proofs/Loops.antt. Assumes nothing.
+-- `waveform::lines::run` meets its contract. The loop's invariant is `Running` of proofs/Loops.antt. Assumes nothing.
 use borrow.Author.Needs.{needs}
 use borrow.Author.Tests.{not-false}
 use mathlib.Core.Path.{sym, _∙_}
@@ -6,17 +6,17 @@ use Prim.Native.Nat.{_-_}
 use native.Mathlib.Omega.{arith}
 use lib.ListN.{length}
 use Rattle.waveform.proofs.Loops.{Running, runs, runs-on}
-use Rattle.waveform.proofs.run.Statement.{statement}
-use Rattle.waveform.proofs.run.Tie as tie
+use Rattle.waveform.proofs.lines.run.Statement.{statement}
+use Rattle.waveform.proofs.lines.run.Tie as tie
 
 abbrev Inv-loop : tie.InvT-loop
-Inv-loop stretch step scale out₀ line base phase₀ i₀ out phase i = Running stretch step scale out₀ phase₀ i₀ out phase i
+Inv-loop stretch scale out₀ line base by angle₀ i₀ out angle i = Running stretch by scale out₀ angle₀ i₀ out angle i
 
 abbrev μ-loop : tie.MeasureT-loop
-μ-loop stretch step scale out₀ line base phase₀ i₀ out phase i = length out₀ - i
+μ-loop stretch scale out₀ line base by angle₀ i₀ out angle i = length out₀ - i
 
 loop-holds : tie.Need-loop-holds Inv-loop μ-loop
-loop-holds c = runs (c .before .args .stretch) _ _ _ _ _ (search needs)
+loop-holds c = runs (c .before .before .args .stretch) _ _ _ _ _ (search needs)
 
 lies-in-requires : tie.Need-lies-in-requires Inv-loop μ-loop
 lies-in-requires c κs = search needs
@@ -46,7 +46,7 @@ loop-again : tie.Need-loop-again Inv-loop μ-loop
 loop-again c =
     let test = c .before .before in
     let at = test .before .before in
-    let start = at .before .before in
+    let start = at .before .before .before in
     runs-on (start .args .stretch) _ _ _ _ _ _ _ _ _ (at .loop .inv) (test .before .loop-test .taken) (sym (test .lies-in .ensures) ∙ not-false _ (c .before .if1 .left)) (c .line-at .ensures)
 
 same-length-2 : tie.Need-same-length-2 Inv-loop μ-loop

@@ -1,9 +1,9 @@
--- `waveform::run_on` meets its contract: the two go on, one after the other. Assumes nothing.
+-- `waveform::lines::run_on` meets its contract: the two go on, one after the other. Assumes nothing.
 use borrow.Author.Needs.{needs}
 use mathlib.Core.Path.{sym, _∙_}
 use native.Mathlib.Nat as nat
-use Rattle.waveform.proofs.run_on.Statement.{statement}
-use Rattle.waveform.proofs.run_on.Tie as tie
+use Rattle.waveform.proofs.lines.run_on.Statement.{statement}
+use Rattle.waveform.proofs.lines.run_on.Tie as tie
 
 goes-up-requires : tie.Need-goes-up-requires
 goes-up-requires c κs = search needs

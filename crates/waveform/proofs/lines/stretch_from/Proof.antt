@@ -1,9 +1,9 @@
--- `waveform::stretch_from` meets its contract. Assumes nothing.
+-- `waveform::lines::stretch_from` meets its contract. Assumes nothing.
 use borrow.Author.Needs.{needs}
 use Rattle.waveform.specs.Waveform.{valueOf}
 use Rattle.waveform.proofs.Stretches.{square-lines, triangle-lines}
-use Rattle.waveform.proofs.stretch_from.Statement.{statement}
-use Rattle.waveform.proofs.stretch_from.Tie as tie
+use Rattle.waveform.proofs.lines.stretch_from.Statement.{statement}
+use Rattle.waveform.proofs.lines.stretch_from.Tie as tie
 
 enum-told : tie.Need-enum-told
 enum-told c = search needs

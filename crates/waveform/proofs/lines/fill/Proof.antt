@@ -1,4 +1,4 @@
--- `waveform::fill_lines` meets its contract. The loop's invariant is `Upto` of specs/Lines.antt. Assumes nothing.
+-- `waveform::lines::fill` meets its contract. The loop's invariant is `Upto` of specs/Lines.antt. Assumes nothing.
 use borrow.Author.Needs.{needs}
 use mathlib.Core.Path.{refl}
 use Prim.Native.Nat.{_-_, _<_}
@@ -7,14 +7,14 @@ use lib.ListN.{length}
 use Rattle.waveform.specs.Filled.{valueAt}
 use Rattle.waveform.specs.Lines.{Upto}
 use Rattle.waveform.proofs.Loops.{begins, goes-on, ends}
-use Rattle.waveform.proofs.fill_lines.Statement.{statement}
-use Rattle.waveform.proofs.fill_lines.Tie as tie
+use Rattle.waveform.proofs.lines.fill.Statement.{statement}
+use Rattle.waveform.proofs.lines.fill.Tie as tie
 
 abbrev Inv-loop : tie.InvT-loop
-Inv-loop out₀ waveform step scale dt phase₀ i₀ out phase i = Upto (valueAt waveform (step .0)) (step .0) scale phase₀ out₀ out phase i
+Inv-loop out₀ waveform step scale dt angle₀ i₀ out angle i = Upto (valueAt waveform (step .0)) (step .0) scale angle₀ out₀ out angle i
 
 abbrev μ-loop : tie.MeasureT-loop
-μ-loop out₀ waveform step scale dt phase₀ i₀ out phase i = length out₀ - i
+μ-loop out₀ waveform step scale dt angle₀ i₀ out angle i = length out₀ - i
 
 in-cycles-requires : tie.Need-in-cycles-requires Inv-loop μ-loop
 in-cycles-requires c κs = search needs
@@ -71,7 +71,7 @@ loop-again c =
     let at = ran .before .before .before in
     let a = at .before .before .before .args in
     let u = ran .run-from .ensures .1 (a .start .0) (a .out .now) (at .loop .inv) in
-    goes-on (valueAt (a .waveform) (a .step .0)) (a .step .0) (a .scale) (a .start .0) (a .out .now) _ (ran .run-from .result .phase) (c .before .value-at .result) (ran .run-from .result .count) u (c .before .before .before .if1 .left)
+    goes-on (valueAt (a .waveform) (a .step .0)) (a .step .0) (a .scale) (a .start .0) (a .out .now) _ (ran .run-from .result .phase .0) (c .before .value-at .result) (ran .run-from .result .count) u (c .before .before .before .if1 .left)
     (rw (c .before .value-at .ensures, c .before .before .normalised .ensures, at .before .in-cycles .ensures) refl)
 
 same-length-2 : tie.Need-same-length-2 Inv-loop μ-loop
@@ -80,8 +80,8 @@ same-length-2 c = c .before .loop .inv .size
 returns-2 : tie.Need-returns-2 Inv-loop μ-loop
 returns-2 c = ends _ _ _ _ _ _ _ _ (c .before .loop .inv) (omega arith)
 
-pub fill-lines-spec : {M : Type 1} → statement M
-fill-lines-spec =
+pub fill-spec : {M : Type 1} → statement M
+fill-spec =
     tie.close
     (tie.spec
     Inv-loop

@@ -1,7 +1,7 @@
--- `waveform::ends_clear` meets its contract. Assumes nothing.
+-- `waveform::lines::ends_clear` meets its contract. Assumes nothing.
 use Rattle.polyblep.proofs.Clear.{clear-between}
-use Rattle.waveform.proofs.ends_clear.Statement.{statement}
-use Rattle.waveform.proofs.ends_clear.Tie as tie
+use Rattle.waveform.proofs.lines.ends_clear.Statement.{statement}
+use Rattle.waveform.proofs.lines.ends_clear.Tie as tie
 
 returns : tie.Need-returns
 returns c = λ e x w a b. clear-between (c .args .low) (c .args .high) (c .args .dt) x w a b e

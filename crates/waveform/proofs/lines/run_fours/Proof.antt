@@ -1,4 +1,4 @@
--- `waveform::run_fours` meets its contract. The loop's invariant is `Running` of proofs/Loops.antt. Assumes nothing.
+-- `waveform::lines::run_fours` meets its contract. The loop's invariant is `Running` of proofs/Loops.antt. Assumes nothing.
 use borrow.Author.Needs.{needs}
 use borrow.Author.Tests.{not-false}
 use mathlib.Core.Path.{sym, _∙_}
@@ -11,17 +11,17 @@ use Rattle.floats.specs.Double.{_⊕_}
 use Rattle.polyblep.proofs.Clear.{both-true}
 use Rattle.waveform.proofs.Stretches.{next-lies}
 use Rattle.waveform.proofs.Loops.{Running, runs, runs-four}
-use Rattle.waveform.proofs.run_fours.Statement.{statement}
-use Rattle.waveform.proofs.run_fours.Tie as tie
+use Rattle.waveform.proofs.lines.run_fours.Statement.{statement}
+use Rattle.waveform.proofs.lines.run_fours.Tie as tie
 
 abbrev Inv-loop : tie.InvT-loop
-Inv-loop stretch step scale out₀ line base high phase₀ i₀ out phase i = Running stretch step scale out₀ phase₀ i₀ out phase i
+Inv-loop stretch scale out₀ line base to by angle₀ i₀ out angle i = Running stretch by scale out₀ angle₀ i₀ out angle i
 
 abbrev μ-loop : tie.MeasureT-loop
-μ-loop stretch step scale out₀ line base high phase₀ i₀ out phase i = length out₀ - i
+μ-loop stretch scale out₀ line base to by angle₀ i₀ out angle i = length out₀ - i
 
 loop-holds : tie.Need-loop-holds Inv-loop μ-loop
-loop-holds c = runs (c .before .args .stretch) _ _ _ _ _ (search needs)
+loop-holds c = runs (c .before .before .args .stretch) _ _ _ _ _ (search needs)
 
 sub-if1 : tie.Need-sub-if1 Inv-loop μ-loop
 sub-if1 c = omega arith
@@ -98,10 +98,10 @@ loop-again c =
     let tested = left .before in
     let room = tested .before in
     let at = room .before .before in
-    let start = at .before .before in
+    let start = at .before .before .before in
     let s = start .args .stretch in
-    let step = start .args .step in
-    let q = at .loop .phase in
+    let step = start .args .step .0 in
+    let q = at .loop .angle in
     let (lies, below) = both-true _ _ (not-false _ (left .if2 .left)) in
     let (first-two, fourth) = both-true _ _ below in
     let (second, third) = both-true _ _ first-two in

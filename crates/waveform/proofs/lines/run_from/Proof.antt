@@ -1,9 +1,9 @@
--- `waveform::run_from` meets its contract. Assumes nothing.
+-- `waveform::lines::run_from` meets its contract. Assumes nothing.
 use borrow.Author.Needs.{needs}
 use native.Mathlib.Nat as nat
 use Rattle.waveform.specs.Filled.{valueAt}
-use Rattle.waveform.proofs.run_from.Statement.{statement}
-use Rattle.waveform.proofs.run_from.Tie as tie
+use Rattle.waveform.proofs.lines.run_from.Statement.{statement}
+use Rattle.waveform.proofs.lines.run_from.Tie as tie
 
 in-cycles-requires : tie.Need-in-cycles-requires
 in-cycles-requires c κs = search needs
@@ -24,7 +24,7 @@ returns-2 : tie.Need-returns-2
 returns-2 c =
     let ran = c .before .before in
     let found = ran .before .before in
-    let made = found .before .before .before in
+    let made = found .before .before .before .before in
     let a = made .before .before .args in
     let straight = rw (made .in-cycles .ensures) at (found .stretch-from .ensures) in
     (ran .run-on .ensures .0, ran .run-on .ensures .1 (valueAt (a .waveform) (a .step .0)) straight)
