@@ -1,32 +1,38 @@
 -- `waveform::steep::fill_triangles` meets its contract. The loop's invariant: the first i numbers are made, the others are as they were. Assumes nothing.
 use borrow.Author.Needs.{needs}
+use mathlib.Core.Path.{refl}
 use Prim.Native.Nat.{_-_}
 use native.Mathlib.Omega.{arith}
 use lib.ListN.{length}
 use lib.Ieee.{Float}
+use Rattle.floats.specs.Double.{_⊗_}
 use Rattle.polyblep.specs.Polyblep.{triangleOf}
+use Rattle.waveform.specs.Waveform.{invTau}
 use Rattle.waveform.specs.Parts.{Remade}
 use Rattle.waveform.proofs.Remaking.{remade-none, remade-more, remade-all, still-part}
 use Rattle.waveform.proofs.steep.fill_triangles.Statement.{statement}
 use Rattle.waveform.proofs.steep.fill_triangles.Tie as tie
 
 abbrev Inv-loop : tie.InvT-loop
-Inv-loop out₀ dt scale i₀ out i = Remade (λ (u : Float). triangleOf u dt) scale out₀ out i
+Inv-loop out₀ dt scale i₀ out i = Remade (λ (x : Float). triangleOf (x ⊗ invTau) dt ⊗ scale) out₀ out i
 
 abbrev μ-loop : tie.MeasureT-loop
 μ-loop out₀ dt scale i₀ out i = length out₀ - i
 
 loop-holds : tie.Need-loop-holds Inv-loop μ-loop
-loop-holds c = remade-none _ _ _
+loop-holds c = remade-none _ _
 
-mul-u : tie.Need-mul-u Inv-loop μ-loop
-mul-u c = search needs
+mul-x : tie.Need-mul-x Inv-loop μ-loop
+mul-x c = search needs
 
-slice-read-u : tie.Need-slice-read-u Inv-loop μ-loop
-slice-read-u c = search needs
+slice-read-x : tie.Need-slice-read-x Inv-loop μ-loop
+slice-read-x c = search needs
+
+in-cycles-requires : tie.Need-in-cycles-requires Inv-loop μ-loop
+in-cycles-requires c κs = search needs
 
 triangle-requires : tie.Need-triangle-requires Inv-loop μ-loop
-triangle-requires c κs = (let at = c .before .before in still-part _ _ _ (at .loop .out) (at .loop .i) (at .before .before .pre) (c .before .loop-test .taken) (at .loop .inv))
+triangle-requires c κs = let at = c .before .before .before in rw (c .in-cycles .ensures) (still-part _ _ (at .loop .out) (at .loop .i) (at .before .before .pre) (c .before .before .loop-test .taken) (at .loop .inv))
 
 mul-out : tie.Need-mul-out Inv-loop μ-loop
 mul-out c = search needs
@@ -42,29 +48,14 @@ loop-less c = omega arith
 
 loop-again : tie.Need-loop-again Inv-loop μ-loop
 loop-again c =
-    let at = c .before .before .before in
-    remade-more _ _ _ (at .loop .out) (c .triangle .result) (at .loop .i) (c .before .before .loop-test .taken) (c .triangle .ensures) (at .loop .inv)
+    let at = c .before .before .before .before in
+    remade-more _ _ (at .loop .out) _ (at .loop .i) (c .before .before .before .loop-test .taken) (rw (c .triangle .ensures, c .before .in-cycles .ensures) refl) (at .loop .inv)
 
 same-length : tie.Need-same-length Inv-loop μ-loop
 same-length c = c .before .loop .inv .long
 
 returns : tie.Need-returns Inv-loop μ-loop
-returns c = remade-all _ _ _ (c .before .loop .out) (c .before .loop .i) (omega arith) (c .before .loop .inv)
+returns c = remade-all _ _ (c .before .loop .out) (c .before .loop .i) (omega arith) (c .before .loop .inv)
 
 pub fill-triangles-spec : {M : Type 1} → statement M
-fill-triangles-spec =
-    tie.close
-    (tie.spec
-    Inv-loop
-    μ-loop
-    loop-holds
-    mul-u
-    slice-read-u
-    triangle-requires
-    mul-out
-    slice-write-out
-    add-i
-    loop-less
-    loop-again
-    same-length
-    returns)
+fill-triangles-spec = tie.close (tie.spec Inv-loop μ-loop loop-holds mul-x slice-read-x in-cycles-requires triangle-requires mul-out slice-write-out add-i loop-less loop-again same-length returns)

@@ -15,12 +15,12 @@ fract-requires c κs = duty-low (c .before .args .u) (c .before .pre .0) (c .bef
 blep-requires-2 : tie.Need-blep-requires-2
 blep-requires-2 c κs = search needs
 
-pick-requires : tie.Need-pick-requires
-pick-requires c κs = search needs
+step-requires : tie.Need-step-requires
+step-requires c κs = search needs
 
 returns : tie.Need-returns
 unfolding pulseOf
-returns c = rw (c .pick .ensures, c .before .blep2 .ensures, c .before .before .fract .ensures, c .before .before .before .blep .ensures) refl
+returns c = rw (c .step .ensures, c .before .blep2 .ensures, c .before .before .fract .ensures, c .before .before .before .blep .ensures) refl
 
 pub pulse-spec : {M : Type 1} → statement M
-pulse-spec = tie.close (tie.spec blep-requires fract-requires blep-requires-2 pick-requires returns)
+pulse-spec = tie.close (tie.spec blep-requires fract-requires blep-requires-2 step-requires returns)
