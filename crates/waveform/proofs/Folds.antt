@@ -5,12 +5,10 @@ use mathlib.Core.Bool.{Bool, true, false, cond, not, _&&_}
 use mathlib.Core.List.{List}
 use Prim.Native.Nat.{ℕ, zero, suc, _+_, _-_, _*_, _%_, _≤_, _<_}
 use native.Mathlib.Nat as nat
-use native.Mathlib.Numerals.{add-one}
 use native.Mathlib.Omega.{arith}
 use lib.Dec.{T, ltb, ltb→lt, not-T}
 use lib.ListN.{length, getD}
-use lib.IntN.{ℤ}
-use lib.Ieee.{Float, nan, inf, fin, binary64, ofBits, round, rem, lt, le, fits, sum, sub, add, neg, down}
+use lib.Ieee.{Float, nan, inf, fin, binary64, ofBits, rem, lt, le, fits, sum, sub}
 use lib.Ieee.Bits.{is-false}
 use lib.Ieee.Exact.{HasValue}
 use lib.Ieee.Fits.{and-l, and-r, rem-fits}
@@ -19,7 +17,7 @@ use lib.Ieee.Positive.{num, den, den-pos, positive}
 use Rattle.runs.specs.Runs.{listed}
 use Rattle.runs.proofs.Listed.{listed-length, listed-at, listed-same}
 use Rattle.floats.specs.Range.{nought, nonneg, within}
-use Rattle.floats.specs.Double.{_⊕_, _⊖_, _⊗_, naught, one}
+use Rattle.floats.specs.Double.{_⊖_, naught}
 use Rattle.floats.proofs.Literals.{lit0-is}
 use Rattle.floats.proofs.Order.{fle-trans, fle-refl, le-lt-lt, lt-not-le, not-lt-le, cross→le, le→cross, nonneg→finite, positive-nonneg, signed, under}
 use Rattle.floats.proofs.Operations.{dens-pos, sub-is, rem-is}
@@ -27,7 +25,7 @@ use Rattle.floats.proofs.OneWay.{self-is}
 use Rattle.floats.proofs.Ranges.{rem-ge0, rem-le, ge0-positive, add-grows, within-nonneg}
 use Rattle.floats.proofs.Remainder.{mod-scale, rem-value, rem-lt}
 use Rattle.floats.proofs.Units.{rem-below, rem-once}
-use Rattle.waveform.specs.Waveform.{tau, turnedOf, normalOf, invTau}
+use Rattle.waveform.specs.Waveform.{tau, turnedOf}
 use Rattle.waveform.specs.Lines.{twoTau}
 use Rattle.waveform.specs.Filled.{phaseFrom}
 use Rattle.waveform.specs.Parts.{fourTau, eightTau, halfManyTau, manyTau, farthest, sixteen, foldOf, Below, AllBelow, AllParts, madeOf}

@@ -1,7 +1,7 @@
 -- What the inner loops share, whatever the value at a phase: how far one has come, that it begins, goes on and ends so. Assumes nothing.
 use mathlib.Core.Path.{_≡_, refl, sym, subst, ap, _∙_}
 use mathlib.Core.List.{List}
-use mathlib.Core.Bool.{true, _&&_}
+use mathlib.Core.Bool.{true}
 use Prim.Native.Nat.{ℕ, _+_, _≤_, _<_}
 use native.Mathlib.Nat as nat
 use native.Mathlib.Numerals.{add-one}

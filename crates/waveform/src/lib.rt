@@ -24,7 +24,7 @@ const INV_TAU: f64 = 0.15915494309189535;
 const TWO_TAU: f64 = 12.566370614359172;
 
 // Cycles a sample from which on too few samples lie between two corrections.
-const STEEP: f64 = 0.0625;
+const STEEP: f64 = 0.035;
 
 // TAU * 2^50.
 const TAU_UNITS: u64 = 0x19_21fb_5444_2d18;
