@@ -10,15 +10,15 @@ ghost use Rattle.runs.specs.Runs.{listed};
 ghost use Rattle.floats.specs.Range.{within};
 ghost use Rattle.floats.specs.Double.{_⊗_, naught, one, two};
 ghost use Rattle.polyblep.specs.Polyblep.{fractOf, blepOf, blampOf, sawOf, squareOf, pulseOf, triangleOf};
-ghost use Rattle.waveform.specs.Waveform.{valueOf, turnedOf, normalOf, invTau, radians};
-ghost use Rattle.waveform.specs.declared.Waveform.the-variants.{Pulse};
+ghost use Rattle.waveform.specs.Waveform.{valueOf, turnedOf, invTau, radians};
 ghost use Rattle.waveform.specs.Filled.{phaseFrom, Filled};
-ghost use Rattle.waveform.specs.Parts.{least, most, fourTau, eightTau, manyTau, farthest, sixteen, foldOf, AllBelow, AllParts, madeOf};
+ghost use Rattle.waveform.specs.Parts.{fourTau, eightTau, manyTau, farthest, sixteen, foldOf, AllBelow, AllParts, madeOf};
 use crate::Radians;
 use crate::TAU;
 use crate::TWO_TAU;
 use crate::Waveform;
 use crate::in_cycles;
+use crate::lines;
 use crate::turned;
 use crate::value_at;
 
@@ -41,15 +41,13 @@ pub fn fill(
 ) -> Radians
     ensures { λ r. ⌜ Filled waveform (start .0) (step .0) scale (now (out .entry)) (now (out .exit)) r ⌝ }
 {
+    if !is_steady(start, step) {
+        return lines::fill(out, waveform, start, step, scale);
+    }
     let dt = in_cycles(step);
     let end = fill_phases(out, start, step);
-    if is_steady(start, step) {
-        turn(out, end);
-        fill_near(out, waveform, dt, scale);
-        return end;
-    }
-    turn_any(out);
-    fill_any(out, waveform, dt, scale);
+    turn(out, end);
+    fill_values(out, waveform, dt, scale);
     end
 }
 
@@ -147,93 +145,31 @@ fn fold(out: &mut [f64], over: Radians)
     }
 }
 
-// The values of what is left of phases, whose parts of a cycle lie from 0 to 1.
-fn fill_near(out: &mut [f64], waveform: Waveform, dt: f64, scale: f64)
+// The values of what is left of phases, whose parts of a cycle lie from 0 to 1. The back end takes the match out of the loop.
+fn fill_values(out: &mut [f64], waveform: Waveform, dt: f64, scale: f64)
     requires { ⌜ AllParts (now out) ⌝ }
     ensures { λ r. ⌜ now (out .exit) ≡ madeOf (λ (x : Float). valueOf waveform (x ⊗ invTau) dt ⊗ scale) (now (out .entry)) (length (now (out .entry))) ⌝ }
+{
+    let mut i = 0;
+    while i < out.len() {
+        let x = out[i];
+        let u = in_cycles(Radians(x));
+        out[i] = flat_value(waveform, u, dt) * scale;
+        i += 1;
+    }
+}
+
+// `value_at` of a part of a cycle, without a branch that hangs on it.
+fn flat_value(waveform: Waveform, u: f64, dt: f64) -> f64
+    requires { ⌜ T (within naught one u) ⌝ }
+    ensures { λ r. ⌜ r ≡ valueOf waveform u dt ⌝ }
 {
     match waveform {
-        Waveform::Sine => fill_any(out, waveform, dt, scale),
-        Waveform::Square => fill_squares(out, dt, scale),
-        Waveform::Sawtooth => fill_saws(out, dt, scale),
-        Waveform::Triangle => fill_triangles(out, dt, scale),
-        Waveform::Pulse(duty) => fill_pulses(out, dt, duty, scale),
-    }
-}
-
-// The values of any numbers.
-fn fill_any(out: &mut [f64], waveform: Waveform, dt: f64, scale: f64)
-    ensures { λ r. ⌜ now (out .exit) ≡ madeOf (λ (x : Float). valueOf waveform (x ⊗ invTau) dt ⊗ scale) (now (out .entry)) (length (now (out .entry))) ⌝ }
-{
-    let mut i = 0;
-    while i < out.len() {
-        let x = out[i];
-        let u = in_cycles(Radians(x));
-        out[i] = value_at(waveform, u, dt) * scale;
-        i += 1;
-    }
-}
-
-fn fill_saws(out: &mut [f64], dt: f64, scale: f64)
-    ensures { λ r. ⌜ now (out .exit) ≡ madeOf (λ (x : Float). sawOf (x ⊗ invTau) dt ⊗ scale) (now (out .entry)) (length (now (out .entry))) ⌝ }
-{
-    let mut i = 0;
-    while i < out.len() {
-        let x = out[i];
-        let u = in_cycles(Radians(x));
-        out[i] = saw(u, dt) * scale;
-        i += 1;
-    }
-}
-
-fn fill_squares(out: &mut [f64], dt: f64, scale: f64)
-    requires { ⌜ AllParts (now out) ⌝ }
-    ensures { λ r. ⌜ now (out .exit) ≡ madeOf (λ (x : Float). squareOf (x ⊗ invTau) dt ⊗ scale) (now (out .entry)) (length (now (out .entry))) ⌝ }
-{
-    let mut i = 0;
-    while i < out.len() {
-        let x = out[i];
-        let u = in_cycles(Radians(x));
-        out[i] = square(u, dt) * scale;
-        i += 1;
-    }
-}
-
-fn fill_triangles(out: &mut [f64], dt: f64, scale: f64)
-    requires { ⌜ AllParts (now out) ⌝ }
-    ensures { λ r. ⌜ now (out .exit) ≡ madeOf (λ (x : Float). triangleOf (x ⊗ invTau) dt ⊗ scale) (now (out .entry)) (length (now (out .entry))) ⌝ }
-{
-    let mut i = 0;
-    while i < out.len() {
-        let x = out[i];
-        let u = in_cycles(Radians(x));
-        out[i] = triangle(u, dt) * scale;
-        i += 1;
-    }
-}
-
-// A duty so near to 0 or 1 that the second edge's phase may leave 0 to 2 is made as any.
-fn fill_pulses(out: &mut [f64], dt: f64, duty: f64, scale: f64)
-    requires { ⌜ AllParts (now out) ⌝ }
-    ensures { λ r. ⌜ now (out .exit) ≡ madeOf (λ (x : Float). valueOf (Pulse duty) (x ⊗ invTau) dt ⊗ scale) (now (out .entry)) (length (now (out .entry))) ⌝ }
-{
-    if (0.0009765625 <= duty) & (duty <= 0.9990234375) {
-        fill_middle_pulses(out, dt, duty, scale);
-        return;
-    }
-    fill_any(out, Waveform::Pulse(duty), dt, scale);
-}
-
-fn fill_middle_pulses(out: &mut [f64], dt: f64, duty: f64, scale: f64)
-    requires { ⌜ AllParts (now out) × T (within least most duty) ⌝ }
-    ensures { λ r. ⌜ now (out .exit) ≡ madeOf (λ (x : Float). pulseOf (x ⊗ invTau) dt duty ⊗ scale) (now (out .entry)) (length (now (out .entry))) ⌝ }
-{
-    let mut i = 0;
-    while i < out.len() {
-        let x = out[i];
-        let u = in_cycles(Radians(x));
-        out[i] = pulse(u, dt, duty) * scale;
-        i += 1;
+        Waveform::Sine => value_at(waveform, u, dt),
+        Waveform::Square => square(u, dt),
+        Waveform::Sawtooth => saw(u, dt),
+        Waveform::Triangle => triangle(u, dt),
+        Waveform::Pulse(duty) => pulse(u, dt, duty),
     }
 }
 
@@ -253,10 +189,14 @@ fn square(u: f64, dt: f64) -> f64
     polyblep::step(u, 0.5) + rise - fall
 }
 
+// A duty so near to 0 or 1 that the second edge's phase may leave 0 to 2 is made as any.
 fn pulse(u: f64, dt: f64, duty: f64) -> f64
-    requires { ⌜ T (within naught one u) × T (within least most duty) ⌝ }
+    requires { ⌜ T (within naught one u) ⌝ }
     ensures { λ r. ⌜ r ≡ pulseOf u dt duty ⌝ }
 {
+    if !((0.0009765625 <= duty) & (duty <= 0.9990234375)) {
+        return polyblep::pulse(u, dt, duty);
+    }
     let rise = blep(u, dt);
     let fall = blep(fract(u - duty + 1.0), dt);
     polyblep::step(u, duty) + rise - fall
