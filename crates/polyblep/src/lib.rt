@@ -2,13 +2,18 @@
 // The calls of document 01 judge their arguments; the plain functions under them take any number and are what a
 // waveform's inner loop uses. Left out: the simd lanes.
 ghost use mathlib.Core.Path.{_≡_};
-ghost use Rattle.polyblep.specs.Polyblep.{sideOf, blepOf, blampOf, fractOf, stepOf, rampOf, sawOf, squareOf, pulseOf, triangleOf};
+ghost use Rattle.polyblep.specs.Polyblep.{sideOf, blepOf, blampOf, fractOf, stepOf, climbOf, riseOf, fallOf, rampOf, sawOf, squareOf, pulseOf, triangleOf};
 ghost use Rattle.polyblep.specs.Calls.{polyBlepOf, polyBlampOf, polyblepSawOf, polyblepSquareOf, polyblepPulseOf, polyblampTriangleOf};
 use answers::Refusal;
 use answers::Value;
 
 // 1.0 / 3.0
 pub const THIRD: f64 = 0.3333333333333333;
+
+// A square and a pulse before their edge, and from it on.
+pub const HIGH: f64 = 1.0;
+
+pub const LOW: f64 = -1.0;
 
 // The side of a step on which a phase lies, with the distance from it in samples.
 pub enum Side {
@@ -102,7 +107,7 @@ pub fn blamp(t: f64, dt: f64) -> f64
 pub fn saw(phase: f64, dt: f64) -> f64
     ensures { λ r. ⌜ r ≡ sawOf phase dt ⌝ }
 {
-    2.0 * phase - 1.0 - blep(phase, dt)
+    climb(phase) - blep(phase, dt)
 }
 
 pub fn square(phase: f64, dt: f64) -> f64
@@ -143,22 +148,43 @@ fn side_of(t: f64, dt: f64) -> Side
 }
 
 // 1 before the edge, -1 from it on.
-fn step(phase: f64, edge: f64) -> f64
+pub fn step(phase: f64, edge: f64) -> f64
     ensures { λ r. ⌜ r ≡ stepOf phase edge ⌝ }
 {
     if phase < edge {
-        return 1.0;
+        return HIGH;
     }
-    -1.0
+    LOW
 }
 
 // Up from -1 to 1 and down again.
-fn ramp(phase: f64) -> f64
+pub fn ramp(phase: f64) -> f64
     ensures { λ r. ⌜ r ≡ rampOf phase ⌝ }
 {
     if phase < 0.5 {
-        return 4.0 * phase - 1.0;
+        return rise(phase);
     }
+    fall(phase)
+}
+
+// A sawtooth without its correction.
+pub fn climb(phase: f64) -> f64
+    ensures { λ r. ⌜ r ≡ climbOf phase ⌝ }
+{
+    2.0 * phase - 1.0
+}
+
+// A triangle before the half, without its corrections.
+pub fn rise(phase: f64) -> f64
+    ensures { λ r. ⌜ r ≡ riseOf phase ⌝ }
+{
+    4.0 * phase - 1.0
+}
+
+// And behind it.
+pub fn fall(phase: f64) -> f64
+    ensures { λ r. ⌜ r ≡ fallOf phase ⌝ }
+{
     3.0 - 4.0 * phase
 }
 

@@ -15,5 +15,7 @@ pub mod Stretches
 pub mod Values
 -- two outcomes of a public function are equal
 pub mod Unique
--- parts of a cycle and their values in a lent list, without a branch
+-- phases and their values in a lent list, without a branch
 pub mod Remaking
+-- what is left of phases over TAU, by differences
+pub mod Folds

@@ -1,7 +1,7 @@
 -- What the inner loops share, whatever the value at a phase: how far one has come, that it begins, goes on and ends so. Assumes nothing.
 use mathlib.Core.Path.{_≡_, refl, sym, subst, ap, _∙_}
 use mathlib.Core.List.{List}
-use mathlib.Core.Bool.{true, _&&_}
+use mathlib.Core.Bool.{true}
 use Prim.Native.Nat.{ℕ, _+_, _≤_, _<_}
 use native.Mathlib.Nat as nat
 use native.Mathlib.Numerals.{add-one}
@@ -15,8 +15,8 @@ use Rattle.runs.specs.Runs.{run, listed}
 use Rattle.floats.specs.Double.{_⊕_, _⊗_}
 use Rattle.waveform.specs.Waveform.{radians}
 use Rattle.waveform.specs.Filled.{phaseFrom, samplesBy, FilledBy}
-use Rattle.waveform.specs.declared.Stretch.{Stretch}
-use Rattle.waveform.specs.Lines.{lineOf, partOf, Straight, Upto, Onward}
+use Rattle.waveform.specs.declared.lines.Stretch.{Stretch}
+use Rattle.waveform.specs.Lines.{lineOf, partOf, lies, Straight, Upto, Onward}
 use Rattle.waveform.proofs.Steps.{phase-more, samples-more}
 
 module _ (value : Float → Float) (step scale p₀ : Float) (before : List Float) where
@@ -61,7 +61,7 @@ module _ (value : Float → Float) (step scale p₀ : Float) (before : List Floa
 
 -- ---- over a stretch: a loop has come on from the phase p and sample i to the phase q and sample j
 abbrev pub Running : Stretch → Float → Float → List Float → Float → ℕ → List Float → Float → ℕ → Type 0
-Running s step scale ys p i zs q j = (length zs ≡ length ys) × (i ≤ j) × T (fits binary64 q) × Onward s step scale ys (record { phase = p; count = i }) zs (record { phase = q; count = j })
+Running s step scale ys p i zs q j = (length zs ≡ length ys) × (i ≤ j) × T (fits binary64 q) × Onward s step scale ys (record { phase = radians p; count = i }) zs (record { phase = radians q; count = j })
 
 pub runs : (s : Stretch) (step scale : Float) (ys : List Float) (p : Float) (i : ℕ) → T (fits binary64 p) → Running s step scale ys p i ys p i
 runs s step scale ys p i w = (refl, nat.le-refl i, w, λ value straight p₀ xs u. u)
@@ -69,15 +69,15 @@ runs s step scale ys p i w = (refl, nat.le-refl i, w, λ value straight p₀ xs 
 module _ (s : Stretch) (step scale : Float) (ys : List Float) (p : Float) (i : ℕ) where
   -- the code's test of a phase, and its value there
   abbrev Tested : Float → Type 0
-  Tested q = (le (s .low) q && lt q (s .high)) ≡ true
+  Tested q = lies s q ≡ true
 
   abbrev Made : Float → Float → Type 0
-  Made v q = v ≡ lineOf (s .line) (partOf (s .base) q)
+  Made v q = v ≡ lineOf (s .line) (partOf (s .base .0) q)
 
   made : (value : Float → Float) → Straight value s → (v q : Float) → T (fits binary64 q) → Tested q → Made v q → v ≡ value q
   made value straight v q w t e =
       let inside = subst T (sym t) tt in
-      e ∙ sym (straight q (w, and-l (le (s .low) q) (lt q (s .high)) inside, and-r (le (s .low) q) (lt q (s .high)) inside))
+      e ∙ sym (straight q (w, and-l (le (s .from .0) q) (lt q (s .to .0)) inside, and-r (le (s .from .0) q) (lt q (s .to .0)) inside))
 
   pub runs-on : (zs : List Float) (q v : Float) (j : ℕ) → Running s step scale ys p i zs q j → j < length zs → Tested q → Made v q → Running s step scale ys p i (set zs j (v ⊗ scale)) (q ⊕ step) (j + 1)
   runs-on zs q v j (size, from, w, on) h t e = (

@@ -1,21 +1,19 @@
 -- Parts of a cycle and their values in a lent list: one more, all of them, and the corrections without a branch. Assumes nothing.
 use mathlib.Core.Path.{_≡_, refl, sym, ap, subst, _∙_}
-use mathlib.Core.Bool.{Bool, true, false, true≢false, cond, _&&_}
+use mathlib.Core.Bool.{Bool, true, false, cond, _&&_}
 use mathlib.Core.List.{List}
-use mathlib.Core.Logic.{⊎-elim}
 use Prim.Native.Nat.{ℕ, _+_, _<_, _≤_}
-use native.Mathlib.Nat.{eq-or-lt-of-le, le-of-suc-le-suc}
 use native.Mathlib.Numerals.{add-one}
 use native.Mathlib.Omega.{arith}
 use lib.Dec.{T}
-use lib.ListN.{length, getD, set, length-set}
-use lib.Seq.{take-suc-set, take-all, getD-set-other, getD-set-same}
+use lib.ListN.{length, take, getD, set, length-set}
+use lib.Seq.{take-suc-set, take-all, getD-set-other}
 use lib.Ieee.{Float, nan, binary64, ofBits, add, sub, lt, le}
 use lib.Ieee.Bits.{is-true}
 use lib.Ieee.Fits.{and-i, and-l, and-r}
 use lib.Ieee.Scale.{finite}
-use Rattle.runs.specs.Runs.{listed}
-use Rattle.runs.proofs.Listed.{listed-same}
+use Rattle.runs.specs.Runs.{run, listed}
+use Rattle.runs.proofs.Listed.{listed-more, listed-length, listed-at, listed-same}
 use Rattle.floats.specs.Range.{within}
 use Rattle.floats.specs.Double.{_⊕_, _⊖_, _⊗_, _⊘_, naught, half, one, two}
 use Rattle.floats.proofs.Order.{fle-refl, lt-le-lt, le-lt-lt, between-finite}
@@ -27,52 +25,86 @@ use Rattle.polyblep.specs.Polyblep as polyblep
 use Rattle.polyblep.specs.declared.Side.the-variants.{After, Before, Away}
 use Rattle.waveform.specs.declared.Radians.{Radians}
 use Rattle.waveform.specs.declared.Waveform.{Waveform}
-use Rattle.waveform.specs.Waveform.{valueOf, turnedOf, invTau}
-use Rattle.waveform.specs.Filled.{samplesBy, FilledBy, Filled}
+use Rattle.waveform.specs.Waveform.{valueOf, turnedOf, normalOf, invTau, radians}
+use Rattle.waveform.specs.Filled.{phaseFrom, samplesBy, Filled}
 use Rattle.waveform.specs.Parts.{least, most, AllParts, madeOf, Remade}
-use Rattle.waveform.proofs.Steps.{samples-length, sample-at}
+use Rattle.waveform.proofs.Steps.{phase-more}
 
 -- ---- a list made anew
-module _ (value : Float → Float) (scale : Float) (xs : List Float) where
-  pub remade-none : Remade value scale xs xs 0
+module _ (value : Float → Float) (xs : List Float) where
+  pub remade-none : Remade value xs xs 0
   unfolding madeOf listed
   remade-none = record { long = refl; within = omega arith; first = refl; others = λ j h. refl }
 
-  pub remade-more : (ys : List Float) (v : Float) (i : ℕ) → i < length ys → v ≡ value (getD ys i nan) → Remade value scale xs ys i → Remade value scale xs (set ys i (v ⊗ scale)) (i + 1)
+  pub remade-more : (ys : List Float) (v : Float) (i : ℕ) → i < length ys → v ≡ value (getD ys i nan) → Remade value xs ys i → Remade value xs (set ys i v) (i + 1)
   unfolding madeOf listed
   remade-more ys v i h e b =
       record {
         long = simp length-set (b .long);
         within = omega (arith, b .long);
-        first = rw (add-one i, take-suc-set ys i (v ⊗ scale) h, b .first, e, b .others i (omega arith)) refl;
+        first = rw (add-one i, take-suc-set ys i v h, b .first, e, b .others i (omega arith)) refl;
         others = λ j g. getD-set-other ys i j _ nan (λ q. omega arith) ∙ b .others j (omega arith);
       }
 
-  pub remade-all : (ys : List Float) (i : ℕ) → length ys ≤ i → Remade value scale xs ys i → ys ≡ madeOf value scale xs (length xs)
-  remade-all ys i h b = let z : i ≡ length xs = omega (arith, b .long, b .within) in sym (take-all i ys h) ∙ b .first ∙ ap (madeOf value scale xs) z
+  pub remade-all : (ys : List Float) (i : ℕ) → length ys ≤ i → Remade value xs ys i → ys ≡ madeOf value xs (length xs)
+  remade-all ys i h b = let z : i ≡ length xs = omega (arith, b .long, b .within) in sym (take-all i ys h) ∙ b .first ∙ ap (madeOf value xs) z
 
   -- what is still to be made is a part, where all were
-  pub still-part : (ys : List Float) (i : ℕ) → AllParts xs → i < length ys → Remade value scale xs ys i → T (within naught one (getD ys i nan))
-  still-part ys i a h b = subst (λ (x : Float). T (within naught one x)) (sym (b .others i (omega arith))) (a i (omega (arith, b .long)))
+  pub still-part : (ys : List Float) (i : ℕ) → AllParts xs → i < length ys → Remade value xs ys i → T (within naught one (getD ys i nan ⊗ invTau))
+  still-part ys i a h b = subst (λ (x : Float). T (within naught one (x ⊗ invTau))) (sym (b .others i (omega arith))) (a i (omega (arith, b .long)))
 
--- one part more
-pub parts-more : (out : List Float) (u : Float) (i : ℕ) (sound : Bool) → i < length out → (sound ≡ true → (j : ℕ) → j < i → T (within naught one (getD out j nan))) → (sound && within naught one u) ≡ true
-    → (j : ℕ) → j < i + 1 → T (within naught one (getD (set out i u) j nan))
-parts-more out u i false h s e j l = absurd (true≢false (sym e))
-parts-more out u i true h s e j l =
-    ⊎-elim
-    (λ q. subst (λ (x : Float). T (within naught one x)) (sym (ap (λ (k : ℕ). getD (set out i u) k nan) q ∙ getD-set-same out i u nan h)) (subst T (sym e) tt))
-    (λ q. subst (λ (x : Float). T (within naught one x)) (sym (getD-set-other out i j u nan (λ z. omega arith))) (s refl j q)) (eq-or-lt-of-le (le-of-suc-le-suc (rw (add-one i) at l)))
+  pub made-length : (k : ℕ) → length (madeOf value xs k) ≡ k
+  unfolding madeOf
+  made-length = listed-length _
 
--- ---- the values of a list of parts are the samples of a waveform
-pub combined : (w : Waveform) (p step dt scale : Float) (xs ys zs : List Float) (r : Radians) → dt ≡ step ⊗ invTau → FilledBy turnedOf p step invTau xs ys r → zs ≡ madeOf (λ (u : Float). valueOf w u dt) scale ys (length ys) → Filled w p step scale xs zs r
-unfolding madeOf samplesBy
-combined w p step dt scale xs ys zs r d f m =
-    let long : length ys ≡ length xs = ap length (f .samples) ∙ samples-length turnedOf step invTau p (length xs) in
-    record {
-      samples = m ∙ rw (long, d) (listed-same _ _ (length xs) (λ i l. ap (λ (u : Float). valueOf w u (step ⊗ invTau) ⊗ scale) (ap (λ (l : List Float). getD l i nan) (f .samples) ∙ sample-at turnedOf step invTau p i (length xs) l)));
-      phase = f .phase;
-    }
+  pub made-at : (k i : ℕ) → i < k → getD (madeOf value xs k) i nan ≡ value (getD xs i nan)
+  unfolding madeOf
+  made-at k i = listed-at _ k i nan
+
+-- made of what was made
+pub made-twice : (f g h : Float → Float) (xs ys zs : List Float) → ys ≡ madeOf f xs (length xs) → zs ≡ madeOf g ys (length ys) → ((i : ℕ) → i < length xs → g (f (getD xs i nan)) ≡ h (getD xs i nan)) → zs ≡ madeOf h xs (length xs)
+unfolding madeOf
+made-twice f g h xs ys zs p q e =
+    let long : length ys ≡ length xs = ap length p ∙ made-length f xs (length xs) in
+    q ∙ rw long (listed-same _ _ (length xs) (λ i l. ap g (ap (λ (l : List Float). getD l i nan) p ∙ made-at f xs (length xs) i l) ∙ e i l))
+
+-- ---- the phases of a block, and what is made of them
+module _ (step p : Float) where
+  pub record Phased (xs ys : List Float) (q : Float) (i : ℕ) : Type 0 where
+    pub size : length ys ≡ length xs
+    pub within : i ≤ length ys
+    pub phase : q ≡ phaseFrom step p i
+    pub phases : take i ys ≡ listed (phaseFrom step p) i
+
+  pub phased-none : (xs : List Float) → Phased xs xs p 0
+  unfolding run listed phaseFrom
+  phased-none xs = record { size = refl; within = omega arith; phase = refl; phases = refl }
+
+  pub phased-more : (xs ys : List Float) (q : Float) (i : ℕ) → i < length ys → Phased xs ys q i → Phased xs (set ys i q) (q ⊕ step) (i + 1)
+  phased-more xs ys q i h u =
+      record {
+        size = simp length-set (u .size);
+        within = simp length-set (omega arith);
+        phase = ap (λ (x : Float). x ⊕ step) (u .phase) ∙ sym (phase-more step p i);
+        phases = rw (listed-more (phaseFrom step p) i, add-one i, take-suc-set, u .phases, u .phase) refl;
+      }
+
+  pub phased-all : (xs ys : List Float) (q : Float) (i : ℕ) → length ys ≤ i → Phased xs ys q i → (ys ≡ listed (phaseFrom step p) (length xs)) × (radians q ≡ radians (phaseFrom step p (length xs)))
+  phased-all xs ys q i h u =
+      let e : i ≡ length ys = omega (arith, u .within) in
+      (rw (← u .size, ← e) (sym (take-all i ys h) ∙ u .phases), rw (← u .size, ← e) (ap radians (u .phase)))
+
+  -- values of what is left of the phases are the samples of a waveform
+  pub combined : (w : Waveform) (dt scale : Float) (xs ys zs vs : List Float) (r : Radians) → dt ≡ step ⊗ invTau → (ys ≡ listed (phaseFrom step p) (length xs)) × (r ≡ radians (phaseFrom step p (length xs))) → zs ≡ madeOf turnedOf ys (length ys)
+      → vs ≡ madeOf (λ (x : Float). valueOf w (x ⊗ invTau) dt ⊗ scale) zs (length zs) → Filled w p step scale xs vs r
+  unfolding madeOf samplesBy
+  combined w dt scale xs ys zs vs r d (phases, end) e m =
+      let long : length ys ≡ length xs = ap length phases ∙ listed-length _ (length xs) in
+      record {
+        samples = made-twice turnedOf (λ (x : Float). valueOf w (x ⊗ invTau) dt ⊗ scale) (λ (q : Float). valueOf w (normalOf q) dt ⊗ scale) ys zs vs e m (λ i l. refl)
+            ∙ rw (long, d) (listed-same _ _ (length xs) (λ i l. ap (λ (q : Float). valueOf w (normalOf q) (step ⊗ invTau) ⊗ scale) (ap (λ (l : List Float). getD l i nan) phases ∙ listed-at _ (length xs) i nan l)));
+        phase = end;
+      }
 
 -- ---- both sides of an edge worked out, and one taken
 abbrev flatX : Float → Float → Float

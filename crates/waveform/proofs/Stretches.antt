@@ -17,12 +17,15 @@ use Rattle.floats.proofs.Ranges.{within-nonneg, add-grows}
 use Rattle.floats.proofs.Units.{rem-below, less-nought}
 use Rattle.polyblep.specs.declared.Side.the-variants.{Away}
 use Rattle.polyblep.specs.Polyblep.{sideOf, fractOf, blepOf, blampOf, sawOf, squareOf, pulseOf, triangleOf}
-use Rattle.polyblep.proofs.Clear.{Lies, AllAway, unit-finite, lies, half-away, duty-away}
-use Rattle.waveform.specs.Waveform.{tau, invTau, normalOf}
-use Rattle.waveform.specs.declared.Line.{Line}
-use Rattle.waveform.specs.declared.Line.the-variants.{High, Low, Climb, Rise, Fall}
-use Rattle.waveform.specs.declared.Stretch.{Stretch}
-use Rattle.waveform.specs.Lines.{lineOf, baseOf, isOneCycle, partOf, twoTau, goesUp, Inside, Straight, TwoLines}
+use Rattle.polyblep.proofs.Clear.{Lies, unit-finite}
+use Rattle.polyblep.proofs.Clear as away
+use Rattle.waveform.specs.Waveform.{tau, invTau, normalOf, radians}
+use Rattle.waveform.specs.declared.lines.Line.{Line}
+use Rattle.waveform.specs.declared.lines.Line.the-variants.{High, Low, Climb, Rise, Fall}
+use Rattle.waveform.specs.declared.lines.Stretch.{Stretch}
+use Rattle.waveform.specs.declared.lines.Guess.{Guess}
+use Rattle.waveform.specs.declared.Radians.{Radians}
+use Rattle.waveform.specs.Lines.{lineOf, baseOf, isOneCycle, isClear, partOf, twoTau, goesUp, lies, Inside, Straight, TwoLines, stretchOf}
 use Rattle.waveform.proofs.Normal.{tau-positive, rem-nonneg, inv-nonneg}
 use Rattle.waveform.proofs.Turns.{far, next-cycle}
 
@@ -105,20 +108,12 @@ part first low high q e v w a b =
     bottoms true e = lt-le naught low (and-l (lt naught low) (le high tau) (subst T (sym e) tt))
     bottoms false e = fle-trans naught tau low (unfold ofBits in unfold le in tt) (and-l (le tau low) (le high twoTau) (subst T (sym e) tt))
 
--- ---- where no correction is due
-abbrev isClear : Float → Float → Float → Bool
-isClear low high dt = within naught one dt && le dt low && le high (one ⊖ dt)
-
-lies-in : (base low high q dt : Float) → Part base low high q → isClear low high dt ≡ true → Lies (partOf base q) low high dt
-lies-in base low high q dt p e =
-    let (r, a, b) = three-pass (within naught one dt) (le dt low) (le high (one ⊖ dt)) (subst T (sym e) tt) in
-    lies (partOf base q) low high dt r a (p .from) (p .to) b
-
 -- ---- and so the waveforms are lines
--- a sawtooth's own step alone
-saw-line : (t dt : Float) → sideOf t dt ≡ Away → sawOf t dt ≡ lineOf Climb t
+-- a sawtooth's own step alone, on either side of any other edge
+pub saw-line : (t dt : Float) (s : Bool) → sideOf t dt ≡ Away → sawOf t dt ≡ lineOf (cond s Climb Climb) t
 unfolding sawOf blepOf
-saw-line t dt e = rw e refl
+saw-line t dt true e = rw e refl
+saw-line t dt false e = rw e refl
 
 -- high or low, and no corrections
 levels : (t : Float) (s : Bool) → cond s one (neg one) ⊕ naught ⊖ naught ≡ lineOf (cond s High Low) t
@@ -140,62 +135,39 @@ triangle-lines dt t a b = rw (a, b, none) (slopes (lt t half))
     slopes true = refl
     slopes false = refl
 
-pulse-lines : (t dt duty : Float) → sideOf t dt ≡ Away → sideOf (fractOf (t ⊖ duty ⊕ one)) dt ≡ Away → pulseOf t dt duty ≡ lineOf (cond (lt t duty) High Low) t
+pub pulse-lines : (t dt duty : Float) → sideOf t dt ≡ Away → sideOf (fractOf (t ⊖ duty ⊕ one)) dt ≡ Away → pulseOf t dt duty ≡ lineOf (cond (lt t duty) High Low) t
 unfolding pulseOf blepOf
 pulse-lines t dt duty a b = rw (a, b) (levels t (lt t duty))
 
--- ---- the stretches that the code finds: phases from low up to high, which are the parts lo and hi of their cycle
-module _ (first : Bool) (low high base lo hi dt : Float) (b : base ≡ baseOf first) (l : lo ≡ partOf base low) (h : hi ≡ partOf base high) (one-cycle : isOneCycle first low high ≡ true) (v : T (fits binary64 low))
-    (clear : isClear lo hi dt ≡ true)
+-- ---- a guess that the code makes and looks at, from one phase up to another, which are the parts lo and hi of their cycle
+pub guessed : (first : Bool) (from to base : Radians) (lo hi dt : Float) → base ≡ radians (baseOf first) → lo ≡ partOf (base .0) (from .0) → hi ≡ partOf (base .0) (to .0) → isOneCycle first (from .0) (to .0) ≡ true → T (fits binary64 (from .0))
+    → isClear lo hi dt ≡ true → (q : Float) → Inside (from .0) (to .0) q → (normalOf q ≡ partOf (base .0) q) × Lies (partOf (base .0) q) lo hi dt
+guessed first from to base lo hi dt b l h one-cycle v clear q i =
+    let p : Part (base .0) lo hi q = rw (l, h, b) (part first (from .0) (to .0) q one-cycle v (i .0) (i .1) (i .2)) in
+    let (r, a, z) = three-pass (within naught one dt) (le dt lo) (le hi (one ⊖ dt)) (subst T (sym clear) tt) in
+    (p .is, away.lies (partOf (base .0) q) lo hi dt r a (p .from) (p .to) z)
+
+-- all of it before a second edge, or all behind it
+module _ (g : Guess) (dt edge : Float) (value : Float → Float) (before behind : Line)
+    (lying : (q : Float) → Inside (g .from .0) (g .to .0) q → (normalOf q ≡ partOf (g .base .0) q) × Lies (partOf (g .base .0) q) (g .part) (g .«end_part») dt)
+    (two : (t : Float) → Lies t (g .part) (g .«end_part») dt → value t ≡ lineOf (cond (lt t edge) before behind) t)
   where
-    abbrev stretch : Line → Stretch
-    stretch line = record { low = low; high = high; base = base; line = line }
+    sided : (s : Bool) → ((t : Float) → Lies t (g .part) (g .«end_part») dt → lt t edge ≡ s) → Straight (λ (q : Float). value (normalOf q)) (stretchOf g (cond s before behind))
+    sided s all q i = let (is, l) = lying q i in let t = partOf (g .base .0) q in rw is (two t l ∙ ap (λ (b : Bool). lineOf (cond b before behind) t) (all t l))
 
-    within-part : (line : Line) (q : Float) → Inside (stretch line) q → Part base lo hi q
-    within-part line q i = rw (l, h, b) (part first low high q one-cycle v (i .0) (i .1) (i .2))
+    pub before-edge : T (finite edge) → lt (g .«end_part») edge ≡ true → Straight (λ (q : Float). value (normalOf q)) (stretchOf g before)
+    before-edge f e = sided true (λ t l. is-true (lt t edge) (le-lt-lt t (g .«end_part») edge (unit-finite t (l .phase-in)) f (l .to) (subst T (sym e) tt)))
 
-    within-lies : (line : Line) (q : Float) → Inside (stretch line) q → Lies (partOf base q) lo hi dt
-    within-lies line q i = lies-in base lo hi q dt (within-part line q i) clear
-
-    pub saw-straight : Straight (λ (q : Float). sawOf (normalOf q) dt) (stretch Climb)
-    saw-straight q i = rw (within-part Climb q i .is) (saw-line (partOf base q) dt (within-lies Climb q i .side))
-
-    -- all before an edge, or all behind it
-    before-edge : (edge q : Float) (line : Line) → Inside (stretch line) q → lt hi edge ≡ true → T (finite edge) → lt (partOf base q) edge ≡ true
-    before-edge edge q line i e f = is-true (lt (partOf base q) edge) (le-lt-lt (partOf base q) hi edge (unit-finite (partOf base q) (within-lies line q i .phase-in)) f (within-part line q i .to) (subst T (sym e) tt))
-
-    behind-edge : (edge q : Float) (line : Line) → Inside (stretch line) q → le edge lo ≡ true → lt (partOf base q) edge ≡ false
-    behind-edge edge q line i e = is-false (lt (partOf base q) edge) (not-T (lt (partOf base q) edge) (λ (t : T (lt (partOf base q) edge)). lt-not-le (partOf base q) edge t (fle-trans edge lo (partOf base q) (subst T (sym e) tt) (within-part line q i .from))))
-
-    -- with a second edge at the half
-    module _ (ends : AllAway (lo ⊕ half) (hi ⊕ half) dt) (value : Float → Float) (before behind : Line) (two : TwoLines value dt before behind) where
-      halves : (line : Line) (q : Float) → Inside (stretch line) q → value (normalOf q) ≡ lineOf (cond (lt (partOf base q) half) before behind) (partOf base q)
-      halves line q i = let (away, other) = half-away (partOf base q) lo hi dt (within-lies line q i) ends in rw (within-part line q i .is) (two (partOf base q) away other)
-
-      pub half-before : lt hi half ≡ true → Straight (λ (q : Float). value (normalOf q)) (stretch before)
-      half-before e q i = halves before q i ∙ ap (λ (s : Bool). lineOf (cond s before behind) (partOf base q)) (before-edge half q before i e (unfold ofBits in tt))
-
-      pub half-behind : le half lo ≡ true → Straight (λ (q : Float). value (normalOf q)) (stretch behind)
-      half-behind e q i = halves behind q i ∙ ap (λ (s : Bool). lineOf (cond s before behind) (partOf base q)) (behind-edge half q behind i e)
-
-    -- with a second edge at the duty
-    module _ (duty : Float) (d : T (within naught one duty)) (ends : AllAway (lo ⊖ duty ⊕ one) (hi ⊖ duty ⊕ one) dt) where
-      duties : (line : Line) (q : Float) → Inside (stretch line) q → pulseOf (normalOf q) dt duty ≡ lineOf (cond (lt (partOf base q) duty) High Low) (partOf base q)
-      duties line q i = let (away, other) = duty-away (partOf base q) lo hi dt duty d (within-lies line q i) ends in rw (within-part line q i .is) (pulse-lines (partOf base q) dt duty away other)
-
-      pub duty-before : lt hi duty ≡ true → Straight (λ (q : Float). pulseOf (normalOf q) dt duty) (stretch High)
-      duty-before e q i = duties High q i ∙ ap (λ (s : Bool). lineOf (cond s High Low) (partOf base q)) (before-edge duty q High i e (unit-finite duty d))
-
-      pub duty-behind : le duty lo ≡ true → Straight (λ (q : Float). pulseOf (normalOf q) dt duty) (stretch Low)
-      duty-behind e q i = duties Low q i ∙ ap (λ (s : Bool). lineOf (cond s High Low) (partOf base q)) (behind-edge duty q Low i e)
+    pub behind-edge : le edge (g .part) ≡ true → Straight (λ (q : Float). value (normalOf q)) (stretchOf g behind)
+    behind-edge e = sided false (λ t l. is-false (lt t edge) (not-T (lt t edge) (λ (z : T (lt t edge)). lt-not-le t edge z (fle-trans edge (g .part) t (subst T (sym e) tt) (l .from)))))
 
 -- ---- a step on within a stretch
-pub next-lies : (s : Stretch) (step q : Float) → goesUp s step ≡ true → T (fits binary64 q) → (le (s .low) q && lt q (s .high)) ≡ true → lt (q ⊕ step) (s .high) ≡ true → (le (s .low) (q ⊕ step) && lt (q ⊕ step) (s .high)) ≡ true
+pub next-lies : (s : Stretch) (step q : Float) → goesUp s step ≡ true → T (fits binary64 q) → lies s q ≡ true → lt (q ⊕ step) (s .to .0) ≡ true → lies s (q ⊕ step) ≡ true
 next-lies s step q g w t h =
-    let (a, b, c) = three-pass (le naught (s .low)) (le (s .high) twoTau) (within naught tau step) (subst T (sym g) tt) in
-    let from : T (le (s .low) q) = and-l (le (s .low) q) (lt q (s .high)) (subst T (sym t) tt) in
-    let zero : T (le naught q) = fle-trans naught (s .low) q a from in
-    let most : T (le q twoTau) = fle-trans q (s .high) twoTau (lt-le q (s .high) (and-r (le (s .low) q) (lt q (s .high)) (subst T (sym t) tt))) b in
+    let (a, b, c) = three-pass (le naught (s .from .0)) (le (s .to .0) twoTau) (within naught tau step) (subst T (sym g) tt) in
+    let from : T (le (s .from .0) q) = and-l (le (s .from .0) q) (lt q (s .to .0)) (subst T (sym t) tt) in
+    let zero : T (le naught q) = fle-trans naught (s .from .0) q a from in
+    let most : T (le q twoTau) = fle-trans q (s .to .0) twoTau (lt-le q (s .to .0) (and-r (le (s .from .0) q) (lt q (s .to .0)) (subst T (sym t) tt))) b in
     let n : T (nonneg q) = under q twoTau (le→ge0 q (subst (λ (z : Float). T (le z q)) (lit0-is binary64) zero)) two-tau-finite most in
     let m : T (nonneg step) = within-nonneg tau step (unfold ofBits in tt) (subst (λ (z : Float). T (within z tau step)) (lit0-is binary64) c) in
-    is-true _ (and-i (le (s .low) (q ⊕ step)) (lt (q ⊕ step) (s .high)) (fle-trans (s .low) q (q ⊕ step) from (add-grows binary64 q step w n m)) (subst T (sym h) tt))
+    is-true _ (and-i (le (s .from .0) (q ⊕ step)) (lt (q ⊕ step) (s .to .0)) (fle-trans (s .from .0) q (q ⊕ step) from (add-grows binary64 q step w n m)) (subst T (sym h) tt))

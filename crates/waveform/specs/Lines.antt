@@ -1,5 +1,5 @@
 -- A waveform between two corrections: the lines that it is made of, the phases on which it is one, and how far an inner loop has come. These serve private functions; no public statement cites them. Definitions only.
-use mathlib.Core.Bool.{Bool, cond, _&&_}
+use mathlib.Core.Bool.{Bool, true, cond, _&&_}
 use mathlib.Core.List.{List}
 use mathlib.Core.Path.{_≡_}
 use Prim.Native.Nat.{ℕ, _≤_}
@@ -7,24 +7,26 @@ use lib.Dec.{T}
 use lib.ListN.{length, take}
 use lib.Ieee.{Float, binary64, ofBits, neg, lt, le, fits}
 use Rattle.floats.specs.Range.{within}
-use Rattle.floats.specs.Double.{_⊕_, _⊖_, _⊗_, naught, half, one, two, three, four}
+use Rattle.floats.specs.Double.{_⊕_, _⊖_, _⊗_, naught, half, one}
 use Rattle.polyblep.specs.declared.Side.the-variants.{Away}
-use Rattle.polyblep.specs.Polyblep.{sideOf, fractOf}
-use Rattle.waveform.specs.declared.Line.{Line}
-use Rattle.waveform.specs.declared.Line.the-variants.{High, Low, Climb, Rise, Fall}
-use Rattle.waveform.specs.declared.Stretch.{Stretch}
-use Rattle.waveform.specs.declared.Reach.{Reach}
+use Rattle.polyblep.specs.Polyblep.{sideOf, fractOf, climbOf, riseOf, fallOf}
+use Rattle.polyblep.proofs.Clear.{Lies}
+use Rattle.waveform.specs.declared.lines.Line.{Line}
+use Rattle.waveform.specs.declared.lines.Line.the-variants.{High, Low, Climb, Rise, Fall}
+use Rattle.waveform.specs.declared.lines.Stretch.{Stretch}
+use Rattle.waveform.specs.declared.lines.Guess.{Guess}
+use Rattle.waveform.specs.declared.lines.Reach.{Reach}
 use Rattle.waveform.specs.declared.Waveform.{Waveform}
-use Rattle.waveform.specs.Waveform.{tau, invTau}
+use Rattle.waveform.specs.Waveform.{tau, invTau, normalOf}
 use Rattle.waveform.specs.Filled.{phaseFrom, valueAt, samplesBy}
 
 -- the value on a line at the part t of a cycle
 abbrev pub lineOf : Line → Float → Float
 lineOf High t = one
 lineOf Low t = neg one
-lineOf Climb t = two ⊗ t ⊖ one ⊖ naught
-lineOf Rise t = four ⊗ t ⊖ one ⊕ naught ⊖ naught
-lineOf Fall t = three ⊖ four ⊗ t ⊕ naught ⊖ naught
+lineOf Climb t = climbOf t ⊖ naught
+lineOf Rise t = riseOf t ⊕ naught ⊖ naught
+lineOf Fall t = fallOf t ⊕ naught ⊖ naught
 
 -- ---- the first two cycles
 abbrev pub twoTau : Float
@@ -34,23 +36,42 @@ abbrev pub baseOf : Bool → Float
 baseOf first = cond first naught tau
 
 abbrev pub isOneCycle : Bool → Float → Float → Bool
-isOneCycle first low high = cond first (lt naught low && le high tau) (le tau low && le high twoTau)
+isOneCycle first from to = cond first (lt naught from && le to tau) (le tau from && le to twoTau)
 
 -- the part of the cycle from base that a phase is
 abbrev pub partOf : Float → Float → Float
 partOf base q = (q ⊖ base) ⊗ invTau
 
+-- parts that are away from the cycle's ends
+abbrev pub isClear : Float → Float → Float → Bool
+isClear part end dt = within naught one dt && le dt part && le end (one ⊖ dt)
+
 -- ---- a stretch of phases
-abbrev pub Inside : Stretch → Float → Type 0
-Inside s q = T (fits binary64 q) × T (le (s .low) q) × T (lt q (s .high))
+abbrev pub Inside : Float → Float → Float → Type 0
+Inside from to q = T (fits binary64 q) × T (le from q) × T (lt q to)
+
+-- as the code tests it
+abbrev pub lies : Stretch → Float → Bool
+lies s q = le (s .from .0) q && lt q (s .to .0)
 
 -- no phase of it falls by a step
 abbrev pub goesUp : Stretch → Float → Bool
-goesUp s step = le naught (s .low) && le (s .high) twoTau && within naught tau step
+goesUp s step = le naught (s .from .0) && le (s .to .0) twoTau && within naught tau step
 
 -- the values on it are those of its line
 abbrev pub Straight : (Float → Float) → Stretch → Type 0
-Straight value s = (q : Float) → Inside s q → value q ≡ lineOf (s .line) (partOf (s .base) q)
+Straight value s = (q : Float) → Inside (s .from .0) (s .to .0) q → value q ≡ lineOf (s .line) (partOf (s .base .0) q)
+
+-- ---- a guess that holds: each of its phases is the part of the cycle that its base gives, between its two ends, where no correction is due at the cycle's ends
+abbrev pub Guessed : Float → Guess → Type 0
+Guessed dt g = g .holds ≡ true → (q : Float) → Inside (g .from .0) (g .to .0) q → (normalOf q ≡ partOf (g .base .0) q) × Lies (partOf (g .base .0) q) (g .part) (g .«end_part») dt
+
+abbrev pub stretchOf : Guess → Line → Stretch
+stretchOf g line = record { from = g .from; to = g .to; base = g .base; line = line }
+
+-- at its parts, where a second edge is not near, the values are those of the line of their side
+abbrev pub TwoSides : (Float → Float) → Float → Guess → Float → Bool → Line → Line → Type 0
+TwoSides value dt g edge clear before behind = clear ≡ true → (t : Float) → Lies t (g .part) (g .«end_part») dt → value t ≡ lineOf (cond (lt t edge) before behind) t
 
 -- with a second edge at the half, the values are those of one of two lines where neither correction is due
 abbrev pub TwoLines : (Float → Float) → Float → Line → Line → Type 0
@@ -65,8 +86,8 @@ pub record Upto (value : Float → Float) (step scale p₀ : Float) (before out 
 
 -- from ys and a to zs and b: where the values are the stretch's, a loop that had come to the one has come to the other
 abbrev pub Onward : Stretch → Float → Float → List Float → Reach → List Float → Reach → Type 0
-Onward s step scale ys a zs b = (value : Float → Float) → Straight value s → (p₀ : Float) (xs : List Float) → Upto value step scale p₀ xs ys (a .phase) (a .count) → Upto value step scale p₀ xs zs (b .phase) (b .count)
+Onward s step scale ys a zs b = (value : Float → Float) → Straight value s → (p₀ : Float) (xs : List Float) → Upto value step scale p₀ xs ys (a .phase .0) (a .count) → Upto value step scale p₀ xs zs (b .phase .0) (b .count)
 
 -- the same of a waveform's own values, wherever they lie
 abbrev pub Further : Waveform → Float → Float → List Float → Reach → List Float → Reach → Type 0
-Further w step scale ys a zs b = (p₀ : Float) (xs : List Float) → Upto (valueAt w step) step scale p₀ xs ys (a .phase) (a .count) → Upto (valueAt w step) step scale p₀ xs zs (b .phase) (b .count)
+Further w step scale ys a zs b = (p₀ : Float) (xs : List Float) → Upto (valueAt w step) step scale p₀ xs ys (a .phase .0) (a .count) → Upto (valueAt w step) step scale p₀ xs zs (b .phase .0) (b .count)

@@ -1,28 +1,35 @@
-// Notes of few samples a cycle, most of which lie near an edge: every sample is made with its corrections, in loops without
-// a branch. First the parts of a cycle stand in the output, then their values.
+// Notes of few samples a cycle, most of which lie near an edge: no stretch is looked for. First the phases stand in the output,
+// then what is left of them over TAU, then the values, each with its corrections, in loops without a branch.
 ghost use mathlib.Core.Path.{_≡_};
-ghost use mathlib.Core.Bool.{Bool, cond, true, _&&_};
+ghost use mathlib.Core.Bool.{true, cond, _&&_};
 ghost use lib.Dec.{T};
 ghost use lib.ListN.{length};
 ghost use lib.Ieee.{Float, lt};
+ghost use lib.Ieee.Scale.{finite};
+ghost use Rattle.runs.specs.Runs.{listed};
 ghost use Rattle.floats.specs.Range.{within};
-ghost use Rattle.floats.specs.Double.{naught, one, two};
+ghost use Rattle.floats.specs.Double.{_⊗_, naught, one, two};
 ghost use Rattle.polyblep.specs.Polyblep.{fractOf, blepOf, blampOf, sawOf, squareOf, pulseOf, triangleOf};
 ghost use Rattle.waveform.specs.Waveform.{valueOf, turnedOf, invTau, radians};
-ghost use Rattle.waveform.specs.declared.Waveform.the-variants.{Pulse};
-ghost use Rattle.waveform.specs.Filled.{FilledBy, Filled};
-ghost use Rattle.waveform.specs.Parts.{least, most, AllParts, madeOf};
+ghost use Rattle.waveform.specs.Filled.{phaseFrom, Filled};
+ghost use Rattle.waveform.specs.Parts.{fourTau, eightTau, manyTau, farthest, sixteen, foldOf, AllBelow, AllParts, madeOf};
 use crate::Radians;
+use crate::TAU;
+use crate::TWO_TAU;
 use crate::Waveform;
 use crate::in_cycles;
-use crate::normalised;
+use crate::lines;
+use crate::turned;
 use crate::value_at;
 
-// The phase after the last, and whether every part is one: from 0 to 1.
-struct Parts {
-    phase: f64,
-    sound: bool,
-}
+const FOUR_TAU: f64 = 25.132741228718345;
+
+const EIGHT_TAU: f64 = 50.26548245743669;
+
+// 16 and 32 TAU.
+const HALF_MANY: f64 = 100.53096491487338;
+
+const MANY: f64 = 201.06192982974676;
 
 // `fill` of a waveform other than a sine, where the step is so large that looking for lines does not pay.
 pub fn fill(
@@ -34,114 +41,135 @@ pub fn fill(
 ) -> Radians
     ensures { λ r. ⌜ Filled waveform (start .0) (step .0) scale (now (out .entry)) (now (out .exit)) r ⌝ }
 {
+    if !is_steady(start, step) {
+        return lines::fill(out, waveform, start, step, scale);
+    }
     let dt = in_cycles(step);
-    let parts = fill_parts(out, start, step);
-    if parts.sound {
-        fill_near(out, waveform, dt, scale);
-        return Radians(parts.phase);
-    }
-    fill_any(out, waveform, dt, scale);
-    Radians(parts.phase)
+    let end = fill_phases(out, start, step);
+    turn(out, end);
+    fill_values(out, waveform, dt, scale);
+    end
 }
 
-fn fill_parts(out: &mut [f64], start: Radians, step: Radians) -> Parts
-    ensures { λ r. ⌜ FilledBy turnedOf (start .0) (step .0) invTau (now (out .entry)) (now (out .exit)) (radians (r .phase)) × (r .sound ≡ true → AllParts (now (out .exit))) ⌝ }
+// The phases before the samples, and the one after them.
+fn fill_phases(out: &mut [f64], start: Radians, step: Radians) -> Radians
+    ensures { λ r. ⌜ (now (out .exit) ≡ listed (phaseFrom (step .0) (start .0)) (length (now (out .entry)))) × (r ≡ radians (phaseFrom (step .0) (start .0) (length (now (out .entry))))) ⌝ }
 {
-    let mut phase = start.0;
-    let mut sound = true;
+    let by = step.0;
+    let mut angle = start.0;
     let mut i = 0;
     while i < out.len() {
-        let u = normalised(Radians(phase));
-        sound = sound & ((0.0 <= u) & (u <= 1.0));
-        out[i] = u;
-        phase = phase + step.0;
+        out[i] = angle;
+        angle = angle + by;
         i += 1;
     }
-    Parts { phase, sound }
+    Radians(angle)
 }
 
-// The values of parts of a cycle.
-fn fill_near(out: &mut [f64], waveform: Waveform, dt: f64, scale: f64)
-    requires { ⌜ AllParts (now out) ⌝ }
-    ensures { λ r. ⌜ now (out .exit) ≡ madeOf (λ (u : Float). valueOf waveform u dt) scale (now (out .entry)) (length (now (out .entry))) ⌝ }
+// Whether no phase falls, and none is below 0 or grows beyond 2^60.
+fn is_steady(start: Radians, step: Radians) -> bool
+    ensures { λ r. ⌜ r ≡ (within naught farthest (start .0) && within naught sixteen (step .0)) ⌝ }
 {
-    match waveform {
-        Waveform::Sine => fill_any(out, waveform, dt, scale),
-        Waveform::Square => fill_squares(out, dt, scale),
-        Waveform::Sawtooth => fill_saws(out, dt, scale),
-        Waveform::Triangle => fill_triangles(out, dt, scale),
-        Waveform::Pulse(duty) => fill_pulses(out, dt, duty, scale),
-    }
+    ((0.0 <= start.0) & (start.0 <= 1152921504606846976.0)) & ((0.0 <= step.0) & (step.0 <= 16.0))
 }
 
-// The values of any numbers.
-fn fill_any(out: &mut [f64], waveform: Waveform, dt: f64, scale: f64)
-    ensures { λ r. ⌜ now (out .exit) ≡ madeOf (λ (u : Float). valueOf waveform u dt) scale (now (out .entry)) (length (now (out .entry))) ⌝ }
+// What is left of phases over TAU, none of which is beyond the end.
+fn turn(out: &mut [f64], end: Radians)
+    requires { ⌜ ((bound : Float) → T (finite bound) → T (lt (end .0) bound) → AllBelow bound (now out)) ⌝ }
+    ensures { λ r. ⌜ now (out .exit) ≡ madeOf turnedOf (now (out .entry)) (length (now (out .entry))) ⌝ }
 {
-    let mut i = 0;
-    while i < out.len() {
-        let u = out[i];
-        out[i] = value_at(waveform, u, dt) * scale;
-        i += 1;
-    }
-}
-
-fn fill_saws(out: &mut [f64], dt: f64, scale: f64)
-    ensures { λ r. ⌜ now (out .exit) ≡ madeOf (λ (u : Float). sawOf u dt) scale (now (out .entry)) (length (now (out .entry))) ⌝ }
-{
-    let mut i = 0;
-    while i < out.len() {
-        let u = out[i];
-        out[i] = saw(u, dt) * scale;
-        i += 1;
-    }
-}
-
-fn fill_squares(out: &mut [f64], dt: f64, scale: f64)
-    requires { ⌜ AllParts (now out) ⌝ }
-    ensures { λ r. ⌜ now (out .exit) ≡ madeOf (λ (u : Float). squareOf u dt) scale (now (out .entry)) (length (now (out .entry))) ⌝ }
-{
-    let mut i = 0;
-    while i < out.len() {
-        let u = out[i];
-        out[i] = square(u, dt) * scale;
-        i += 1;
-    }
-}
-
-fn fill_triangles(out: &mut [f64], dt: f64, scale: f64)
-    requires { ⌜ AllParts (now out) ⌝ }
-    ensures { λ r. ⌜ now (out .exit) ≡ madeOf (λ (u : Float). triangleOf u dt) scale (now (out .entry)) (length (now (out .entry))) ⌝ }
-{
-    let mut i = 0;
-    while i < out.len() {
-        let u = out[i];
-        out[i] = triangle(u, dt) * scale;
-        i += 1;
-    }
-}
-
-// A duty so near to 0 or 1 that the second edge's phase may leave 0 to 2 is made as any.
-fn fill_pulses(out: &mut [f64], dt: f64, duty: f64, scale: f64)
-    requires { ⌜ AllParts (now out) ⌝ }
-    ensures { λ r. ⌜ now (out .exit) ≡ madeOf (λ (u : Float). valueOf (Pulse duty) u dt) scale (now (out .entry)) (length (now (out .entry))) ⌝ }
-{
-    if (0.0009765625 <= duty) & (duty <= 0.9990234375) {
-        fill_middle_pulses(out, dt, duty, scale);
+    if end.0 < FOUR_TAU {
+        turn_four(out);
         return;
     }
-    fill_any(out, Waveform::Pulse(duty), dt, scale);
+    if end.0 < EIGHT_TAU {
+        turn_eight(out);
+        return;
+    }
+    if end.0 < MANY {
+        turn_many(out);
+        return;
+    }
+    turn_any(out);
 }
 
-fn fill_middle_pulses(out: &mut [f64], dt: f64, duty: f64, scale: f64)
-    requires { ⌜ AllParts (now out) × T (within least most duty) ⌝ }
-    ensures { λ r. ⌜ now (out .exit) ≡ madeOf (λ (u : Float). pulseOf u dt duty) scale (now (out .entry)) (length (now (out .entry))) ⌝ }
+// Below 4 TAU, by two differences.
+fn turn_four(out: &mut [f64])
+    requires { ⌜ AllBelow fourTau (now out) ⌝ }
+    ensures { λ r. ⌜ now (out .exit) ≡ madeOf turnedOf (now (out .entry)) (length (now (out .entry))) ⌝ }
+{
+    fold(out, Radians(TWO_TAU));
+    fold(out, Radians(TAU));
+}
+
+fn turn_eight(out: &mut [f64])
+    requires { ⌜ AllBelow eightTau (now out) ⌝ }
+    ensures { λ r. ⌜ now (out .exit) ≡ madeOf turnedOf (now (out .entry)) (length (now (out .entry))) ⌝ }
+{
+    fold(out, Radians(FOUR_TAU));
+    turn_four(out);
+}
+
+// Below 32 TAU.
+fn turn_many(out: &mut [f64])
+    requires { ⌜ AllBelow manyTau (now out) ⌝ }
+    ensures { λ r. ⌜ now (out .exit) ≡ madeOf turnedOf (now (out .entry)) (length (now (out .entry))) ⌝ }
+{
+    fold(out, Radians(HALF_MANY));
+    fold(out, Radians(EIGHT_TAU));
+    turn_eight(out);
+}
+
+fn turn_any(out: &mut [f64])
+    ensures { λ r. ⌜ now (out .exit) ≡ madeOf turnedOf (now (out .entry)) (length (now (out .entry))) ⌝ }
 {
     let mut i = 0;
     while i < out.len() {
-        let u = out[i];
-        out[i] = pulse(u, dt, duty) * scale;
+        let x = out[i];
+        let left = turned(Radians(x));
+        out[i] = left.0;
         i += 1;
+    }
+}
+
+// Each less a number of radians, where it is not below that.
+fn fold(out: &mut [f64], over: Radians)
+    ensures { λ r. ⌜ now (out .exit) ≡ madeOf (foldOf (over .0)) (now (out .entry)) (length (now (out .entry))) ⌝ }
+{
+    let y = over.0;
+    let mut i = 0;
+    while i < out.len() {
+        let x = out[i];
+        out[i] = x - pick(x < y, 0.0, y);
+        i += 1;
+    }
+}
+
+// The values of what is left of phases, whose parts of a cycle lie from 0 to 1. The back end takes the match out of the loop.
+fn fill_values(out: &mut [f64], waveform: Waveform, dt: f64, scale: f64)
+    requires { ⌜ AllParts (now out) ⌝ }
+    ensures { λ r. ⌜ now (out .exit) ≡ madeOf (λ (x : Float). valueOf waveform (x ⊗ invTau) dt ⊗ scale) (now (out .entry)) (length (now (out .entry))) ⌝ }
+{
+    let mut i = 0;
+    while i < out.len() {
+        let x = out[i];
+        let u = in_cycles(Radians(x));
+        out[i] = flat_value(waveform, u, dt) * scale;
+        i += 1;
+    }
+}
+
+// `value_at` of a part of a cycle, without a branch that hangs on it.
+fn flat_value(waveform: Waveform, u: f64, dt: f64) -> f64
+    requires { ⌜ T (within naught one u) ⌝ }
+    ensures { λ r. ⌜ r ≡ valueOf waveform u dt ⌝ }
+{
+    match waveform {
+        Waveform::Sine => value_at(waveform, u, dt),
+        Waveform::Square => square(u, dt),
+        Waveform::Sawtooth => saw(u, dt),
+        Waveform::Triangle => triangle(u, dt),
+        Waveform::Pulse(duty) => pulse(u, dt, duty),
     }
 }
 
@@ -149,7 +177,7 @@ fn fill_middle_pulses(out: &mut [f64], dt: f64, duty: f64, scale: f64)
 fn saw(u: f64, dt: f64) -> f64
     ensures { λ r. ⌜ r ≡ sawOf u dt ⌝ }
 {
-    2.0 * u - 1.0 - blep(u, dt)
+    polyblep::climb(u) - blep(u, dt)
 }
 
 fn square(u: f64, dt: f64) -> f64
@@ -158,16 +186,20 @@ fn square(u: f64, dt: f64) -> f64
 {
     let rise = blep(u, dt);
     let fall = blep(fract(u + 0.5), dt);
-    pick(u < 0.5, 1.0, -1.0) + rise - fall
+    polyblep::step(u, 0.5) + rise - fall
 }
 
+// A duty so near to 0 or 1 that the second edge's phase may leave 0 to 2 is made as any.
 fn pulse(u: f64, dt: f64, duty: f64) -> f64
-    requires { ⌜ T (within naught one u) × T (within least most duty) ⌝ }
+    requires { ⌜ T (within naught one u) ⌝ }
     ensures { λ r. ⌜ r ≡ pulseOf u dt duty ⌝ }
 {
+    if !((0.0009765625 <= duty) & (duty <= 0.9990234375)) {
+        return polyblep::pulse(u, dt, duty);
+    }
     let rise = blep(u, dt);
     let fall = blep(fract(u - duty + 1.0), dt);
-    pick(u < duty, 1.0, -1.0) + rise - fall
+    polyblep::step(u, duty) + rise - fall
 }
 
 fn triangle(u: f64, dt: f64) -> f64
@@ -176,7 +208,7 @@ fn triangle(u: f64, dt: f64) -> f64
 {
     let low = blamp(u, dt);
     let high = blamp(fract(u + 0.5), dt);
-    pick(u < 0.5, 4.0 * u - 1.0, 3.0 - 4.0 * u) + 8.0 * low - 8.0 * high
+    polyblep::ramp(u) + 8.0 * low - 8.0 * high
 }
 
 // The formulas of both sides are worked out, and one is taken.

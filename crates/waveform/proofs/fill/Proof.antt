@@ -27,14 +27,14 @@ same-length-2 c = search needs
 returns-2 : tie.Need-returns-2
 returns-2 c = c .before .before .fill .ensures
 
-fill-lines-requires : tie.Need-fill-lines-requires
-fill-lines-requires c κs = search needs
+fill-requires-2 : tie.Need-fill-requires-2
+fill-requires-2 c κs = search needs
 
 same-length-3 : tie.Need-same-length-3
 same-length-3 c = search needs
 
 returns-3 : tie.Need-returns-3
-returns-3 c = c .before .before .fill-lines .ensures
+returns-3 c = c .before .before .fill2 .ensures
 
 pub fill-spec : {M : Type 1} → statement M
 fill-spec =
@@ -48,6 +48,6 @@ fill-spec =
     fill-requires
     same-length-2
     returns-2
-    fill-lines-requires
+    fill-requires-2
     same-length-3
     returns-3)

@@ -12,10 +12,10 @@ use Rattle.waveform.proofs.fill_wave.Statement.{statement}
 use Rattle.waveform.proofs.fill_wave.Tie as tie
 
 abbrev Inv-loop : tie.InvT-loop
-Inv-loop wave out₀ step scale phase₀ i₀ out phase i = Upto (valueIn wave Sine (step .0)) (step .0) scale phase₀ out₀ out phase i
+Inv-loop wave out₀ step scale angle₀ i₀ out angle i = Upto (valueIn wave Sine (step .0)) (step .0) scale angle₀ out₀ out angle i
 
 abbrev μ-loop : tie.MeasureT-loop
-μ-loop wave out₀ step scale phase₀ i₀ out phase i = length out₀ - i
+μ-loop wave out₀ step scale angle₀ i₀ out angle i = length out₀ - i
 
 loop-holds : tie.Need-loop-holds Inv-loop μ-loop
 loop-holds c = begins _ _ _ _ _

@@ -1,6 +1,7 @@
 -- `waveform::reduced` meets its contract. Assumes nothing.
 use borrow.Author.Needs.{needs}
-use mathlib.Core.Path.{refl}
+use mathlib.Core.Path.{refl, ap}
+use Rattle.waveform.specs.declared.Radians.{Radians}
 use Rattle.waveform.specs.Waveform.{reduceOf}
 use Rattle.waveform.proofs.reduced.Statement.{statement}
 use Rattle.waveform.proofs.reduced.Tie as tie
@@ -10,11 +11,11 @@ turned-requires c κs = search needs
 
 returns : tie.Need-returns
 unfolding reduceOf
-returns c = rw (← c .before .turned .ensures, c .if1 .taken) refl
+returns c = rw (← ap (λ (p : Radians). p .0) (c .before .before .before .turned .ensures), c .before .if1 .taken) refl
 
 returns-2 : tie.Need-returns-2
 unfolding reduceOf
-returns-2 c = rw (← c .before .turned .ensures, c .if1 .left) refl
+returns-2 c = rw (← ap (λ (p : Radians). p .0) (c .before .before .turned .ensures), c .if1 .left) refl
 
 pub reduced-spec : {M : Type 1} → statement M
 reduced-spec = tie.close (tie.spec turned-requires returns returns-2)

@@ -1,52 +1,63 @@
 -- `waveform::steep::fill` meets its contract. Assumes nothing.
 use borrow.Author.Needs.{needs}
+use borrow.Author.Tests.{not-false}
+use mathlib.Core.Path.{sym, ap, _∙_}
+use lib.Dec.{T}
+use lib.Ieee.{binary64, fits}
+use Rattle.waveform.specs.declared.Radians.{Radians}
 use Rattle.waveform.proofs.Remaking.{combined}
+use Rattle.waveform.proofs.Folds.{steady-below, steady-parts}
 use Rattle.waveform.proofs.steep.fill.Statement.{statement}
 use Rattle.waveform.proofs.steep.fill.Tie as tie
 
-in-cycles-requires : tie.Need-in-cycles-requires
-in-cycles-requires c κs = search needs
+-- what owning a float tells: its format holds it
+held : (c : tie.Start) → T (fits binary64 (c .args .start .0))
+held c = search needs
 
-fill-parts-requires : tie.Need-fill-parts-requires
-fill-parts-requires c κs = search needs
+is-steady-requires : tie.Need-is-steady-requires
+is-steady-requires c κs = search needs
 
-fill-near-requires : tie.Need-fill-near-requires
-fill-near-requires c κs = c .before .before .before .before .fill-parts .ensures .1 (c .before .if1 .taken)
+fill-requires : tie.Need-fill-requires
+fill-requires c κs = search needs
 
 same-length : tie.Need-same-length
 same-length c = search needs
 
 returns : tie.Need-returns
-returns c =
-    let near = c .before .before in
-    let parts = near .before .before .before .before .before in
-    let made = parts .before .before in
-    let a = made .before .before .args in
-    combined (a .waveform) (a .start .0) (a .step .0) (made .in-cycles .result) (a .scale) _ _ _ _ (made .in-cycles .ensures) (parts .fill-parts .ensures .0) (near .fill-near .ensures)
+returns c = c .before .before .fill .ensures
 
-fill-any-requires : tie.Need-fill-any-requires
-fill-any-requires c κs = search needs
+in-cycles-requires : tie.Need-in-cycles-requires
+in-cycles-requires c κs = search needs
+
+fill-phases-requires : tie.Need-fill-phases-requires
+fill-phases-requires c κs = search needs
+
+turn-requires : tie.Need-turn-requires
+turn-requires c κs = λ bound finite below.
+    let phases = c .before .before .before in
+    let else = phases .before .before .before in
+    let steady = else .before in
+    steady-below _ _ (held (steady .before .before)) (sym (steady .is-steady .ensures) ∙ not-false _ (else .if1 .left)) _ _ bound finite (phases .fill-phases .ensures .0) (rw (ap (λ (p : Radians). p .0) (phases .fill-phases .ensures .1)) at below)
+
+fill-values-requires : tie.Need-fill-values-requires
+fill-values-requires c κs =
+    let left = c .before .before .before in
+    let phases = left .before .before .before .before in
+    let else = phases .before .before .before in
+    let steady = else .before in
+    steady-parts _ _ (held (steady .before .before)) (sym (steady .is-steady .ensures) ∙ not-false _ (else .if1 .left)) _ _ _ (phases .fill-phases .ensures .0) (left .turn .ensures)
 
 same-length-2 : tie.Need-same-length-2
 same-length-2 c = search needs
 
 returns-2 : tie.Need-returns-2
 returns-2 c =
-    let any = c .before .before in
-    let parts = any .before .before .before .before .before in
-    let made = parts .before .before in
-    let a = made .before .before .args in
-    combined (a .waveform) (a .start .0) (a .step .0) (made .in-cycles .result) (a .scale) _ _ _ _ (made .in-cycles .ensures) (parts .fill-parts .ensures .0) (any .fill-any .ensures)
+    let made = c .before .before in
+    let left = made .before .before .before .before in
+    let phases = left .before .before .before .before in
+    let cycles = phases .before .before in
+    let a = cycles .before .before .before .before .args in
+    combined (a .step .0) (a .start .0) (a .waveform) (cycles .in-cycles .result) (a .scale) _ _ _ _ _ (cycles .in-cycles .ensures) (phases .fill-phases .ensures) (left .turn .ensures) (made .fill-values .ensures)
 
 pub fill-spec : {M : Type 1} → statement M
-fill-spec =
-    tie.close
-    (tie.spec
-    in-cycles-requires
-    fill-parts-requires
-    fill-near-requires
-    same-length
-    returns
-    fill-any-requires
-    same-length-2
-    returns-2)
+fill-spec = tie.close (tie.spec is-steady-requires fill-requires same-length returns in-cycles-requires fill-phases-requires turn-requires fill-values-requires same-length-2 returns-2)
