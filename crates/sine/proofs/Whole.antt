@@ -1,6 +1,6 @@
 -- The reading of an unfolded wave, case by case; and that of the whole wave it is the reading of the quarter, since b at a point is a at the next. Assumes nothing.
 use mathlib.Core.Path.{_≡_, refl, sym, ap, _∙_, subst}
-use mathlib.Core.Bool.{Bool, true, false, cond}
+use mathlib.Core.Bool.{Bool, true, false, cond, and-false}
 use mathlib.Core.List.{List}
 use mathlib.Core.Logic.{⊎-elim}
 use Prim.Native.Nat.{ℕ, zero, suc, _+_, _-_, _/_, _%_, _≤_, _<_}
@@ -9,12 +9,14 @@ use native.Mathlib.Omega.{arith}
 use borrow.Author.Tests.{eq-eqb, ne-eqb, eqb-true, eqb-false}
 use lib.IntN.{pos, negℤ}
 use lib.Dec.{T, eqb, lit<}
+use lib.ListN.{length}
 use lib.Ieee.{Float}
+use Rattle.runs.proofs.Listed.{listed-length}
 use Rattle.floats.specs.Range.{within}
 use Rattle.floats.specs.Double.{_⊖_, _⊗_, naught, one}
 use Rattle.sine.specs.Table.{quarter, entryOf}
 use Rattle.sine.specs.Sine.{steps, wholePart, float, startOf, endOf, betweenOf, pointOf, readingOf}
-use Rattle.sine.specs.Whole.{levelOf, wholeWave, wholeLine, wholePointOf, wholeReading}
+use Rattle.sine.specs.Whole.{levelOf, levels, wholeWave, wholeLine, wholePointOf, wholeReading}
 use Rattle.sine.proofs.Rules.{entry-0}
 use Rattle.sine.proofs.Parts.{whole-at-most}
 use Rattle.sine.proofs.Points.{reading-inside, reading-outside, point-last, point-at, points-in}
@@ -22,14 +24,18 @@ use Rattle.sine.proofs.Levels.{at-is, level-at}
 
 -- ---- the reading of a table W
 module _ (W : List Float) where
-  -- u from 0 to 1, and any other
-  pub whole-inside : (u : Float) → within naught one u ≡ true → wholeReading W u ≡ wholePointOf W (u ⊗ steps)
+  -- u from 0 to 1 in a table as long as the wave, any other u, and any other table
+  pub whole-inside : (u : Float) → length W ≡ 4097 → within naught one u ≡ true → wholeReading W u ≡ wholePointOf W (u ⊗ steps)
   unfolding wholeReading
-  whole-inside u e = ap (λ (b : Bool). cond b (wholePointOf W (u ⊗ steps)) naught) e
+  whole-inside u l e = rw (e, l) refl
 
   pub whole-outside : (u : Float) → within naught one u ≡ false → wholeReading W u ≡ naught
   unfolding wholeReading
-  whole-outside u e = ap (λ (b : Bool). cond b (wholePointOf W (u ⊗ steps)) naught) e
+  whole-outside u e = rw e refl
+
+  pub whole-other : (u : Float) → (length W ≡ 4097 → ⊥) → wholeReading W u ≡ naught
+  unfolding wholeReading
+  whole-other u n = rw (ne-eqb (length W) 4097 n, and-false (within naught one u)) refl
 
   -- p = 4096, and any other, whose whole part is i
   pub whole-last : (p : Float) → wholePart p ≡ 4096 → wholePointOf W p ≡ wholeLine W 0 naught
@@ -75,10 +81,14 @@ point-is p h = go (eqb (wholePart p) 4096) refl
         let n = eqb-false (wholePart p) 4096 e in
         whole-at wholeWave p (wholePart p) refl n ∙ line-is (wholePart p) _ (omega (arith, n)) ∙ sym (point-at quarter p (wholePart p) refl n)
 
+pub whole-long : length wholeWave ≡ 4097
+unfolding levels
+whole-long = listed-length levelOf 4097
+
 -- it is the sine, of every float
 pub whole-is : (u : Float) → wholeReading wholeWave u ≡ readingOf u
 whole-is u = go (within naught one u) refl
   where
     go : (t : Bool) → within naught one u ≡ t → wholeReading wholeWave u ≡ readingOf u
-    go true e = whole-inside wholeWave u e ∙ point-is (u ⊗ steps) (whole-at-most (u ⊗ steps) (points-in u (subst T (sym e) tt))) ∙ sym (reading-inside quarter u e)
+    go true e = whole-inside wholeWave u whole-long e ∙ point-is (u ⊗ steps) (whole-at-most (u ⊗ steps) (points-in u (subst T (sym e) tt))) ∙ sym (reading-inside quarter u e)
     go false e = whole-outside wholeWave u e ∙ sym (reading-outside quarter u e)

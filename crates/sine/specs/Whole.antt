@@ -1,6 +1,6 @@
 -- The wave unfolded from the quarter: 01's a at each of its points, as a float. Of such a table a reading takes a at its point and b at the next, by 01's rule: "p = u*4096, i its whole part, f = p - i; i = 4096
 -- is read as i = 0, f = 0 .. The answer is (a + (b - a)*f)/2^30". Of the wave it is the reading of the quarter (proofs/Whole.antt). Definitions only.
-use mathlib.Core.Bool.{cond}
+use mathlib.Core.Bool.{cond, _&&_}
 use mathlib.Core.List.{List}
 use mathlib.Core.Path.{_≡_}
 use Prim.Native.Nat.{ℕ, _+_, _/_, _%_}
@@ -38,6 +38,6 @@ wholeLine W i f = lineOf (getD W i nan) (getD W (i + 1) nan) f
 unfoldable pub wholePointOf : List Float → Float → Float
 wholePointOf W p = let i = wholePart p in cond (eqb i 4096) (wholeLine W 0 naught) (wholeLine W i (p ⊖ float (pos i)))
 
--- at u; +0 outside 0 to 1
+-- at u; +0 outside 0 to 1, and of a table of another length
 unfoldable pub wholeReading : List Float → Float → Float
-wholeReading W u = cond (within naught one u) (wholePointOf W (u ⊗ steps)) naught
+wholeReading W u = cond (within naught one u && eqb (length W) 4097) (wholePointOf W (u ⊗ steps)) naught

@@ -3,7 +3,7 @@
 ghost use mathlib.Core.Path.{_≡_};
 ghost use Prim.Native.Nat.{_≤_, _<_};
 ghost use lib.Dec.{T};
-ghost use lib.ListN.{getD};
+ghost use lib.ListN.{length, getD};
 ghost use Rattle.floats.specs.Range.{within};
 ghost use Rattle.floats.specs.Double.{naught};
 ghost use Rattle.sine.specs.Table.{quarter};
@@ -125,15 +125,14 @@ fn entry(wave: &[u32; 1025], k: u32) -> u32
 
 // The wave unfolded from the quarter, a float at each of its 4,096 points and at its end. It costs a microsecond, and is
 // for a loop of a thousand readings and more.
-pub fn whole_wave() -> [f64; 4097]
-    ensures { λ r. ⌜ r ≡ wholeWave ⌝ }
+pub fn whole_wave(wave: &mut [f64; 4097])
+    ensures { λ _. ⌜ now (wave .exit) ≡ wholeWave ⌝ }
 {
     let table = quarter_wave();
-    let mut wave = [0.0; 4097];
-    rise(&table, &mut wave);
-    fall(&mut wave);
-    negate(&mut wave);
-    wave
+    *wave = [0.0; 4097];
+    rise(&table, wave);
+    fall(wave);
+    negate(wave);
 }
 
 // Quadrant 0, and the top.
@@ -172,17 +171,22 @@ fn negate(wave: &mut [f64; 4097])
     }
 }
 
-// The reading of an unfolded wave at u, for a u that is known to be from 0 to 1; +0 for any other.
-pub fn whole_reading(wave: &[f64; 4097], u: f64) -> f64
+// The reading of an unfolded wave at u, for a u that is known to be from 0 to 1; +0 for any other, and of a table of another
+// length.
+pub fn whole_reading(wave: &[f64], u: f64) -> f64
     ensures { λ r. ⌜ r ≡ wholeReading (now (wave .entry)) u ⌝ }
 {
+    if wave.len() != 4097 {
+        return 0.0;
+    }
     if floats::is_within(0.0, 1.0, u) {
         return whole_point(wave, u * 4096.0);
     }
     0.0
 }
 
-fn whole_point(wave: &[f64; 4097], p: f64) -> f64
+fn whole_point(wave: &[f64], p: f64) -> f64
+    requires { ⌜ length (now wave) ≡ 4097 ⌝ }
     requires { ⌜ T (within naught steps p) ⌝ }
     ensures { λ r. ⌜ r ≡ wholePointOf (now (wave .entry)) p ⌝ }
 {

@@ -1,14 +1,17 @@
--- The records that stand at n act, one after the other. A turn of the loop over what is left to do: going on, stopping, ending. Assumes nothing.
+-- The records that stand at n act, one after the other. A turn of the loop over what is left to do: going on, stopping. Assumes nothing.
 use mathlib.Core.Path.{_≡_, refl}
 use mathlib.Core.Bool.{Bool, true, false, cond}
 use mathlib.Core.List.{List}
-use Prim.Native.Nat.{ℕ, zero, suc, _+_, _-_, _<_, _≤_}
+use Prim.Native.Nat.{ℕ, zero, suc, _+_, _-_, _<_}
 use native.Mathlib.Numerals.{add-one}
 use native.Mathlib.Omega.{arith}
-use Rattle.score.specs.Record.{countOf, recordAt}
+use borrow.Author.Tests.{ltb-true}
+use lib.Dec.{ltb, eqb}
+use Rattle.score.specs.Record.{countOf, positionAt, recordAt}
+use Rattle.score.proofs.Codec.{both}
 use Rattle.state.specs.declared.Settings.{Settings}
 use Rattle.state.specs.declared.State.{State}
-use Rattle.state.specs.State.{eventOf, actOf}
+use Rattle.state.specs.State.{reducedOf, eventOf, actOf}
 use Rattle.spans.specs.declared.Place.{Place}
 use Rattle.spans.specs.Walk.{placeOf, standsAt, actFrom, beginsAt, reducedAt, begunFrom}
 
@@ -17,23 +20,20 @@ unfolding actFrom
 act-stop g s n zero p f = refl
 act-stop g s n (suc k) p f = rw f refl
 
-module _ (g : Settings) (s : List ℕ) (n c i : ℕ) (v : State) where
-  pub act-on : i < c → standsAt s i n ≡ true → actFrom g s n (c - i) (placeOf v i) ≡ actFrom g s n (c - (i + 1)) (placeOf (actOf g v (eventOf g (recordAt s i))) (i + 1))
+-- a record that stands somewhere is there
+pub is-there : (s : List ℕ) (n i : ℕ) → standsAt s i n ≡ true → i < countOf s
+is-there s n i t = ltb-true _ _ (both (ltb i (countOf s)) (eqb (positionAt s i) n) t .0)
+
+module _ (g : Settings) (s : List ℕ) (n i : ℕ) (v : State) where
+  pub act-on : (p : Place) → standsAt s i n ≡ true → p ≡ placeOf (actOf g v (eventOf g (recordAt s i))) (i + 1) → actFrom g s n (countOf s - i) (placeOf v i) ≡ actFrom g s n (countOf s - p .next) p
   unfolding actFrom
-  act-on h t = let d : c - i ≡ suc (c - (i + 1)) = omega arith in rw (d, t, add-one i) refl
+  act-on p t e = let h = is-there s n i t in let d : countOf s - i ≡ suc (countOf s - (i + 1)) = omega arith in rw (e, d, t, add-one i) refl
 
-  pub act-end : c ≤ i → actFrom g s n (c - i) (placeOf v i) ≡ placeOf v i
-  unfolding actFrom
-  act-end h = let d : c - i ≡ 0 = omega arith in rw d refl
-
--- to settle the place first changes no record's turn
-abbrev settledAt : List ℕ → ℕ → Place → Place
-settledAt s n p = cond (beginsAt s (p .next) n) (reducedAt p) p
-
-pub begun-by : (g : Settings) (s : List ℕ) (n : ℕ) (p : Place) → actFrom g s n (countOf s - settledAt s n p .next) (settledAt s n p) ≡ begunFrom g s n p
-unfolding begunFrom
-begun-by g s n p = go (beginsAt s (p .next) n)
-  where
-    go : (t : Bool) → actFrom g s n (countOf s - cond t (reducedAt p) p .next) (cond t (reducedAt p) p) ≡ actFrom g s n (countOf s - p .next) (cond t (reducedAt p) p)
-    go true = refl
-    go false = refl
+  -- to settle the state first changes no record's turn
+  pub begun-by : actFrom g s n (countOf s - i) (placeOf (cond (beginsAt s i n) (reducedOf v) v) i) ≡ begunFrom g s n (placeOf v i)
+  unfolding begunFrom
+  begun-by = go (beginsAt s i n)
+    where
+      go : (t : Bool) → actFrom g s n (countOf s - i) (placeOf (cond t (reducedOf v) v) i) ≡ actFrom g s n (countOf s - i) (cond t (reducedAt (placeOf v i)) (placeOf v i))
+      go true = refl
+      go false = refl

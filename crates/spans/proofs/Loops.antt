@@ -1,4 +1,4 @@
--- What the two loops over the spans share: how far one has come, that it begins, goes on by a span and ends so. Assumes nothing.
+-- The loop over the spans: how far it has come, that it begins, goes on by a span and ends so. Assumes nothing.
 use mathlib.Core.Path.{_≡_, refl, sym, ap, _∙_}
 use mathlib.Core.List.{List}
 use Prim.Native.Nat.{ℕ, _+_, _-_, _≤_}
@@ -11,8 +11,11 @@ use Rattle.runs.specs.Runs.{run, listed}
 use Rattle.state.specs.declared.Settings.{Settings}
 use Rattle.state.specs.declared.State.{State}
 use Rattle.spans.specs.declared.Place.{Place}
+use Rattle.spans.specs.declared.Walker.{Walker}
 use Rattle.spans.specs.Plain.{Sounded}
-use Rattle.spans.specs.Walk.{placeOf, begunFrom, placeFrom, playedFrom, SpanEnd, Played}
+use Rattle.spans.specs.Walk.{placeOf, begunFrom, placeFrom, playedFrom, Played}
+use Rattle.spans.specs.Walker.{beginsIn, At, FirstAfter}
+use Rattle.spans.proofs.Offsets.{first-so, begins-so}
 use Rattle.spans.proofs.Turns.{turn-length, turn-stands, turn-heard}
 
 module _ (g : Settings) (s : List ℕ) (n : ℕ) (p : Place) (before : List Float) where
@@ -28,17 +31,18 @@ module _ (g : Settings) (s : List ℕ) (n : ℕ) (p : Place) (before : List Floa
   begins = record { size = refl; within = omega arith; place = refl; samples = refl }
 
   -- the span to e is begun at b, and its samples ys come back with the state u
-  pub goes-on : (part : List Float) (at : Place) (i : ℕ) (b : Place) (e : ℕ) (ys : List Float) (u : State) → Upto part at i → b ≡ begunFrom g s (n + i) at → SpanEnd s (b .next) n i (length part) e
+  pub goes-on : (part : List Float) (at : Place) (i : ℕ) (b : Walker) (e : ℕ) (ys : List Float) (u : State) → Upto part at i → At s n (begunFrom g s (n + i) at) b → FirstAfter (beginsIn b n) i (length part) e
       → Sounded g (b .state) (midOf i (e - i) part) ys u → Upto (putMid i (e - i) part ys) (placeOf u (b .next)) e
   goes-on part at i b e ys u v h z x =
-      let here : b ≡ begunFrom g s (n + i) (placeFrom g s n p i) = h ∙ ap (begunFrom g s (n + i)) (v .place) in
-      let z' = rw here at z in
-      let x' = rw here at x in
+      let here : placeOf (b .state) (b .next) ≡ begunFrom g s (n + i) (placeFrom g s n p i) = h .place ∙ ap (begunFrom g s (n + i)) (v .place) in
+      let follows : b .next ≡ begunFrom g s (n + i) (placeFrom g s n p i) .next = ap (λ (q : Place). q .next) here in
+      let z' = rw follows at (first-so _ _ _ _ _ (begins-so s n b (h .sees)) z) in
+      let x' = rw (ap (λ (q : Place). q .state) here) at x in
       let t = turn-length g s n p i (length part) e z' part ys u refl (v .samples) x' in
       record {
         size = t ∙ v .size;
         within = rw t (z .within);
-        place = rw here (turn-stands g s n p i (length part) e z' part ys u refl (v .samples) x');
+        place = rw follows (turn-stands g s n p i (length part) e z' part ys u refl (v .samples) x');
         samples = turn-heard g s n p i (length part) e z' part ys u refl (v .samples) x';
       }
 

@@ -1,14 +1,19 @@
--- Offsets in a part: where a record stands, and where a span ends. Assumes nothing.
-use mathlib.Core.Path.{_≡_, refl, sym}
+-- Offsets in a part: where the next record stands, and where a span ends. Assumes nothing.
+use mathlib.Core.Path.{_≡_, refl, sym, _∙_}
 use mathlib.Core.Bool.{Bool, true, false, _&&_, _||_, and-false, or-true}
 use mathlib.Core.List.{List}
+use mathlib.Core.Logic.{⊎-elim}
 use Prim.Native.Nat.{ℕ, _+_, _-_, _%_, _<_, _≤_}
 use native.Mathlib.Omega.{arith}
-use lib.Dec.{ltb, eqb}
-use borrow.Author.Tests.{lt-ltb, le-ltb, eq-eqb, ne-eqb, eqb-true, eqb-false}
+use lib.Dec.{ltb, leb, eqb}
+use borrow.Author.Tests.{lt-ltb, le-ltb, eq-eqb, ne-eqb, eqb-true, eqb-false, ltb-true, ltb-false, leb-true, leb-false}
 use Rattle.score.specs.Record.{countOf, positionAt}
+use Rattle.score.proofs.Codec.{both, either}
 use Rattle.score.proofs.Parted.{clash}
-use Rattle.spans.specs.Walk.{standsAt, beginsAt, SpanEnd, BlockEnd}
+use Rattle.spans.specs.declared.Place.{Place}
+use Rattle.spans.specs.declared.Walker.{Walker}
+use Rattle.spans.specs.Walk.{standsAt, beginsAt}
+use Rattle.spans.specs.Walker.{standsIn, isMark, beginsIn, Sees, FirstAfter}
 
 -- where one of two fails, each does
 pub neither : (p q : Bool) → (p || q) ≡ false → (p ≡ false) × (q ≡ false)
@@ -16,7 +21,7 @@ neither true q e = let z : true ≡ false = e in absurd (clash (cc))
 neither false q e = (refl, e)
 
 -- a distance is an offset exactly where the number is the sum
-pub distance-is : (p n a : ℕ) → n ≤ p → eqb (p - n) a ≡ eqb p (n + a)
+distance-is : (p n a : ℕ) → n ≤ p → eqb (p - n) a ≡ eqb p (n + a)
 distance-is p n a h = go (eqb (p - n) a) refl
   where
     go : (t : Bool) → eqb (p - n) a ≡ t → t ≡ eqb p (n + a)
@@ -25,51 +30,57 @@ distance-is p n a h = go (eqb (p - n) a) refl
 
 -- ---- where record i stands, seen from position n
 module _ (s : List ℕ) (i n : ℕ) where
-  pub stands-none : (a : ℕ) → countOf s ≤ i → standsAt s i (n + a) ≡ false
-  stands-none a h = rw (le-ltb i (countOf s) h) refl
+  pub passed : (leb (countOf s) i || ltb (positionAt s i) n) ≡ true → (m : ℕ) → false ≡ standsAt s i (n + m)
+  passed e m = ⊎-elim (λ h. rw (le-ltb i (countOf s) (leb-true _ _ h)) refl) (λ h. let l : positionAt s i < n = ltb-true _ _ h in rw (ne-eqb (positionAt s i) (n + m) (λ z. omega arith)) (sym (and-false (ltb i (countOf s))))) (either (leb (countOf s) i) (ltb (positionAt s i) n) e)
 
-  pub stands-not : (a : ℕ) → (positionAt s i ≡ n + a → ⊥) → standsAt s i (n + a) ≡ false
-  stands-not a f = rw (ne-eqb (positionAt s i) (n + a) f) (and-false (ltb i (countOf s)))
+  pub ahead : (leb (countOf s) i || ltb (positionAt s i) n) ≡ false → (m : ℕ) → eqb (positionAt s i - n) m ≡ standsAt s i (n + m)
+  ahead e m = let f = neither (leb (countOf s) i) (ltb (positionAt s i) n) e in rw (lt-ltb i (countOf s) (leb-false _ _ (f .0))) (distance-is (positionAt s i) n m (ltb-false _ _ (f .1)))
 
-  pub stands-here : (a : ℕ) → i < countOf s → n ≤ positionAt s i → standsAt s i (n + a) ≡ eqb (positionAt s i - n) a
-  stands-here a h l = rw (lt-ltb i (countOf s) h) (sym (distance-is (positionAt s i) n a l))
+-- what a walker sees is so of the score: its next record, and where a span begins
+pub stands-so : (s : List ℕ) (n m : ℕ) (w : Walker) (r t : Bool) → Sees s n w → r ≡ standsIn w m → r ≡ t → standsAt s (w .next) (n + m) ≡ t
+stands-so s n m w r t v e h = sym (v m) ∙ sym e ∙ h
+
+pub begins-so : (s : List ℕ) (n : ℕ) (w : Walker) → Sees s n w → (m : ℕ) → beginsIn w n m ≡ beginsAt s (w .next) (n + m)
+begins-so s n w v m = rw (v m) refl
 
 -- ---- the end of a span
-pub block-to-end : (n a k : ℕ) → a < k → k - a < 64 - (n + a) % 64 → BlockEnd n a k k
+pub block-to-end : (n a k : ℕ) → a < k → k - a < 64 - (n + a) % 64 → FirstAfter (isMark n) a k k
 block-to-end n a k h l = record { after = h; within = omega arith; ends = λ x. eq-eqb ((n + k) % 64) 0 (omega arith); apart = λ m x y. ne-eqb ((n + m) % 64) 0 (λ e. omega arith) }
 
-pub block-to-next : (n a k t : ℕ) → t ≡ (n + a) % 64 → 64 - t ≤ k - a → BlockEnd n a k (a + (64 - t))
+pub block-to-next : (n a k t : ℕ) → t ≡ (n + a) % 64 → 64 - t ≤ k - a → FirstAfter (isMark n) a k (a + (64 - t))
 block-to-next n a k t q l = record { after = omega arith; within = omega arith; ends = λ x. eq-eqb ((n + (a + (64 - t))) % 64) 0 (omega arith); apart = λ m x y. ne-eqb ((n + m) % 64) 0 (λ e. omega arith) }
 
-module _ (s : List ℕ) (i n a k e : ℕ) (b : BlockEnd n a k e) where
-  begins-not : (m : ℕ) → a < m → m < e → standsAt s i (n + m) ≡ false → beginsAt s i (n + m) ≡ false
-  begins-not m x y z = rw (b .apart m x y, z) refl
+-- the test may be put otherwise
+pub first-so : (test other : ℕ → Bool) (a k r : ℕ) → ((m : ℕ) → test m ≡ other m) → FirstAfter test a k r → FirstAfter other a k r
+first-so test other a k r e f = record { after = f .after; within = f .within; ends = λ x. sym (e r) ∙ f .ends x; apart = λ m x y. sym (e m) ∙ f .apart m x y }
 
-  -- no record lies between
-  whole-block : ((m : ℕ) → a < m → m < e → standsAt s i (n + m) ≡ false) → SpanEnd s i n a k e
-  whole-block f = record { after = b .after; within = b .within; ends = λ x. rw (b .ends x) refl; unbroken = λ m x y. begins-not m x y (f m x y) }
-
-  pub end-none : countOf s ≤ i → SpanEnd s i n a k e
-  end-none h = whole-block (λ m x y. stands-none s i n m h)
-
-  pub end-passed : positionAt s i < n → SpanEnd s i n a k e
-  end-passed h = whole-block (λ m x y. stands-not s i n m (λ z. omega arith))
-
-  pub end-beyond : n ≤ positionAt s i → (ltb a (positionAt s i - n) && ltb (positionAt s i - n) e) ≡ false → SpanEnd s i n a k e
-  end-beyond h f = whole-block (λ m x y. stands-not s i n m (λ z. let d : positionAt s i - n ≡ m = omega arith in no (ltb a m) (ltb m e) (rw d at f) (lt-ltb a m x) (lt-ltb m e y)))
-    where
-      no : (p q : Bool) → (p && q) ≡ false → p ≡ true → q ≡ true → ⊥
-      no true true f g h = let z : true ≡ false = f in absurd (clash (cc))
-      no true false f g h = let z : true ≡ false = sym h in absurd (clash (cc))
-      no false q f g h = let z : true ≡ false = sym g in absurd (clash (cc))
-
-  pub end-record : i < countOf s → n ≤ positionAt s i → a < positionAt s i - n → positionAt s i - n < e → SpanEnd s i n a k (positionAt s i - n)
-  end-record l h x y =
-      let d : n + (positionAt s i - n) ≡ positionAt s i = omega arith in
-      let here : standsAt s i (n + (positionAt s i - n)) ≡ true = rw (d, lt-ltb i (countOf s) l, eq-eqb (positionAt s i) (positionAt s i) refl) refl in
+-- where a walker's next record lies between, the span ends there; else where the block does
+module _ (n a k e : ℕ) (w : Walker) (b : FirstAfter (isMark n) a k e) where
+  pub end-record : (w .waits && ltb a (w .due) && ltb (w .due) e) ≡ true → FirstAfter (beginsIn w n) a k (w .due)
+  end-record t =
+      let u = both (w .waits && ltb a (w .due)) (ltb (w .due) e) t in
+      let v = both (w .waits) (ltb a (w .due)) (u .0) in
+      let x : a < w .due = ltb-true _ _ (v .1) in
+      let y : w .due < e = ltb-true _ _ (u .1) in
       record {
         after = x;
         within = omega (arith, b .within);
-        ends = λ z. rw here (or-true (eqb ((n + (positionAt s i - n)) % 64) 0));
-        unbroken = λ m u w. begins-not m u (omega arith) (stands-not s i n m (λ z. omega arith));
+        ends = λ z. rw (v .0, eq-eqb (w .due) (w .due) refl) (or-true (isMark n (w .due)));
+        apart = λ m p q. rw (b .apart m p (omega arith), ne-eqb (w .due) m (λ z. omega arith)) (and-false (w .waits));
       }
+
+  pub end-block : (w .waits && ltb a (w .due) && ltb (w .due) e) ≡ false → FirstAfter (beginsIn w n) a k e
+  end-block f =
+      record {
+        after = b .after;
+        within = b .within;
+        ends = λ x. rw (b .ends x) refl;
+        apart = λ m x y. rw (b .apart m x y) (go m x y (standsIn w m) refl);
+      }
+    where
+      go : (m : ℕ) → a < m → m < e → (t : Bool) → standsIn w m ≡ t → t ≡ false
+      go m x y false h = refl
+      go m x y true h =
+          let v = both (w .waits) (eqb (w .due) m) h in
+          let d : w .due ≡ m = eqb-true _ _ (v .1) in
+          sym (rw (v .0, d, lt-ltb a m x, lt-ltb m e y) refl) ∙ f

@@ -16,14 +16,15 @@ use Rattle.envelope.specs.Limits.{clampedOf, sampleTimeOf}
 use Rattle.envelope.specs.Running.{envelopeFrom}
 use Rattle.envelope.specs.Scaled.{scaledTo, Scaled}
 use Rattle.waveform.specs.Waveform.{radians, normalOf, invTau}
-use Rattle.waveform.specs.Filled.{phaseFrom, samplesFrom, valueAt, Filled}
+use Rattle.waveform.specs.Filled.{phaseFrom, samplesFrom, valueAt, valueIn, Filled, FilledBy}
 use Rattle.waveform.specs.declared.Radians.{Radians}
 use Rattle.waveform.proofs.Steps.{samples-length, sample-at}
 use Rattle.waveform.proofs.Values.{value-fits}
+use Rattle.waveform.proofs.Lent.{filled-as}
 use Rattle.state.specs.declared.Settings.{Settings}
 use Rattle.state.specs.declared.State.{State}
 use Rattle.state.specs.State.{withPhase, withEnvelope, paceOf, sampleOf, advanceOf}
-use Rattle.spans.specs.Plain.{advances, plain, Sounded}
+use Rattle.spans.specs.Plain.{advances, plain, Serves, Sounded}
 
 module _ (g : Settings) (v : State) where
   -- the state after k samples, field by field
@@ -47,26 +48,13 @@ module _ (g : Settings) (v : State) where
       listed-same _ _ k
       (λ i l. rw (advances-is i, sample-at (valueAt (g .waveform) (paceOf g v)) (paceOf g v) one (v .phase .0) i n (omega arith), times-one-is (phaseFrom (paceOf g v) (v .phase .0) i)) refl)
 
-  -- the second pass over what the first wrote
-  pub sounding : (k : Adsr) (t : Float) (ys zs : List Float) (r : Radians) (e : Envelope) → k ≡ clampedOf (g .adsr) → t ≡ sampleTimeOf (g .rate)
-      → Filled (g .waveform) (v .phase .0) (paceOf g v) one ys ys r → Scaled k t (v .envelope) (v .velocity) ys zs e
-      → Sounded g v ys zs (withEnvelope (withPhase v (r .0)) e)
-  sounding k t ys zs r e ek et f h =
+  -- the first pass, with a table lent, over what stood there, and the second over what the first wrote
+  pub sounding : (W : List Float) (step : Radians) (k : Adsr) (t : Float) (xs ys zs : List Float) (r : Radians) (e : Envelope) → Serves W → step ≡ radians (paceOf g v) → k ≡ clampedOf (g .adsr) → t ≡ sampleTimeOf (g .rate)
+      → FilledBy (valueIn W (g .waveform) (step .0)) (v .phase .0) (step .0) one xs ys r → Scaled k t (v .envelope) (v .velocity) ys zs e → Sounded g v xs zs (withEnvelope (withPhase v (r .0)) e)
+  sounding W step k t xs ys zs r e serves es ek et given h =
+      let f : Filled (g .waveform) (v .phase .0) (paceOf g v) one xs ys r = filled-as _ _ _ _ _ _ _ _ (serves (g .waveform) (paceOf g v)) (rw es at given) in
+      let full : length ys ≡ length xs = ap length (f .samples) ∙ samples-length (valueAt (g .waveform) (paceOf g v)) (paceOf g v) one (v .phase .0) (length xs) in
       record {
-        samples = h .samples ∙ rw (ek, et) (ap (λ (xs : List Float). scaledTo (clampedOf (g .adsr)) (sampleTimeOf (g .rate)) (v .envelope) (v .velocity) xs (length ys)) (f .samples) ∙ scaled-is (length ys) (length ys) (omega arith));
-        state = rw (f .phase, h .envelope, ek, et) (sym (advances-is (length ys)));
+        samples = h .samples ∙ rw (ek, et, full, f .samples) (scaled-is (length xs) (length xs) (omega arith));
+        state = rw (f .phase, h .envelope, ek, et, full) (sym (advances-is (length xs)));
       }
-
-  -- the first pass, over what stood there before
-  module _ (step : Radians) (xs ys : List Float) (r : Radians) (es : step ≡ radians (paceOf g v)) (f : Filled (g .waveform) (v .phase .0) (step .0) one xs ys r) where
-    full : length ys ≡ length xs
-    full = ap length (f .samples) ∙ samples-length (valueAt (g .waveform) (step .0)) (step .0) one (v .phase .0) (length xs)
-
-    pub written : Filled (g .waveform) (v .phase .0) (paceOf g v) one ys ys r
-    written =
-        let fs : ys ≡ values (length xs) = rw es at (f .samples) in
-        let fp : r ≡ radians (phaseFrom (paceOf g v) (v .phase .0) (length xs)) = rw es at (f .phase) in
-        record { samples = fs ∙ ap values (sym full); phase = fp ∙ ap (λ (k : ℕ). radians (phaseFrom (paceOf g v) (v .phase .0) k)) (sym full) }
-
-    pub both : (zs : List Float) (u : State) → Sounded g v ys zs u → Sounded g v xs zs u
-    both zs u h = record { samples = h .samples ∙ ap (plain g v) full; state = h .state ∙ ap (advances g v) full }

@@ -18,7 +18,8 @@ use Rattle.state.specs.declared.State.{State}
 use Rattle.state.specs.State.{sampleOf}
 use Rattle.spans.specs.declared.Place.{Place}
 use Rattle.spans.specs.Plain.{advances, plain, Sounded}
-use Rattle.spans.specs.Walk.{placeOf, beginsAt, standsAt, begunFrom, placeFrom, playedFrom, SpanEnd}
+use Rattle.spans.specs.Walk.{placeOf, beginsAt, standsAt, begunFrom, placeFrom, playedFrom}
+use Rattle.spans.specs.Walker.{FirstAfter}
 use Rattle.spans.proofs.Acting.{act-stop}
 use Rattle.spans.proofs.Offsets.{neither}
 
@@ -63,12 +64,12 @@ module _ (g : Settings) (s : List ℕ) (n : ℕ) (p : Place) (i : ℕ) where
   span-samples k f = listed-on _ i (suc k) ∙ ap (_++_ (playedFrom g s n p i)) (listed-same _ _ (suc k) (λ j l. ap (λ (q : Place). sampleOf g (q .state)) (span-begun j (λ m x y. f m x (omega arith)))))
 
   -- the same as far as the span's end e
-  module _ (l e : ℕ) (z : SpanEnd s (begun .next) n i l e) where
+  module _ (l e : ℕ) (z : FirstAfter (λ (m : ℕ). beginsAt s (begun .next) (n + m)) i l e) where
     whole : i + suc (e - i - 1) ≡ e
     whole = omega (arith, z .after)
 
     unbroken : Unbroken (e - i - 1)
-    unbroken m x y = z .unbroken m x (omega (arith, whole))
+    unbroken m x y = z .apart m x (omega (arith, whole))
 
     pub turn-place : placeFrom g s n p e ≡ placeOf (advances g (begun .state) (e - i)) (begun .next)
     turn-place =

@@ -6,6 +6,8 @@ use Prim.Native.Nat.{ℕ}
 use lib.ListN.{length}
 use lib.Ieee.{Float}
 use Rattle.runs.specs.Runs.{repeated, listed}
+use Rattle.waveform.specs.declared.Waveform.{Waveform}
+use Rattle.waveform.specs.Filled.{valueAt, valueIn}
 use Rattle.state.specs.declared.Settings.{Settings}
 use Rattle.state.specs.declared.State.{State}
 use Rattle.state.specs.State.{sampleOf, advanceOf}
@@ -17,6 +19,10 @@ advances g v k = repeated (advanceOf g) v k
 -- the k samples
 unfoldable pub plain : Settings → State → ℕ → List Float
 plain g v k = listed (λ (i : ℕ). sampleOf g (advances g v i)) k
+
+-- what is read of a lent table W is each waveform's own value: so it is of the whole wave, and of none
+abbrev pub Serves : List Float → Type 0
+Serves W = (w : Waveform) (step p : Float) → valueIn W w step p ≡ valueAt w step p
 
 -- a lent part holds them, and r is the state after them
 pub record Sounded (g : Settings) (v : State) (before after : List Float) (r : State) : Type 0 where

@@ -1,10 +1,10 @@
 -- A walk through a score: the state, and the next record, which is the first that has not acted where the score is in order and the walk began at the first record that is not below its position (`Cut` of score). 01, "Making sample n": "If n is a multiple of 64 or a record has position n, phase is reduced by TAU. Then the
 -- records at n act." A walk looks at the next record alone: it acts where it stands at n, and then so may the one after it. On a score whose positions never fall, from the first record that is not below n, that is
 -- what state's Heart says of all records (proofs/Agrees.antt); it is defined for every score and every place. Definitions only.
-use mathlib.Core.Bool.{Bool, cond, true, false, _&&_, _||_}
+use mathlib.Core.Bool.{Bool, cond, _&&_, _||_}
 use mathlib.Core.List.{List}
 use mathlib.Core.Path.{_≡_}
-use Prim.Native.Nat.{ℕ, zero, suc, _+_, _-_, _%_, _<_, _≤_}
+use Prim.Native.Nat.{ℕ, zero, suc, _-_, _%_}
 use lib.Dec.{ltb, eqb}
 use lib.ListN.{length}
 use lib.Ieee.{Float}
@@ -63,17 +63,3 @@ playedFrom g s n p k = seen (afterPlayed g s) (playedAt g s) n p k
 pub record Played (g : Settings) (s : List ℕ) (n : ℕ) (p : Place) (before after : List Float) (r : Place) : Type 0 where
   pub samples : after ≡ playedFrom g s n p (length before)
   pub place : r ≡ placeFrom g s n p (length before)
-
--- ---- r is the end of the span that begins at offset a of a part of k samples from n on, where i is the next record: the first offset after a at which a span begins, or the part's end
-pub record SpanEnd (s : List ℕ) (i n a k r : ℕ) : Type 0 where
-  pub after : a < r
-  pub within : r ≤ k
-  pub ends : r < k → beginsAt s i (n + r) ≡ true
-  pub unbroken : (m : ℕ) → a < m → m < r → beginsAt s i (n + m) ≡ false
-
--- r is the first offset after a at a multiple of 64, or the part's end
-pub record BlockEnd (n a k r : ℕ) : Type 0 where
-  pub after : a < r
-  pub within : r ≤ k
-  pub ends : r < k → eqb ((n + r) % 64) 0 ≡ true
-  pub apart : (m : ℕ) → a < m → m < r → eqb ((n + m) % 64) 0 ≡ false

@@ -4,17 +4,13 @@
 // large for a word. Judging is left to the calls above.
 ghost use mathlib.Core.Path.{_≡_};
 ghost use mathlib.Core.Bool.{cond};
-ghost use Prim.Native.Nat.{_+_, _-_, _%_, _<_, _≤_};
-ghost use Rattle.score.specs.Record.{countOf};
-ghost use Rattle.floats.specs.Double.{one};
-ghost use Rattle.sine.specs.Whole.{wholeWave};
-ghost use Rattle.waveform.specs.Filled.{Filled};
-ghost use Rattle.state.specs.State.{paceOf};
-ghost use Rattle.spans.specs.Plain.{Sounded};
-ghost use Rattle.spans.specs.Walk.{standsAt, beginsAt, actFrom, reducedAt, begunFrom, Played, SpanEnd, BlockEnd};
+ghost use Prim.Native.Nat.{_+_, _%_, _<_};
+ghost use Rattle.state.specs.State.{reducedOf};
+ghost use Rattle.spans.specs.Plain.{Serves, Sounded};
+ghost use Rattle.spans.specs.Walk.{begunFrom, Played};
+ghost use Rattle.spans.specs.Walker.{placeIn, standsIn, isMark, beginsIn, Sees, At, FirstAfter};
 use state::Settings;
 use state::State;
-use waveform::Radians;
 use waveform::Waveform;
 
 // How many samples between two reductions where no record stands.
@@ -27,6 +23,15 @@ const LONG: usize = 1024;
 pub struct Place {
     pub state: State,
     pub next: usize,
+}
+
+// A place on the way through a part, and where its next record stands: whether from the part's position on, and how many
+// samples after it. It is read once, when the record before has acted.
+struct Walker {
+    state: State,
+    next: usize,
+    waits: bool,
+    due: usize,
 }
 
 // Plays the samples of a part that begins at a position, and hands back the place after the last. Where many are of a
@@ -49,30 +54,6 @@ pub fn play(
     play_short(settings, score, place, position, part)
 }
 
-// Span by span; a sine's span makes its own table of the quarter.
-fn play_short(
-    settings: Settings,
-    score: &[u8],
-    place: Place,
-    position: u64,
-    part: &mut [f64],
-) -> Place
-    ensures { λ r. ⌜ Played settings (now (score .entry)) position place (now (part .entry)) (now (part .exit)) r ⌝ }
-{
-    let mut at = place;
-    let mut i = 0;
-    while i < part.len() {
-        let begun = begin(settings, score, at, position, i);
-        let next = begun.next;
-        let end = span_end(score, next, position, i, part.len());
-        let state = sound(settings, begun.state, &mut part[i..end]);
-        at = Place { state, next };
-        i = end;
-    }
-    at
-}
-
-// The same with the whole wave, made once and lent to each span.
 fn play_long(
     settings: Settings,
     score: &[u8],
@@ -82,76 +63,110 @@ fn play_long(
 ) -> Place
     ensures { λ r. ⌜ Played settings (now (score .entry)) position place (now (part .entry)) (now (part .exit)) r ⌝ }
 {
-    let wave = sine::whole_wave();
-    let mut at = place;
+    let mut wave = [0.0; 4097];
+    sine::whole_wave(&mut wave);
+    play_in(&wave, settings, score, place, position, part)
+}
+
+// No wave is lent: a sine's span reads the quarter.
+fn play_short(
+    settings: Settings,
+    score: &[u8],
+    place: Place,
+    position: u64,
+    part: &mut [f64],
+) -> Place
+    ensures { λ r. ⌜ Played settings (now (score .entry)) position place (now (part .entry)) (now (part .exit)) r ⌝ }
+{
+    play_in(&[0.0; 0], settings, score, place, position, part)
+}
+
+// Span by span, with a wave lent that may be empty.
+fn play_in(
+    wave: &[f64],
+    settings: Settings,
+    score: &[u8],
+    place: Place,
+    position: u64,
+    part: &mut [f64],
+) -> Place
+    requires { ⌜ Serves (now wave) ⌝ }
+    ensures { λ r. ⌜ Played settings (now (score .entry)) position place (now (part .entry)) (now (part .exit)) r ⌝ }
+{
+    let mut at = walker_at(score, place, position);
     let mut i = 0;
     while i < part.len() {
         let begun = begin(settings, score, at, position, i);
-        let next = begun.next;
-        let end = span_end(score, next, position, i, part.len());
-        let state = sound_in(&wave, settings, begun.state, &mut part[i..end]);
-        at = Place { state, next };
+        let end = span_end(begun, position, i, part.len());
+        let state = sound(wave, settings, begun.state, &mut part[i..end]);
+        at = begun;
+        at.state = state;
         i = end;
+    }
+    let state = at.state;
+    Place {
+        state,
+        next: at.next,
+    }
+}
+
+// At a place, with its next record read.
+fn walker_at(score: &[u8], place: Place, position: u64) -> Walker
+    ensures { λ r. ⌜ At (now (score .entry)) position place r ⌝ }
+{
+    let state = place.state;
+    let next = place.next;
+    let p = score::position(score, next) as u64;
+    if (score::count(score) <= next) | (p < position) {
+        return Walker {
+            state,
+            next,
+            waits: false,
+            due: 0,
+        };
+    }
+    Walker {
+        state,
+        next,
+        waits: true,
+        due: (p - position) as usize,
+    }
+}
+
+// The phase reduced where a span begins, and the records acted that stand here, one after the other.
+fn begin(settings: Settings, score: &[u8], walker: Walker, position: u64, offset: usize) -> Walker
+    requires { ⌜ Sees (now score) position walker ⌝ }
+    ensures { λ r. ⌜ At (now (score .entry)) position (begunFrom settings (now (score .entry)) (position + offset) (placeIn walker)) r ⌝ }
+{
+    let state = settled(
+        walker.state,
+        (into_block(position, offset) == 0) | stands_at(walker, offset),
+    );
+    let mut at = walker;
+    at.state = state;
+    while stands_at(at, offset) {
+        let event = state::event_of(settings, score::record_at(score, at.next));
+        let state = state::act(settings, at.state, event);
+        let next = at.next + 1;
+        at = walker_at(score, Place { state, next }, position);
     }
     at
 }
 
-// The phase reduced where a span begins, and the records acted that stand here.
-fn begin(settings: Settings, score: &[u8], place: Place, position: u64, offset: usize) -> Place
-    ensures { λ r. ⌜ r ≡ begunFrom settings (now (score .entry)) (position + offset) place ⌝ }
+fn settled(state: State, begins: bool) -> State
+    ensures { λ r. ⌜ r ≡ cond begins (reducedOf state) state ⌝ }
 {
-    let due = begins_at(score, place.next, position, offset);
-    act_from(settings, score, settled(place, due), position, offset)
+    if begins {
+        return state::reduce(state);
+    }
+    state
 }
 
-fn begins_at(score: &[u8], next: usize, position: u64, offset: usize) -> bool
-    ensures { λ r. ⌜ r ≡ beginsAt (now (score .entry)) next (position + offset) ⌝ }
+// Whether the next record stands at an offset.
+fn stands_at(walker: Walker, offset: usize) -> bool
+    ensures { λ r. ⌜ r ≡ standsIn walker offset ⌝ }
 {
-    (into_block(position, offset) == 0) | stands_at(score, next, position, offset)
-}
-
-fn settled(place: Place, due: bool) -> Place
-    ensures { λ r. ⌜ r ≡ cond due (reducedAt place) place ⌝ }
-{
-    if due {
-        let state = state::reduce(place.state);
-        return Place {
-            state,
-            next: place.next,
-        };
-    }
-    place
-}
-
-// The next records act, one after the other, as long as they stand here.
-fn act_from(settings: Settings, score: &[u8], place: Place, position: u64, offset: usize) -> Place
-    ensures { λ r. ⌜ r ≡ actFrom settings (now (score .entry)) (position + offset) (countOf (now (score .entry)) - place .next) place ⌝ }
-{
-    let n = score::count(score);
-    let mut state = place.state;
-    let mut next = place.next;
-    while next < n {
-        if !stands_at(score, next, position, offset) {
-            return Place { state, next };
-        }
-        let event = state::event_of(settings, score::record_at(score, next));
-        state = state::act(settings, state, event);
-        next += 1;
-    }
-    Place { state, next }
-}
-
-fn stands_at(score: &[u8], i: usize, position: u64, offset: usize) -> bool
-    ensures { λ r. ⌜ r ≡ standsAt (now (score .entry)) i (position + offset) ⌝ }
-{
-    if score::count(score) <= i {
-        return false;
-    }
-    let p = score::position(score, i) as u64;
-    if p < position {
-        return false;
-    }
-    p - position == offset as u64
+    walker.waits & (walker.due == offset)
 }
 
 // How many samples after a multiple of 64.
@@ -162,21 +177,14 @@ fn into_block(position: u64, offset: usize) -> u64
 }
 
 // The offset of the next multiple of 64, of the next record, or of the part's end, whichever is first.
-fn span_end(score: &[u8], next: usize, position: u64, offset: usize, length: usize) -> usize
+fn span_end(walker: Walker, position: u64, offset: usize, length: usize) -> usize
     requires { ⌜ offset < length ⌝ }
-    ensures { λ r. ⌜ SpanEnd (now (score .entry)) next position offset length r ⌝ }
+    ensures { λ r. ⌜ FirstAfter (beginsIn walker position) offset length r ⌝ }
 {
     let end = block_end(position, offset, length);
-    if score::count(score) <= next {
-        return end;
-    }
-    let p = score::position(score, next) as u64;
-    if p < position {
-        return end;
-    }
-    let at = (p - position) as usize;
-    if (offset < at) & (at < end) {
-        return at;
+    let due = walker.due;
+    if walker.waits & (offset < due) & (due < end) {
+        return due;
     }
     end
 }
@@ -184,7 +192,7 @@ fn span_end(score: &[u8], next: usize, position: u64, offset: usize, length: usi
 // The offset of the next multiple of 64, or of the part's end.
 fn block_end(position: u64, offset: usize, length: usize) -> usize
     requires { ⌜ offset < length ⌝ }
-    ensures { λ r. ⌜ BlockEnd position offset length r ⌝ }
+    ensures { λ r. ⌜ FirstAfter (isMark position) offset length r ⌝ }
 {
     let room = length - offset;
     let left = (BLOCK - into_block(position, offset)) as usize;
@@ -195,34 +203,15 @@ fn block_end(position: u64, offset: usize, length: usize) -> usize
 }
 
 // One span: the waveform's inner loop over the part, then the envelope's level and the velocity over what it wrote.
-fn sound(settings: Settings, state: State, part: &mut [f64]) -> State
+fn sound(wave: &[f64], settings: Settings, state: State, part: &mut [f64]) -> State
+    requires { ⌜ Serves (now wave) ⌝ }
     ensures { λ r. ⌜ Sounded settings state (now (part .entry)) (now (part .exit)) r ⌝ }
 {
     let waveform = settings.waveform;
-    let start = state.phase;
-    let step = waveform::increment(state.frequency, settings.rate);
-    let phase = waveform::fill(part, waveform, start, step, 1.0);
-    struck(settings, state, phase, part)
-}
-
-// The same with the whole wave lent.
-fn sound_in(wave: &[f64; 4097], settings: Settings, state: State, part: &mut [f64]) -> State
-    requires { ⌜ now wave ≡ wholeWave ⌝ }
-    ensures { λ r. ⌜ Sounded settings state (now (part .entry)) (now (part .exit)) r ⌝ }
-{
-    let waveform = settings.waveform;
-    let start = state.phase;
-    let step = waveform::increment(state.frequency, settings.rate);
-    let after = waveform::fill_in(wave, part, waveform, start, step, 1.0);
-    struck(settings, state, after, part)
-}
-
-// What the inner loop wrote, times level and velocity, and the state after it.
-fn struck(settings: Settings, state: State, phase: Radians, part: &mut [f64]) -> State
-    requires { ⌜ Filled (settings .waveform) (state .phase .0) (paceOf settings state) one (now part) (now part) phase ⌝ }
-    ensures { λ r. ⌜ Sounded settings state (now (part .entry)) (now (part .exit)) r ⌝ }
-{
     let adsr = settings.adsr;
+    let start = state.phase;
+    let step = waveform::increment(state.frequency, settings.rate);
+    let phase = waveform::fill_in(wave, part, waveform, start, step, 1.0);
     let envelope = envelope::levels::scale(
         envelope::clamped(adsr),
         envelope::sample_time(settings.rate),

@@ -1,34 +1,41 @@
--- A block of any values is a block of a waveform where its values are the waveform's own, as they are where a sine is read from the whole wave. Assumes nothing.
-use mathlib.Core.Path.{_≡_, refl, _∙_}
+-- A block whose values agree with a waveform's own is a block of that waveform, as it is where a sine is read from the whole wave. Assumes nothing.
+use mathlib.Core.Path.{_≡_, refl, sym, _∙_}
 use mathlib.Core.List.{List}
 use lib.ListN.{length}
 use lib.Ieee.{Float}
-use Rattle.sine.specs.Whole.{wholeWave}
-use Rattle.sine.proofs.Whole.{whole-is}
+use borrow.Author.Tests.{ne-eqb}
+use Rattle.sine.specs.Whole.{wholeWave, wholeReading}
+use Rattle.sine.proofs.Whole.{whole-long, whole-is}
 use Rattle.waveform.specs.declared.Radians.{Radians}
 use Rattle.waveform.specs.declared.Waveform.{Waveform}
 use Rattle.waveform.specs.declared.Waveform.the-variants.{Sine, Square, Sawtooth, Triangle, Pulse}
 use Rattle.waveform.specs.Waveform.{valueOf, normalOf}
-use Rattle.waveform.specs.Filled.{valueAt, valueIn, Filled, FilledBy}
+use Rattle.waveform.specs.Filled.{valueAt, valueIn, FilledBy}
 use Rattle.waveform.proofs.Steps.{samples-same}
 
--- no waveform but a sine reads the table
-pub unread : (W : List Float) (w : Waveform) (p step scale : Float) (before after : List Float) (r : Radians) → (w ≡ Sine → ⊥) → Filled w p step scale before after r → FilledBy (valueIn W w step) p step scale before after r
-unfolding valueIn
-unread W Sine p step scale before after r n f = absurd (n refl)
-unread W Square p step scale before after r n f = f
-unread W Sawtooth p step scale before after r n f = f
-unread W Triangle p step scale before after r n f = f
-unread W (Pulse duty) p step scale before after r n f = f
+pub filled-as : (value other : Float → Float) (p step scale : Float) (before after : List Float) (r : Radians) → ((q : Float) → value q ≡ other q) → FilledBy value p step scale before after r → FilledBy other p step scale before after r
+filled-as value other p step scale before after r e f = record { samples = f .samples ∙ samples-same value other step scale p e (length before); phase = f .phase }
+
+module _ (W : List Float) where
+  -- a sine reads a table that is as long as the whole wave
+  pub table-read : (step q : Float) → length W ≡ 4097 → wholeReading W (normalOf q) ≡ valueIn W Sine step q
+  unfolding valueIn
+  table-read step q l = rw l refl
+
+  -- no other waveform does, and no other table is read
+  pub table-unread : (w : Waveform) (step q : Float) → (w ≡ Sine → length W ≡ 4097 → ⊥) → valueAt w step q ≡ valueIn W w step q
+  unfolding valueIn
+  table-unread Sine step q n = rw (ne-eqb (length W) 4097 (n refl)) refl
+  table-unread Square step q n = refl
+  table-unread Sawtooth step q n = refl
+  table-unread Triangle step q n = refl
+  table-unread (Pulse duty) step q n = refl
 
 -- of the whole wave the value is the waveform's own
-whole-value : (w : Waveform) (step q : Float) → valueIn wholeWave w step q ≡ valueAt w step q
+pub whole-value : (w : Waveform) (step q : Float) → valueIn wholeWave w step q ≡ valueAt w step q
 unfolding valueIn valueOf
-whole-value Sine step q = whole-is (normalOf q)
+whole-value Sine step q = sym (table-read wholeWave step q whole-long) ∙ whole-is (normalOf q)
 whole-value Square step q = refl
 whole-value Sawtooth step q = refl
 whole-value Triangle step q = refl
 whole-value (Pulse duty) step q = refl
-
-pub filled-whole : (w : Waveform) (p step scale : Float) (before after : List Float) (r : Radians) → FilledBy (valueIn wholeWave w step) p step scale before after r → Filled w p step scale before after r
-filled-whole w p step scale before after r f = record { samples = f .samples ∙ samples-same (valueIn wholeWave w step) (valueAt w step) step scale p (whole-value w step) (length before); phase = f .phase }

@@ -10,6 +10,7 @@ ghost use Rattle.waveform.specs.Waveform.{isWaveform, valueOf, sampleOf,
 ghost use Rattle.waveform.specs.Filled.{Filled, FilledBy, valueAt, valueIn};
 ghost use Rattle.waveform.specs.declared.Waveform.the-variants.{Sine};
 ghost use Rattle.floats.specs.Double.{_⊗_};
+ghost use Rattle.sine.specs.Whole.{wholeReading};
 use answers::Refusal;
 use answers::Value;
 
@@ -185,9 +186,10 @@ fn fill_sine(out: &mut [f64], start: Radians, step: Radians, scale: f64) -> Radi
     Radians(angle)
 }
 
-// `fill` with a table of the wave that is lent, which a sine reads; of the whole wave it writes the same bits.
+// `fill` with a table of the wave that is lent, which a sine reads where it is as long as the whole wave; of the whole wave
+// it writes the same bits.
 pub fn fill_in(
-    wave: &[f64; 4097],
+    wave: &[f64],
     out: &mut [f64],
     waveform: Waveform,
     start: Radians,
@@ -197,19 +199,15 @@ pub fn fill_in(
     ensures { λ r. ⌜ FilledBy (valueIn (now (wave .entry)) waveform (step .0)) (start .0) (step .0) scale (now (out .entry)) (now (out .exit)) r ⌝ }
 {
     if let Waveform::Sine = waveform {
-        return fill_wave(wave, out, start, step, scale);
+        if wave.len() == 4097 {
+            return fill_wave(wave, out, start, step, scale);
+        }
     }
     fill(out, waveform, start, step, scale)
 }
 
-fn fill_wave(
-    wave: &[f64; 4097],
-    out: &mut [f64],
-    start: Radians,
-    step: Radians,
-    scale: f64,
-) -> Radians
-    ensures { λ r. ⌜ FilledBy (valueIn (now (wave .entry)) Sine (step .0)) (start .0) (step .0) scale (now (out .entry)) (now (out .exit)) r ⌝ }
+fn fill_wave(wave: &[f64], out: &mut [f64], start: Radians, step: Radians, scale: f64) -> Radians
+    ensures { λ r. ⌜ FilledBy (λ (p : Float). wholeReading (now (wave .entry)) (normalOf p)) (start .0) (step .0) scale (now (out .entry)) (now (out .exit)) r ⌝ }
 {
     let mut angle = start.0;
     let mut i = 0;

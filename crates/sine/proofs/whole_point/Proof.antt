@@ -14,23 +14,23 @@ whole-part-requires c κs = search needs
 cast-i : tie.Need-cast-i
 cast-i c = search needs
 
-element-copy-out-line : tie.Need-element-copy-out-line
-element-copy-out-line c = search needs
+shared-slice-read-line : tie.Need-shared-slice-read-line
+shared-slice-read-line c = search needs
 
-element-copy-out-line-2 : tie.Need-element-copy-out-line-2
-element-copy-out-line-2 c = search needs
+shared-slice-read-line-2 : tie.Need-shared-slice-read-line-2
+shared-slice-read-line-2 c = search needs
 
 line-requires : tie.Need-line-requires
 line-requires c κs = search needs
 
 returns : tie.Need-returns
-returns c = c .line .ensures ∙ sym (whole-last (c .before .before .before .before .before .args .wave .now) (c .before .before .before .before .before .args .p) (sym (c .before .before .before .before .whole-part .ensures .0) ∙ c .before .before .before .if1 .taken))
+returns c = c .line .ensures ∙ sym (whole-last (c .before .before .before .before .before .before .args .wave .now) (c .before .before .before .before .before .before .args .p) (sym (c .before .before .before .before .whole-part .ensures .0) ∙ c .before .before .before .if1 .taken))
 
 mul-line : tie.Need-mul-line
 mul-line c = search needs
 
-element-copy-out-line-3 : tie.Need-element-copy-out-line-3
-element-copy-out-line-3 c = search needs
+shared-slice-read-line-3 : tie.Need-shared-slice-read-line-3
+shared-slice-read-line-3 c = search needs
 
 add-line : tie.Need-add-line
 add-line c = search needs
@@ -38,8 +38,8 @@ add-line c = search needs
 mul-line-2 : tie.Need-mul-line-2
 mul-line-2 c = search needs
 
-element-copy-out-line-4 : tie.Need-element-copy-out-line-4
-element-copy-out-line-4 c = search needs
+shared-slice-read-line-4 : tie.Need-shared-slice-read-line-4
+shared-slice-read-line-4 c = search needs
 
 int-to-float-line : tie.Need-int-to-float-line
 unfolding inFloat
@@ -49,7 +49,7 @@ line-requires-2 : tie.Need-line-requires-2
 line-requires-2 c κs = search needs
 
 returns-2 : tie.Need-returns-2
-returns-2 c = c .line2 .ensures ∙ sym (whole-at (c .before .before .before .before .before .before .args .wave .now) (c .before .before .before .before .before .before .args .p) _ (c .before .before .before .before .before .whole-part .ensures .0) (c .before .before .before .before .if1 .left))
+returns-2 c = c .line2 .ensures ∙ sym (whole-at (c .before .before .before .before .before .before .before .args .wave .now) (c .before .before .before .before .before .before .before .args .p) _ (c .before .before .before .before .before .whole-part .ensures .0) (c .before .before .before .before .if1 .left))
 
 pub whole-point-spec : {M : Type 1} → statement M
 whole-point-spec =
@@ -57,15 +57,15 @@ whole-point-spec =
     (tie.spec
     whole-part-requires
     cast-i
-    element-copy-out-line
-    element-copy-out-line-2
+    shared-slice-read-line
+    shared-slice-read-line-2
     line-requires
     returns
     mul-line
-    element-copy-out-line-3
+    shared-slice-read-line-3
     add-line
     mul-line-2
-    element-copy-out-line-4
+    shared-slice-read-line-4
     int-to-float-line
     line-requires-2
     returns-2)

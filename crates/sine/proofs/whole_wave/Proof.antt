@@ -8,7 +8,7 @@ quarter-wave-requires : tie.Need-quarter-wave-requires
 quarter-wave-requires c κs = search needs
 
 rise-requires : tie.Need-rise-requires
-rise-requires c κs = (c .before .before .quarter-wave .ensures, blank _)
+rise-requires c κs = (c .before .before .before .quarter-wave .ensures, blank _)
 
 fall-requires : tie.Need-fall-requires
 fall-requires c κs = search needs

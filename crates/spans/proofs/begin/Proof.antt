@@ -1,23 +1,111 @@
--- `spans::begin` meets its contract. Assumes nothing.
-use Prim.Native.Nat.{_+_}
-use Rattle.spans.proofs.Acting.{begun-by}
+-- `spans::begin` meets its contract. The loop's invariant: what is left to do gives what all does, and what is seen of the next record is so. Assumes nothing.
 use borrow.Author.Needs.{needs}
+use mathlib.Core.Path.{_≡_, refl, sym, ap, _∙_}
+use Prim.Native.Nat.{_-_, _+_}
+use native.Mathlib.Omega.{arith}
+use Rattle.score.specs.Record.{countOf}
+use Rattle.spans.specs.declared.Place.{Place}
+use Rattle.spans.specs.Walk.{actFrom}
+use Rattle.spans.specs.Walker.{placeIn, Sees}
+use Rattle.spans.proofs.Acting.{act-on, act-stop, is-there, begun-by}
+use Rattle.spans.proofs.Offsets.{stands-so}
 use Rattle.spans.proofs.begin.Statement.{statement}
 use Rattle.spans.proofs.begin.Tie as tie
 
-begins-at-requires : tie.Need-begins-at-requires
-begins-at-requires c κs = search needs
+abbrev Inv-loop : tie.InvT-loop
+Inv-loop settings score position offset at₀ at =
+    Sees score position at × (actFrom settings score (position + offset) (countOf score - at₀ .next) (placeIn at₀) ≡ actFrom settings score (position + offset) (countOf score - at .next) (placeIn at))
 
-settled-requires : tie.Need-settled-requires
+abbrev μ-loop : tie.MeasureT-loop
+μ-loop settings score position offset at₀ at = countOf score - at .next
+
+into-block-requires : tie.Need-into-block-requires Inv-loop μ-loop
+into-block-requires c κs = search needs
+
+stands-at-requires : tie.Need-stands-at-requires Inv-loop μ-loop
+stands-at-requires c κs = search needs
+
+settled-requires : tie.Need-settled-requires Inv-loop μ-loop
 settled-requires c κs = search needs
 
-act-from-requires : tie.Need-act-from-requires
-act-from-requires c κs = search needs
+loop-holds : tie.Need-loop-holds Inv-loop μ-loop
+loop-holds c = (c .before .before .before .before .pre, refl)
 
-returns : tie.Need-returns
+stands-at-requires-2 : tie.Need-stands-at-requires-2 Inv-loop μ-loop
+stands-at-requires-2 c κs = search needs
+
+record-at-requires : tie.Need-record-at-requires Inv-loop μ-loop
+record-at-requires c κs = search needs
+
+event-of-requires : tie.Need-event-of-requires Inv-loop μ-loop
+event-of-requires c κs = search needs
+
+act-requires : tie.Need-act-requires Inv-loop μ-loop
+act-requires c κs = search needs
+
+add-next : tie.Need-add-next Inv-loop μ-loop
+add-next c =
+    let test = c .before .before .before .before in
+    let at = test .before .before in
+    let start = at .before .before .before .before .before in
+    let a = start .args in
+    let h = is-there (a .score .now) _ _ (stands-so (a .score .now) (a .position) (a .offset) (at .loop .at) _ _ (at .loop .inv .0) (test .before .stands-at2 .ensures) (test .if1 .taken)) in
+    let good = start .good .1 .0 in
+    omega (arith, h)
+
+walker-at-requires : tie.Need-walker-at-requires Inv-loop μ-loop
+walker-at-requires c κs = search needs
+
+loop-less : tie.Need-loop-less Inv-loop μ-loop
+loop-less c =
+    let test = c .before .before .before .before .before in
+    let at = test .before .before in
+    let a = at .before .before .before .before .before .args in
+    let h = is-there (a .score .now) _ _ (stands-so (a .score .now) (a .position) (a .offset) (at .loop .at) _ _ (at .loop .inv .0) (test .before .stands-at2 .ensures) (test .if1 .taken)) in
+    let q = ap (λ (p : Place). p .next) (c .walker-at .ensures .place) in
+    omega arith
+
+loop-again : tie.Need-loop-again Inv-loop μ-loop
+loop-again c =
+    let test = c .before .before .before .before .before in
+    let at = test .before .before in
+    let a = at .before .before .before .before .before .args in (
+      c .walker-at .ensures .sees,
+      at .loop .inv .1 ∙ act-on (a .settings) (a .score .now) (a .position + a .offset) (at .loop .at .next) (at .loop .at .state) (placeIn (c .walker-at .result))
+          (stands-so (a .score .now) (a .position) (a .offset) (at .loop .at) _ _ (at .loop .inv .0) (test .before .stands-at2 .ensures) (test .if1 .taken))
+          (c .walker-at .ensures .place ∙ rw (c .before .before .act .ensures, c .before .before .before .event-of .ensures, c .before .before .before .before .record-at .ensures) refl),
+    )
+
+returns : tie.Need-returns Inv-loop μ-loop
 returns c =
-    let a = c .before .before .before .before .args in
-    rw (c .act-from .ensures, c .before .settled .ensures, c .before .before .begins-at .ensures) (begun-by (a .settings) (a .score .now) (a .position + a .offset) (a .place))
+    let at = c .before .before in
+    let made = at .before in
+    let start = made .before .before .before .before in
+    let a = start .args in
+    let f = stands-so (a .score .now) (a .position) (a .offset) (at .loop .at) _ _ (at .loop .inv .0) (c .before .stands-at2 .ensures) (c .if1 .left) in
+    record {
+      place =
+          sym (act-stop (a .settings) (a .score .now) (a .position + a .offset) _ (placeIn (at .loop .at)) f) ∙ sym (at .loop .inv .1)
+          ∙ rw (made .settled .ensures, made .before .before .into-block .ensures, made .before .stands-at .ensures, start .pre (a .offset)) (begun-by (a .settings) (a .score .now) (a .position + a .offset) (a .walker .next) (a .walker .state));
+      sees = at .loop .inv .0;
+    }
 
 pub begin-spec : {M : Type 1} → statement M
-begin-spec = tie.close (tie.spec begins-at-requires settled-requires act-from-requires returns)
+begin-spec =
+    tie.close
+    (tie.spec
+    Inv-loop
+    μ-loop
+    into-block-requires
+    stands-at-requires
+    settled-requires
+    loop-holds
+    stands-at-requires-2
+    record-at-requires
+    event-of-requires
+    act-requires
+    add-next
+    walker-at-requires
+    loop-less
+    loop-again
+    returns)

@@ -1,72 +1,24 @@
--- `spans::play_short` meets its contract. The loop's invariant is `Upto` of proofs/Loops.antt. Assumes nothing.
+-- `spans::play_short` meets its contract. Assumes nothing.
 use borrow.Author.Needs.{needs}
-use Prim.Native.Nat.{_-_}
+use mathlib.Core.Path.{_≡_, sym}
+use mathlib.Core.List.{[]}
 use native.Mathlib.Omega.{arith}
 use lib.ListN.{length}
-use Rattle.spans.proofs.Loops.{Upto, begins, goes-on, ends}
+use Rattle.waveform.proofs.Lent.{table-unread}
 use Rattle.spans.proofs.play_short.Statement.{statement}
 use Rattle.spans.proofs.play_short.Tie as tie
 
-abbrev Inv-loop : tie.InvT-loop
-Inv-loop settings score position part₀ at₀ i₀ part at i = Upto settings score position at₀ part₀ part at i
+slice-aggregate-play-in : tie.Need-slice-aggregate-play-in
+slice-aggregate-play-in c = search needs
 
-abbrev μ-loop : tie.MeasureT-loop
-μ-loop settings score position part₀ at₀ i₀ part at i = length part₀ - i
+play-in-requires : tie.Need-play-in-requires
+play-in-requires c κs w step p = sym (table-unread [] w step p (λ _ l. omega arith))
 
-loop-holds : tie.Need-loop-holds Inv-loop μ-loop
-loop-holds c = begins _ _ _ _ _
+same-length : tie.Need-same-length
+same-length c = search needs
 
-begin-requires : tie.Need-begin-requires Inv-loop μ-loop
-begin-requires c κs = search needs
-
-span-end-requires : tie.Need-span-end-requires Inv-loop μ-loop
-span-end-requires c κs = search needs
-
-mul-sound : tie.Need-mul-sound Inv-loop μ-loop
-mul-sound c = search needs
-
-sub-sound : tie.Need-sub-sound Inv-loop μ-loop
-sub-sound c = omega (arith, c .span-end .ensures .after)
-
-part-sound-start : tie.Need-part-sound-start Inv-loop μ-loop
-part-sound-start c = omega (arith, c .span-end .ensures .after)
-
-part-sound-end : tie.Need-part-sound-end Inv-loop μ-loop
-part-sound-end c = c .span-end .ensures .within
-
-sound-requires : tie.Need-sound-requires Inv-loop μ-loop
-sound-requires c κs = search needs
-
-loop-less : tie.Need-loop-less Inv-loop μ-loop
-loop-less c = omega arith
-
-loop-again : tie.Need-loop-again Inv-loop μ-loop
-loop-again c =
-    let turn = c .before .before .before .before in
-    let at = turn .before .before .before in
-    goes-on _ _ _ _ _ _ _ _ _ _ _ _ (at .loop .inv) (turn .before .begin .ensures) (turn .span-end .ensures) (c .before .before .sound .ensures)
-
-same-length : tie.Need-same-length Inv-loop μ-loop
-same-length c = c .before .loop .inv .size
-
-returns : tie.Need-returns Inv-loop μ-loop
-returns c = ends _ _ _ _ _ _ _ _ (c .before .loop .inv) (omega arith)
+returns : tie.Need-returns
+returns c = search needs
 
 pub play-short-spec : {M : Type 1} → statement M
-play-short-spec =
-    tie.close
-    (tie.spec
-    Inv-loop
-    μ-loop
-    loop-holds
-    begin-requires
-    span-end-requires
-    mul-sound
-    sub-sound
-    part-sound-start
-    part-sound-end
-    sound-requires
-    loop-less
-    loop-again
-    same-length
-    returns)
+play-short-spec = tie.close (tie.spec slice-aggregate-play-in play-in-requires same-length returns)

@@ -11,7 +11,7 @@ returns : tie.Need-returns
 returns c = rw (c .before .if1 .taken, c .reduce .ensures) refl
 
 returns-2 : tie.Need-returns-2
-returns-2 c = search needs
+returns-2 c = rw (c .if1 .left) refl
 
 pub settled-spec : {M : Type 1} → statement M
 settled-spec = tie.close (tie.spec reduce-requires returns returns-2)

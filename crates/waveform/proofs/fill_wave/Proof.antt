@@ -4,15 +4,16 @@ use mathlib.Core.Path.{refl}
 use Prim.Native.Nat.{_-_}
 use native.Mathlib.Omega.{arith}
 use lib.ListN.{length}
-use Rattle.waveform.specs.declared.Waveform.the-variants.{Sine}
-use Rattle.waveform.specs.Filled.{valueIn}
+use lib.Ieee.{Float}
+use Rattle.sine.specs.Whole.{wholeReading}
+use Rattle.waveform.specs.Waveform.{normalOf}
 use Rattle.waveform.specs.Lines.{Upto}
 use Rattle.waveform.proofs.Loops.{begins, goes-on, ends}
 use Rattle.waveform.proofs.fill_wave.Statement.{statement}
 use Rattle.waveform.proofs.fill_wave.Tie as tie
 
 abbrev Inv-loop : tie.InvT-loop
-Inv-loop wave out₀ step scale angle₀ i₀ out angle i = Upto (valueIn wave Sine (step .0)) (step .0) scale angle₀ out₀ out angle i
+Inv-loop wave out₀ step scale angle₀ i₀ out angle i = Upto (λ (p : Float). wholeReading wave (normalOf p)) (step .0) scale angle₀ out₀ out angle i
 
 abbrev μ-loop : tie.MeasureT-loop
 μ-loop wave out₀ step scale angle₀ i₀ out angle i = length out₀ - i
@@ -39,7 +40,6 @@ loop-less : tie.Need-loop-less Inv-loop μ-loop
 loop-less c = omega arith
 
 loop-again : tie.Need-loop-again Inv-loop μ-loop
-unfolding valueIn
 loop-again c =
     let turn = c .before .before in
     let at = turn .before .before in
