@@ -1,12 +1,13 @@
 -- A continuing call on the words of a state is that call on the state, its answer packed; where its word has number 0 it has made the whole part. Assumes nothing.
 use mathlib.Core.Path.{_≡_, refl, ap, _∙_}
 use mathlib.Core.Bool.{true}
-use mathlib.Core.List.{List, [], _∷_, _++_}
+use mathlib.Core.List.{List, [], _∷_}
 use Prim.Native.Nat.{ℕ}
 use lib.ListN.{length}
 use lib.Ieee.{Float}
-use Rattle.answers.specs.declared.Answer.the-variants.{Done}
-use Rattle.answers.proofs.Order.{none-both, done-none}
+use Rattle.answers.specs.declared.Answer.the-variants.{Done, Refused}
+use Rattle.answers.specs.Order.{firstOf}
+use Rattle.answers.proofs.Order.{done-none}
 use Rattle.shelf.specs.declared.Entry.{Entry}
 use Rattle.shelf.specs.Shelf.{entryOf, stateOf, isEntry, decodedOf}
 use Rattle.shelf.proofs.Back.{entry-is-state}
@@ -18,9 +19,9 @@ use Rattle.render.specs.Calls.{isGiven, continueRefusals, continueOf}
 use Rattle.render.proofs.Outcomes.{continue-decided}
 use Rattle.demands.specs.Chain.{Step}
 use Rattle.demands.proofs.Link.{after, onward}
+use Rattle.desk.specs.declared.Choice.the-variants.{Known}
 use Rattle.desk.specs.Packed.{packedOf, numbersIn}
-use Rattle.desk.specs.Desk.{Continued, continues, Asked, settingsOf, isCode, codeRefusals, isGivenIn, continueFor}
-use Rattle.desk.proofs.Fits.{continueSays}
+use Rattle.desk.specs.Desk.{Continued, continues, Asked, choiceOf, isGivenIn, continueIn, continueFor}
 use Rattle.desk.proofs.ReadBack.{continue-says}
 use Rattle.boundary.specs.WordsChain.{andThen, wordsChainFrom}
 use Rattle.boundary.proofs.Zero.{zero-done}
@@ -29,10 +30,7 @@ use Rattle.boundary.proofs.Zero.{zero-done}
 abbrev pub Read : State → Type 0
 Read v = decodedOf (entryOf v) ≡ record { holds = true; state = v }
 
-module _ (a : Asked) (v : State) (read : Read v) (p : ℕ) where
-  abbrev g : Settings
-  g = settingsOf a
-
+module _ (a : Asked) (g : Settings) (is : choiceOf a ≡ Known g) (v : State) (read : Read v) (p : ℕ) where
   is-entry : isEntry (entryOf v) ≡ true
   is-entry = ap (λ (e : Entry). e .holds) read
 
@@ -43,21 +41,21 @@ module _ (a : Asked) (v : State) (read : Read v) (p : ℕ) where
   same-refusals : (s : List ℕ) (n : ℕ) → continueRefusals g s (isGivenIn s p (entryOf v)) p n ≡ continueRefusals g s (isGiven s p v) p n
   same-refusals s n = let is-state : isState v ≡ true = rw read-as at (entry-is-state (entryOf v) is-entry) in rw (is-entry, read-as, is-state) refl
 
-  pub zero-whole : (s : List ℕ) (part : List Float) → numbersIn (continueFor a s (entryOf v) p part .result) .number ≡ 0 → continueOf g s v p part .result .answer ≡ Done (length part)
+  pub zero-whole : (s : List ℕ) (part : List Float) → numbersIn (continueFor (choiceOf a) s (entryOf v) p part .result) .number ≡ 0 → continueOf g s v p part .result .answer ≡ Done (length part)
   zero-whole s part z =
       let n = length part in
-      let later = continueRefusals g s (isGivenIn s p (entryOf v)) p n in
-      let d = zero-done (continueSays a s (entryOf v) p n) (rw (continue-says a s (entryOf v) p part) at z) in
-      let none : later ≡ [] = none-both (codeRefusals (a .code)) later (done-none (codeRefusals (a .code) ++ later) n (d .0) (d .1)) .1 in
+      let refusals = continueRefusals g s (isGivenIn s p (entryOf v)) p n in
+      let d = zero-done (firstOf refusals Refused (Done n)) (rw (continue-says (choiceOf a) s (entryOf v) p part, is) at z) in
+      let none : refusals ≡ [] = done-none refusals n (d .0) (d .1) in
       continue-decided g s v p part .is-done (rw (same-refusals s n) at none)
 
   -- the first call of a chain, done, leaves its samples, and the rest goes on from the words of the state after them
-  module _ (is : isCode (a .code) ≡ true) (x : Step) (xs : List Step) where
+  module _ (x : Step) (xs : List Step) where
     abbrev n : ℕ
     n = length (x .part)
 
-    in-words : continueOf g (x .score) v p (x .part) .result .answer ≡ Done n → continueFor a (x .score) (entryOf v) p (x .part) ≡ continues (packedOf (Done n)) (samplesFrom g (x .score) p v n) (entryOf (stateFrom g (x .score) p v n))
-    unfolding continueFor
+    in-words : continueOf g (x .score) v p (x .part) .result .answer ≡ Done n → continueFor (choiceOf a) (x .score) (entryOf v) p (x .part) ≡ continues (packedOf (Done n)) (samplesFrom g (x .score) p v n) (entryOf (stateFrom g (x .score) p v n))
+    unfolding continueIn
     in-words e =
         let none : continueRefusals g (x .score) (isGivenIn (x .score) p (entryOf v)) p n ≡ [] = same-refusals (x .score) n ∙ continue-decided g (x .score) v p (x .part) .done n e in
         rw (is, none, read-as) refl

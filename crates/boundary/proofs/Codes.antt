@@ -1,25 +1,30 @@
--- The settings that a host asks for have the host's own sustain; and a call that does not answer 6 tells that the code is one. Assumes nothing.
-use mathlib.Core.Path.{_≡_, refl}
-use mathlib.Core.Bool.{Bool, true, false}
-use mathlib.Core.List.{List}
-use Prim.Native.Nat.{ℕ}
+-- What a host asks for is known or unknown. Known, the settings have the host's own sustain; a call that does not answer 6 tells that they are. Assumes nothing.
+use mathlib.Core.Path.{_≡_, refl, subst, ap}
 use lib.Dec.{T}
 use lib.Ieee.{Float, binary64, fits}
-use Rattle.render.specs.Calls.{renderOf}
-use Rattle.desk.specs.Desk.{Asked, settingsOf, isCode, rendered, renderFor}
+use Rattle.state.specs.declared.Settings.{Settings}
+use Rattle.desk.specs.declared.Shape.{Shape}
+use Rattle.desk.specs.declared.Shape.the-variants as shape
+use Rattle.desk.specs.declared.Choice.{Choice}
+use Rattle.desk.specs.declared.Choice.the-variants.{Known, Unknown}
+use Rattle.desk.specs.Desk.{Asked, shapeOf, settingsOf, choiceFor, choiceOf}
+use Rattle.score.proofs.Parted.{clash}
 
-pub is-known : (a : Asked) → (isCode (a .code) ≡ false → ⊥) → isCode (a .code) ≡ true
-is-known a n = go (isCode (a .code)) refl
+pub record IsKnown (a : Asked) : Type 0 where
+  pub settings : Settings
+  pub known : choiceOf a ≡ Known settings
+
+pub is-known : (a : Asked) → (choiceOf a ≡ Unknown → ⊥) → IsKnown a
+is-known a n = go (choiceOf a) refl
   where
-    go : (t : Bool) → isCode (a .code) ≡ t → t ≡ true
-    go true e = refl
-    go false e = absurd (n e)
+    go : (c : Choice) → choiceOf a ≡ c → IsKnown a
+    go (Known g) e = record { settings = g; known = e }
+    go Unknown e = absurd (n e)
 
-pub sustain-fits : (a : Asked) → T (fits binary64 (a .sustain)) → T (fits binary64 (settingsOf a .adsr .sustain))
-unfolding settingsOf
-sustain-fits a w = w
-
--- a render under a code that is one
-pub known-render : (a : Asked) → isCode (a .code) ≡ true → (s : List ℕ) (out : List Float) (shelf : List ℕ) → renderFor a s out shelf ≡ rendered (renderOf (settingsOf a) s out shelf)
-unfolding renderFor
-known-render a is s out shelf = rw is refl
+pub sustain-fits : (a : Asked) → T (fits binary64 (a .sustain)) → (g : Settings) → choiceOf a ≡ Known g → T (fits binary64 (g .adsr .sustain))
+unfolding choiceOf
+sustain-fits a w g e = go (shapeOf (a .code) (a .duty)) e
+  where
+    go : (x : Shape) → choiceFor x a ≡ Known g → T (fits binary64 (g .adsr .sustain))
+    go (shape.Known f) e = let q : settingsOf a f ≡ g = cc in subst (λ (x : Float). T (fits binary64 x)) (ap (λ (h : Settings). h .adsr .sustain) q) w
+    go shape.Unknown e = absurd (clash (cc))

@@ -16,6 +16,7 @@ use Rattle.answers.specs.declared.Answer.the-variants.{Done}
 use Rattle.answers.specs.declared.Refusal.the-variants.{Setting}
 use Rattle.shelf.specs.Shelf.{entryWords, wordsFor, entryOf}
 use Rattle.score.specs.Record.{countOf}
+use Rattle.state.specs.declared.Settings.{Settings}
 use Rattle.state.specs.Settings.{settingsOk}
 use Rattle.state.specs.State.{freshOf}
 use Rattle.judging.specs.Judging.{most}
@@ -24,11 +25,13 @@ use Rattle.render.specs.Calls.{renderOf}
 use Rattle.demands.specs.Chain.{Step, samplesOf, lastOf, doneAll, Grows, AllAccepted, NoneAddedBelow}
 use Rattle.demands.proofs.Honest.{render-passed}
 use Rattle.demands.proofs.Chain.{chain, chain-done}
+use Rattle.desk.specs.declared.Choice.{Choice}
+use Rattle.desk.specs.declared.Choice.the-variants.{Known}
 use Rattle.desk.specs.Packed.{packedOf}
-use Rattle.desk.specs.Desk.{Continued, Asked, settingsOf, isCode, renderFor, continueFor, freshFor}
+use Rattle.desk.specs.Desk.{Continued, Asked, choiceOf, renderFor, continueFor, freshFor}
 use Rattle.boundary.specs.WordsChain.{wordsChainFrom, endWords, AllZero}
 use Rattle.boundary.proofs.Zero.{refused-not-zero, zero-done, done-zero}
-use Rattle.boundary.proofs.Codes.{is-known, known-render, sustain-fits}
+use Rattle.boundary.proofs.Codes.{IsKnown, is-known, sustain-fits}
 use Rattle.boundary.proofs.Tells.{zero-all, tells, stands-fresh}
 
 -- what gav_fresh leaves in twelve words
@@ -44,9 +47,9 @@ done-zeros (x ∷ xs) = (done-zero (length (x .part)), done-zeros xs)
 -- each call counts its part, and together they leave what one render of the last score leaves, which is done
 pub record OneDeskRender (a : Asked) (xs : List Step) (out : List Float) (shelf : List ℕ) (o : Continued (List ℕ)) : Type 0 where
   pub result : o .result ≡ map packedOf (doneAll xs)
-  pub done : renderFor a (lastOf [] xs) out shelf .result ≡ packedOf (Done (samplesOf xs))
-  pub heard : o .heard ≡ renderFor a (lastOf [] xs) out shelf .heard
-  pub words : o .words ≡ endWords a (lastOf [] xs) out shelf
+  pub done : renderFor (choiceOf a) (lastOf [] xs) out shelf .result ≡ packedOf (Done (samplesOf xs))
+  pub heard : o .heard ≡ renderFor (choiceOf a) (lastOf [] xs) out shelf .heard
+  pub words : o .words ≡ endWords (choiceOf a) (lastOf [] xs) out shelf
 
 module _ (a : Asked) (sus : T (fits binary64 (a .sustain))) (room : List ℕ) (twelve : length room ≡ entryWords) where
   -- the calls of a chain, from what gav_fresh leaves
@@ -57,27 +60,28 @@ module _ (a : Asked) (sus : T (fits binary64 (a .sustain))) (room : List ℕ) (t
   from-fresh xs = ap (λ (ws : List ℕ). wordsChainFrom a ws 0 xs) (fresh-left room twelve)
 
   -- unknown settings are refused at once
-  settings-known : (x : Step) (xs : List Step) → AllZero (calls (x ∷ xs) .result) → isCode (a .code) ≡ true
-  unfolding wordsChainFrom continueFor
+  settings-known : (x : Step) (xs : List Step) → AllZero (calls (x ∷ xs) .result) → IsKnown a
+  unfolding wordsChainFrom
   settings-known x xs z = is-known a (λ e. refused-not-zero Setting (rw e at (z .0)))
 
   pub desk-chain : (x : Step) (xs : List Step) → Grows [] (x ∷ xs) → AllZero (calls (x ∷ xs) .result)
       → (out : List Float) (shelf : List ℕ) → length out ≡ samplesOf (x ∷ xs) → length shelf ≡ wordsFor (length out) → OneDeskRender a (x ∷ xs) out shelf (calls (x ∷ xs))
   desk-chain x xs grow z out shelf e l =
-      let g = settingsOf a in
-      let is = settings-known x xs z in
-      let fit = sustain-fits a sus in
-      let h = stands-fresh a is fit in
-      let d = zero-all a is fit (x ∷ xs) [] 0 (freshOf 0) h grow (subst (λ (o : Continued (List ℕ)). AllZero (o .result)) (from-fresh (x ∷ xs)) z) in
-      let t = tells a is fit (x ∷ xs) [] 0 (freshOf 0) h grow d in
+      let q = settings-known x xs z in
+      let g = q .settings in
+      let is = q .known in
+      let fit = sustain-fits a sus g is in
+      let h = stands-fresh a g is fit in
+      let d = zero-all a g is fit (x ∷ xs) [] 0 (freshOf 0) h grow (subst (λ (o : Continued (List ℕ)). AllZero (o .result)) (from-fresh (x ∷ xs)) z) in
+      let t = tells a g is fit (x ∷ xs) [] 0 (freshOf 0) h grow d in
       let c = chain g x xs grow d out shelf e l in
-      let r = known-render a is (lastOf [] (x ∷ xs)) out shelf in
+      let r = ap (λ (c : Choice). renderFor c (lastOf [] (x ∷ xs)) out shelf) is in
       subst (OneDeskRender a (x ∷ xs) out shelf) (sym (from-fresh (x ∷ xs)))
       (record {
         result = t .result;
         done = ap (λ (o : Outcome ℕ). o .result) r ∙ ap packedOf (c .done);
         heard = t .heard ∙ c .heard ∙ sym (ap (λ (o : Outcome ℕ). o .heard) r);
-        words = t .words ∙ ap entryOf (c .state);
+        words = rw is (t .words ∙ ap entryOf (c .state));
       })
 
   -- ---- the lemma
@@ -86,35 +90,34 @@ module _ (a : Asked) (sus : T (fits binary64 (a .sustain))) (room : List ℕ) (t
     pub zero-only-if : AllZero (calls xs .result) → NoneAddedBelow [] 0 xs
     pub zero-if : NoneAddedBelow [] 0 xs → AllZero (calls xs .result)
 
-  pub desk-chain-done : isCode (a .code) ≡ true → settingsOk (settingsOf a) ≡ true → (xs : List Step) → AllAccepted xs → Grows [] xs → samplesOf xs ≤ most → ZeroExactly xs
-  desk-chain-done is ok xs b grow l =
-      let g = settingsOf a in
-      let fit = sustain-fits a sus in
-      let h = stands-fresh a is fit in
+  pub desk-chain-done : (g : Settings) → choiceOf a ≡ Known g → settingsOk g ≡ true → (xs : List Step) → AllAccepted xs → Grows [] xs → samplesOf xs ≤ most → ZeroExactly xs
+  desk-chain-done g is ok xs b grow l =
+      let fit = sustain-fits a sus g is in
+      let h = stands-fresh a g is fit in
       let c = chain-done g ok fit xs b grow l in
       record {
-        zero-only-if = λ z. c .done-only-if (zero-all a is fit xs [] 0 (freshOf 0) h grow (subst (λ (o : Continued (List ℕ)). AllZero (o .result)) (from-fresh xs) z));
-        zero-if = λ f. rw (from-fresh xs, tells a is fit xs [] 0 (freshOf 0) h grow (c .done-if f) .result) (done-zeros xs);
+        zero-only-if = λ z. c .done-only-if (zero-all a g is fit xs [] 0 (freshOf 0) h grow (subst (λ (o : Continued (List ℕ)). AllZero (o .result)) (from-fresh xs) z));
+        zero-if = λ f. rw (from-fresh xs, tells a g is fit xs [] 0 (freshOf 0) h grow (c .done-if f) .result) (done-zeros xs);
       }
 
   -- ---- one call
   -- gav_render tells no end state: the words left last are those that one gav_continue of the last score over the whole output leaves
   pub one-call : (x : Step) (xs : List Step) → Grows [] (x ∷ xs) → AllZero (calls (x ∷ xs) .result) → (out : List Float) → length out ≡ samplesOf (x ∷ xs)
-      → calls (x ∷ xs) .words ≡ continueFor a (lastOf [] (x ∷ xs)) (freshFor room .left) 0 out .words
+      → calls (x ∷ xs) .words ≡ continueFor (choiceOf a) (lastOf [] (x ∷ xs)) (freshFor room .left) 0 out .words
   unfolding wordsChainFrom
   one-call x xs grow z out e =
       let s = lastOf [] (x ∷ xs) in
-      let g = settingsOf a in
-      let is = settings-known x xs z in
+      let q = settings-known x xs z in
+      let g = q .settings in
       let n = length out in
       let shelf : List ℕ = replicate (wordsFor n) 0 in
       let fit : length shelf ≡ wordsFor n = length-replicate (wordsFor n) 0 in
       let many = desk-chain x xs grow z out shelf e fit in
-      let said : packedOf (renderOf g s out shelf .result .answer) ≡ packedOf (Done (samplesOf (x ∷ xs))) = sym (ap (λ (o : Outcome ℕ). o .result) (known-render a is s out shelf)) ∙ many .done in
+      let said : packedOf (renderOf g s out shelf .result .answer) ≡ packedOf (Done (samplesOf (x ∷ xs))) = sym (ap (λ (c : Choice). renderFor c s out shelf .result) (q .known)) ∙ many .done in
       let d = zero-done (renderOf g s out shelf .result .answer) (rw said (done-zero (samplesOf (x ∷ xs)))) in
       let p = render-passed g s out shelf (d .0) (d .1) in
       let short : n ≤ most = roomy n (length shelf) (p .sized) .short in
       let whole : Step = record { score = s; part = out } in
       let grows : Grows [] (whole ∷ []) = (record { added = s; grown = refl }, tt) in
-      let zeros = desk-chain-done is (p .settings) (whole ∷ []) ((countOf s, p .accepted), tt) grows (omega arith) .zero-if ((λ i a b. omega arith), tt) in
+      let zeros = desk-chain-done g (q .known) (p .settings) (whole ∷ []) ((countOf s, p .accepted), tt) grows (omega arith) .zero-if ((λ i a b. omega arith), tt) in
       many .words ∙ sym (desk-chain whole [] grows zeros out shelf (omega arith) fit .words)

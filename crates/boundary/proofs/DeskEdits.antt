@@ -26,13 +26,15 @@ use Rattle.demands.specs.Edits.{editsFrom, lastScore, answersFrom, allCounted}
 use Rattle.demands.proofs.Honest.{render-passed}
 use Rattle.demands.proofs.Demand3.{soundOf, shelvedOf, Taken, Lent, rendered}
 use Rattle.demands.proofs.Edits.{Whole, AllTaken, last-taken, all-edits, all-answers}
+use Rattle.desk.specs.declared.Choice.{Choice}
+use Rattle.desk.specs.declared.Choice.the-variants.{Known}
 use Rattle.desk.specs.Packed.{packedOf}
 use Rattle.desk.specs.Desk as desk
-use Rattle.desk.specs.Desk.{Asked, settingsOf, isCode, renderFor, rerendered, rerenderFor}
+use Rattle.desk.specs.Desk.{Asked, choiceOf, renderFor, rerendered}
 use Rattle.boundary.specs.WordsChain.{AllZero}
 use Rattle.boundary.specs.WordsEdits.{andOver, wordsEditsFrom, wordsEdits}
 use Rattle.boundary.proofs.Zero.{refused-not-zero, zero-done, done-zero}
-use Rattle.boundary.proofs.Codes.{is-known, known-render, sustain-fits}
+use Rattle.boundary.proofs.Codes.{IsKnown, is-known, sustain-fits}
 
 -- a re-render that is done had a new score that is accepted
 done-taken : (g : Settings) (old new : List ℕ) (out : List Float) (shelf : List ℕ) (n : ℕ) → rerenderOf g old new out shelf .result ≡ Done n → Taken new
@@ -54,12 +56,12 @@ abbrev packedEdits : Settings → List ℕ → List (List ℕ) → Outcome Answe
 packedEdits g old news o = leaves (map packedOf (answersFrom g old news o)) (editsFrom g old news o .heard) (editsFrom g old news o .stored)
 
 -- is what the calls leave
-edits-are : (a : Asked) → isCode (a .code) ≡ true → (news : List (List ℕ)) (old : List ℕ) (o : Outcome Answer) → wordsEditsFrom a old news (o .heard) (o .stored) ≡ packedEdits (settingsOf a) old news o
-unfolding wordsEditsFrom editsFrom answersFrom rerenderFor
-edits-are a is [] old o = refl
-edits-are a is (new ∷ rest) old o =
-    let r = rerenderOf (settingsOf a) old new (o .heard) (o .stored) in
-    rw is (ap (andOver (rerendered r)) (edits-are a is rest new r))
+edits-are : (a : Asked) (g : Settings) → choiceOf a ≡ Known g → (news : List (List ℕ)) (old : List ℕ) (o : Outcome Answer) → wordsEditsFrom a old news (o .heard) (o .stored) ≡ packedEdits g old news o
+unfolding wordsEditsFrom editsFrom answersFrom
+edits-are a g is [] old o = refl
+edits-are a g is (new ∷ rest) old o =
+    let r = rerenderOf g old new (o .heard) (o .stored) in
+    rw is (ap (andOver (rerendered r)) (edits-are a g is rest new r))
 
 counted-zeros : (g : Settings) (n : ℕ) (news : List (List ℕ)) (old : List ℕ) → AllZero (map packedOf (allCounted g old news n))
 unfolding allCounted
@@ -69,11 +71,12 @@ counted-zeros g n (new ∷ rest) old = (done-zero (countFor g old new (planOf ol
 -- ---- the theorem
 -- each call counts the samples of its plan, of n, and together they leave what one render of the last score leaves, which is done
 pub record LastDeskRender (a : Asked) (first : List ℕ) (news : List (List ℕ)) (n : ℕ) (out : List Float) (shelf : List ℕ) (o : Outcome (List ℕ)) : Type 0 where
-  pub known : isCode (a .code) ≡ true
-  pub result : o .result ≡ packedOf (Done n) ∷ map packedOf (allCounted (settingsOf a) first news n)
-  pub done : renderFor a (lastScore first news) out shelf .result ≡ packedOf (Done n)
-  pub heard : o .heard ≡ renderFor a (lastScore first news) out shelf .heard
-  pub stored : o .stored ≡ renderFor a (lastScore first news) out shelf .stored
+  pub settings : Settings
+  pub known : choiceOf a ≡ Known settings
+  pub result : o .result ≡ packedOf (Done n) ∷ map packedOf (allCounted settings first news n)
+  pub done : renderFor (choiceOf a) (lastScore first news) out shelf .result ≡ packedOf (Done n)
+  pub heard : o .heard ≡ renderFor (choiceOf a) (lastScore first news) out shelf .heard
+  pub stored : o .stored ≡ renderFor (choiceOf a) (lastScore first news) out shelf .stored
 
 module _ (a : Asked) (sus : T (fits binary64 (a .sustain))) (first : List ℕ) (news : List (List ℕ)) (out : List Float) (shelf : List ℕ) where
   abbrev pub edits : Outcome (List ℕ)
@@ -82,39 +85,36 @@ module _ (a : Asked) (sus : T (fits binary64 (a .sustain))) (first : List ℕ) (
   abbrev n : ℕ
   n = length out
 
-  abbrev g : Settings
-  g = settingsOf a
-
   -- what the edits begin with
-  abbrev begun : Outcome Answer
-  begun = leaves (Done 0) (renderOf g first out shelf .heard) (renderOf g first out shelf .stored)
+  abbrev begun : Settings → Outcome Answer
+  begun g = leaves (Done 0) (renderOf g first out shelf .heard) (renderOf g first out shelf .stored)
 
-  all-packed : isCode (a .code) ≡ true → edits ≡ andOver (desk.rendered (renderOf g first out shelf)) (packedEdits g first news begun)
-  unfolding renderFor
-  all-packed is = rw is (ap (andOver (desk.rendered (renderOf g first out shelf))) (edits-are a is news first begun))
+  all-packed : (g : Settings) → choiceOf a ≡ Known g → edits ≡ andOver (desk.rendered (renderOf g first out shelf)) (packedEdits g first news (begun g))
+  all-packed g is = rw is (ap (andOver (desk.rendered (renderOf g first out shelf))) (edits-are a g is news first (begun g)))
 
   -- where the settings, the sizes and the scores are good
-  module _ (is : isCode (a .code) ≡ true) (ok : settingsOk g ≡ true) (fit : Lent out shelf) (one : Taken first) (b : AllTaken news) where
+  module _ (g : Settings) (is : choiceOf a ≡ Known g) (ok : settingsOk g ≡ true) (fit : Lent out shelf) (one : Taken first) (b : AllTaken news) where
     own : T (fits binary64 (g .adsr .sustain))
-    own = sustain-fits a sus
+    own = sustain-fits a sus g is
 
-    whole : Whole g first n begun
+    whole : Whole g first n (begun g)
     whole = let r = rendered g ok first one out shelf fit in record { heard-is = ap (λ (o : Outcome Rendered). o .heard) r; stored-is = ap (λ (o : Outcome Rendered). o .stored) r }
 
     counted : edits .result ≡ packedOf (Done n) ∷ map packedOf (allCounted g first news n)
     counted =
-        ap (λ (o : Outcome (List ℕ)). o .result) (all-packed is)
-        ∙ ap (λ (o : Outcome Rendered). packedOf (o .result .answer) ∷ map packedOf (answersFrom g first news begun)) (rendered g ok first one out shelf fit)
-        ∙ ap (λ (l : List Answer). packedOf (Done n) ∷ map packedOf l) (all-answers g ok own n (fit .short) first news one b begun whole)
+        ap (λ (o : Outcome (List ℕ)). o .result) (all-packed g is)
+        ∙ ap (λ (o : Outcome Rendered). packedOf (o .result .answer) ∷ map packedOf (answersFrom g first news (begun g))) (rendered g ok first one out shelf fit)
+        ∙ ap (λ (l : List Answer). packedOf (Done n) ∷ map packedOf l) (all-answers g ok own n (fit .short) first news one b (begun g) whole)
 
     left : (out′ : List Float) (shelf′ : List ℕ) → length out′ ≡ n → length shelf′ ≡ length shelf → LastDeskRender a first news n out′ shelf′ edits
     left out′ shelf′ e l =
         let s = lastScore first news in
-        let f = all-packed is in
-        let end = all-edits g ok own n (fit .short) first news one b begun whole in
+        let f = all-packed g is in
+        let end = all-edits g ok own n (fit .short) first news one b (begun g) whole in
         let fit′ : Lent out′ shelf′ = record { short = rw e (fit .short); fits = l ∙ fit .fits ∙ ap wordsFor (sym e) } in
-        let last = known-render a is s out′ shelf′ ∙ ap desk.rendered (rendered g ok s (last-taken first news one b) out′ shelf′ fit′) in
+        let last = ap (λ (c : Choice). renderFor c s out′ shelf′) is ∙ ap desk.rendered (rendered g ok s (last-taken first news one b) out′ shelf′ fit′) in
         record {
+          settings = g;
           known = is;
           result = counted;
           done = ap (λ (o : Outcome ℕ). o .result) last ∙ ap (λ (i : ℕ). packedOf (Done i)) e;
@@ -123,19 +123,20 @@ module _ (a : Asked) (sus : T (fits binary64 (a .sustain))) (first : List ℕ) (
         }
 
   -- unknown settings are refused at once
-  settings-known : AllZero (edits .result) → isCode (a .code) ≡ true
-  unfolding renderFor
+  settings-known : AllZero (edits .result) → IsKnown a
   settings-known z = is-known a (λ e. refused-not-zero Setting (rw e at (z .0)))
 
   pub desk-edits : AllZero (edits .result) → (out′ : List Float) (shelf′ : List ℕ) → length out′ ≡ length out → length shelf′ ≡ length shelf → LastDeskRender a first news (length out) out′ shelf′ edits
   desk-edits z out′ shelf′ e l =
-      let is = settings-known z in
-      let y = subst (λ (o : Outcome (List ℕ)). AllZero (o .result)) (all-packed is) z in
+      let q = settings-known z in
+      let g = q .settings in
+      let is = q .known in
+      let y = subst (λ (o : Outcome (List ℕ)). AllZero (o .result)) (all-packed g is) z in
       let d = zero-done (renderOf g first out shelf .result .answer) (y .0) in
       let p = render-passed g first out shelf (d .0) (d .1) in
       let r = roomy n (length shelf) (p .sized) in
-      left is (p .settings) (record { short = r .short; fits = r .fits }) (record { records = countOf first; accepted = p .accepted }) (zero-taken g news first begun (y .1)) out′ shelf′ e l
+      left g is (p .settings) (record { short = r .short; fits = r .fits }) (record { records = countOf first; accepted = p .accepted }) (zero-taken g news first (begun g) (y .1)) out′ shelf′ e l
 
   -- ---- the lemma: under settings in their domain, for an output and a shelf of sizes that go together and accepted scores, every number is 0
-  pub desk-edits-done : isCode (a .code) ≡ true → settingsOk (settingsOf a) ≡ true → Lent out shelf → Taken first → AllTaken news → AllZero (edits .result)
-  desk-edits-done is ok fit one b = subst AllZero (sym (counted is ok fit one b)) (done-zero n, counted-zeros g n news first)
+  pub desk-edits-done : (g : Settings) → choiceOf a ≡ Known g → settingsOk g ≡ true → Lent out shelf → Taken first → AllTaken news → AllZero (edits .result)
+  desk-edits-done g is ok fit one b = subst AllZero (sym (counted g is ok fit one b)) (done-zero n, counted-zeros g n news first)

@@ -2,7 +2,6 @@
 -- both numbers are 0, and what is left is one gav_render of the whole score. And the note alone rendered, its off added, and taken away again: the three numbers are 0, and what is left is one gav_render of the note alone.
 -- Assumes nothing.
 use mathlib.Core.Path.{_≡_, refl}
-use mathlib.Core.Bool.{true}
 use mathlib.Core.List.{List, [], _∷_, _++_}
 use Prim.Native.Nat.{ℕ}
 use native.Mathlib.Omega.{arith}
@@ -15,8 +14,8 @@ use Rattle.shelf.specs.Shelf.{entryWords}
 use Rattle.floats.specs.Double.{half}
 use Rattle.demands.proofs.ChainExamples.{plain, plain-ok, begins, begins-accepted, endsAt, played, on-time}
 use Rattle.demands.proofs.Demand3.{Taken}
-use Rattle.state.specs.Settings.{settingsOk}
-use Rattle.desk.specs.Desk.{Continued, Asked, asks, waveformOf, settingsOf, isCode, freshFor}
+use Rattle.desk.specs.declared.Choice.the-variants.{Known}
+use Rattle.desk.specs.Desk.{Continued, Asked, asks, shapeOf, choiceOf, freshFor}
 use Rattle.boundary.specs.WordsChain.{wordsChainFrom, AllZero}
 use Rattle.boundary.specs.WordsEdits.{wordsEdits}
 use Rattle.boundary.proofs.DeskChain.{OneDeskRender, desk-chain, desk-chain-done}
@@ -26,13 +25,9 @@ use Rattle.boundary.proofs.DeskEdits.{LastDeskRender, desk-edits, desk-
 abbrev pub square : Asked
 square = asks 8000 1 half (plain .adsr .attack) (plain .adsr .decay) (plain .adsr .sustain) (plain .adsr .release)
 
-known : isCode (square .code) ≡ true
-unfolding isCode
+known : choiceOf square ≡ Known plain
+unfolding shapeOf choiceOf
 known = refl
-
-square-ok : settingsOk (settingsOf square) ≡ true
-unfolding waveformOf settingsOf
-square-ok = plain-ok
 
 -- ---- a chain
 -- twelve words of rubbish
@@ -50,7 +45,7 @@ sustain-fits : T (fits binary64 (plain .adsr .sustain))
 sustain-fits = ofBits-fits binary64 0x3fe0_0000_0000_0000
 
 all-zero : AllZero (played-in-words .result)
-all-zero = desk-chain-done square sustain-fits rubbish refl known square-ok (played 100) (on-time .accepted) (on-time .growing) (omega arith) .zero-if (on-time .none-below)
+all-zero = desk-chain-done square sustain-fits rubbish refl plain known plain-ok (played 100) (on-time .accepted) (on-time .growing) (omega arith) .zero-if (on-time .none-below)
 
 pub on-time-in-words : OnTimeInWords
 on-time-in-words =
@@ -68,7 +63,7 @@ edits-zero : AllZero (edited-in-words .result)
 edits-zero =
     let one : Taken begins = record { records = 1; accepted = begins-accepted } in
     let two : Taken (begins ++ endsAt 100) = record { records = on-time .accepted .1 .0 .0; accepted = on-time .accepted .1 .0 .1 } in
-    desk-edits-done square sustain-fits begins _ _ _ known square-ok (record { short = omega arith; fits = refl }) one (two, (one, tt))
+    desk-edits-done square sustain-fits begins _ _ _ plain known plain-ok (record { short = omega arith; fits = refl }) one (two, (one, tt))
 
 pub edits-in-words : EditedInWords
 edits-in-words = record { zeros = edits-zero; last-render = desk-edits square sustain-fits begins _ _ _ edits-zero (replicate 128 half) (replicate entryWords 0) refl refl }

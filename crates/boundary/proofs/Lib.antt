@@ -1,7 +1,7 @@
 -- What was ordered of the calls together, of the calls that C makes, in the order to read it.
 -- number 0 in a word is an answer that is done
 pub mod Zero
--- a code's waveform
+-- what a host asks for is known or unknown
 pub mod Codes
 -- a continuing call on the words of a state is that call on the state
 pub mod Call

@@ -1,7 +1,6 @@
 -- A chain of continuing calls in words tells what the chain on states leaves. At each call the words are those of the state that a render has come to, and are read as it; so number 0 in every word is 0 from every call on the
 -- states, and then the parts are those of that chain and the words left last those of its end state. Assumes nothing.
 use mathlib.Core.Path.{_≡_, refl, sym, ap, subst, _∙_}
-use mathlib.Core.Bool.{true}
 use mathlib.Core.List.{List, [], _∷_, _++_, map}
 use Prim.Native.Nat.{ℕ, _+_}
 use lib.Dec.{T}
@@ -24,15 +23,13 @@ use Rattle.render.specs.Calls.{continueOf}
 use Rattle.demands.specs.Chain.{Step, ChainOutcome, chainFrom, doneAll, AllDone, Grows, NoneBelow}
 use Rattle.demands.proofs.Honest.{fresh-fitting, honest}
 use Rattle.demands.proofs.Link.{PassedCall, call-passed, Reached, acted-is, none-below, goes-on, after, onward, chain-step, first-done, rest-done, all-done}
-use Rattle.desk.specs.Desk.{Continued, Asked, settingsOf, isCode}
+use Rattle.desk.specs.Desk.{Continued, Asked, choiceOf}
+use Rattle.desk.specs.declared.Choice.the-variants.{Known}
 use Rattle.desk.specs.Packed.{packedOf}
 use Rattle.boundary.specs.WordsChain.{wordsChainFrom, AllZero}
 use Rattle.boundary.proofs.Call.{Read, zero-whole, words-step}
 
-module _ (a : Asked) (is : isCode (a .code) ≡ true) (sus : T (fits binary64 (settingsOf a .adsr .sustain))) where
-  abbrev g : Settings
-  g = settingsOf a
-
+module _ (a : Asked) (g : Settings) (is : choiceOf a ≡ Known g) (sus : T (fits binary64 (g .adsr .sustain))) where
   abbrev inWords : State → ℕ → List Step → Continued (List ℕ)
   inWords v p xs = wordsChainFrom a (entryOf v) p xs
 
@@ -61,8 +58,8 @@ module _ (a : Asked) (is : isCode (a .code) ≡ true) (sus : T (fits binary64 (s
   unfolding chainFrom wordsChainFrom
   zero-all [] s p v h grow z = refl
   zero-all (x ∷ xs) s p v h grow z =
-      let e = zero-whole a v (h .read) p (x .score) (x .part) (z .0) in
-      let y : AllZero (inWords (after g v p x xs) (onward g v p x xs) xs .result) = subst (λ (o : Continued (List ℕ)). AllZero (o .result)) (words-step a v (h .read) p is x xs e) z .1 in
+      let e = zero-whole a g is v (h .read) p (x .score) (x .part) (z .0) in
+      let y : AllZero (inWords (after g v p x xs) (onward g v p x xs) xs .result) = subst (λ (o : Continued (List ℕ)). AllZero (o .result)) (words-step a g is v (h .read) p x xs e) z .1 in
       all-done g v p x xs e (zero-all xs (x .score) (onward g v p x xs) (after g v p x xs) (stands-on s p v x xs h grow e) (grow .1) y)
 
   -- and then the words tell what the chain on the states leaves
@@ -78,7 +75,7 @@ module _ (a : Asked) (is : isCode (a .code) ≡ true) (sus : T (fits binary64 (s
       let n = length (x .part) in
       let e = first-done g v p x xs d in
       let rest = tells xs (x .score) (onward g v p x xs) (after g v p x xs) (stands-on s p v x xs h grow e) (grow .1) (rest-done g v p x xs d) in
-      let w = words-step a v (h .read) p is x xs e in
+      let w = words-step a g is v (h .read) p x xs e in
       let b = chain-step g v p x xs e in
       record {
         result = ap (λ (o : Continued (List ℕ)). o .result) w ∙ ap (λ (l : List ℕ). packedOf (Done n) ∷ l) (rest .result);

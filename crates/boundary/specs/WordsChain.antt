@@ -8,8 +8,10 @@ use lib.Ieee.{Float}
 use Rattle.shelf.specs.Shelf.{entryOf}
 use Rattle.render.specs.Calls.{renderOf}
 use Rattle.demands.specs.Chain.{Step}
+use Rattle.desk.specs.declared.Choice.{Choice}
+use Rattle.desk.specs.declared.Choice.the-variants.{Known, Unknown}
 use Rattle.desk.specs.Packed.{numbersIn}
-use Rattle.desk.specs.Desk.{Continued, continues, Asked, settingsOf, continueFor}
+use Rattle.desk.specs.Desk.{Continued, continues, Asked, choiceOf, continueFor}
 
 -- a call, and the rest after it: the word that each answered, the parts one after the other, and the words that are left last
 abbrev pub andThen : Continued ℕ → Continued (List ℕ) → Continued (List ℕ)
@@ -18,11 +20,12 @@ andThen c rest = continues (c .result ∷ rest .result) (c .heard ++ rest .heard
 -- from the words ws at position p: a call on its part, then the rest from the words that it left, at the end of that part
 unfoldable pub wordsChainFrom : Asked → List ℕ → ℕ → List Step → Continued (List ℕ)
 wordsChainFrom a ws p [] = continues [] [] ws
-wordsChainFrom a ws p (x ∷ xs) = let c = continueFor a (x .score) ws p (x .part) in andThen c (wordsChainFrom a (c .words) (p + length (x .part)) xs)
+wordsChainFrom a ws p (x ∷ xs) = let c = continueFor (choiceOf a) (x .score) ws p (x .part) in andThen c (wordsChainFrom a (c .words) (p + length (x .part)) xs)
 
--- the words of the state that a render ends in
-abbrev pub endWords : Asked → List ℕ → List Float → List ℕ → List ℕ
-endWords a s out shelf = entryOf (renderOf (settingsOf a) s out shelf .result .state)
+-- the words of the state that a render ends in; none where the settings are unknown
+abbrev pub endWords : Choice → List ℕ → List Float → List ℕ → List ℕ
+endWords (Known g) s out shelf = entryOf (renderOf g s out shelf .result .state)
+endWords Unknown s out shelf = []
 
 -- ---- what is asked of the answers: number 0 in every word
 abbrev pub AllZero : List ℕ → Type 0

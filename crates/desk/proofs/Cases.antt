@@ -33,48 +33,44 @@ use Rattle.state.specs.declared.Settings.{Settings}
 use Rattle.state.specs.declared.State.{State}
 use Rattle.state.specs.State.{freshOf}
 use Rattle.state.specs.Heart.{stateFrom, samplesFrom}
+use Rattle.waveform.specs.declared.Waveform.{Waveform}
 use Rattle.waveform.specs.Waveform.{sampleOf}
+use Rattle.desk.specs.declared.Shape.{Shape}
+use Rattle.desk.specs.declared.Shape.the-variants as shape
+use Rattle.desk.specs.declared.Choice.{Choice}
+use Rattle.desk.specs.declared.Choice.the-variants.{Known, Unknown}
 use Rattle.desk.specs.Packed.{packedOf}
 use Rattle.desk.proofs.Lines.{listing-starts}
-use Rattle.desk.specs.Desk.{fills, Continued, continues, Asked, waveformOf, settingsOf, isCode, singleOf, rendered, renderFor, rerendered, rerenderFor, isGivenIn, madeIn, keptIn, continueFor, continueIn, freshFor, listRoom, listFor}
+use Rattle.desk.specs.Desk.{fills, Continued, continues, singleFor, rendered, renderFor, rerendered, rerenderFor, isGivenIn, madeIn, keptIn, continueIn, continueFor, freshFor, listRoom, listFor}
 
 -- ---- a single sample
-module _ (code : ℕ) (phase dt duty : Float) where
-  pub single-known : isCode code ≡ true → sampleOf (waveformOf code duty) phase dt ≡ singleOf code phase dt duty
-  unfolding singleOf
-  single-known e = rw e refl
+pub single-known : (x : Shape) (phase dt : Float) {w : Waveform} → x ≡ shape.Known w → sampleOf w phase dt ≡ singleFor x phase dt
+single-known x phase dt e = rw e refl
 
-  pub single-unknown : isCode code ≡ false → valueOr (unless false Setting) naught ≡ singleOf code phase dt duty
-  unfolding singleOf
-  single-unknown e = rw e refl
+pub single-unknown : (x : Shape) (phase dt : Float) → x ≡ shape.Unknown → valueOr (unless false Setting) naught ≡ singleFor x phase dt
+single-unknown x phase dt e = rw e refl
 
 -- ---- render, re-render and continue
-module _ (a : Asked) (e : isCode (a .code) ≡ true) (g : Settings) (is : g ≡ settingsOf a) where
+module _ (choice : Choice) (g : Settings) (e : choice ≡ Known g) where
   pub render-known : (s : List ℕ) (out : List Float) (shelf : List ℕ) (r : Rendered) (ys : List Float) (ws : List ℕ) → leaves r ys ws ≡ renderOf g s out shelf
-      → (word : ℕ) → word ≡ packedOf (r .answer) → leaves word ys ws ≡ renderFor a s out shelf
-  unfolding renderFor
-  render-known s out shelf r ys ws x word p = rw (e, ← is, p) (ap rendered x)
+      → (word : ℕ) → word ≡ packedOf (r .answer) → leaves word ys ws ≡ renderFor choice s out shelf
+  render-known s out shelf r ys ws x word p = rw (e, p) (ap rendered x)
 
   pub rerender-known : (old new : List ℕ) (out : List Float) (shelf : List ℕ) (said : Answer) (ys : List Float) (ws : List ℕ) → leaves said ys ws ≡ rerenderOf g old new out shelf
-      → (word : ℕ) → word ≡ packedOf said → leaves word ys ws ≡ rerenderFor a old new out shelf
-  unfolding rerenderFor
-  rerender-known old new out shelf said ys ws x word p = rw (e, ← is, p) (ap rerendered x)
+      → (word : ℕ) → word ≡ packedOf said → leaves word ys ws ≡ rerenderFor choice old new out shelf
+  rerender-known old new out shelf said ys ws x word p = rw (e, p) (ap rerendered x)
 
-  pub continue-known : (s ws : List ℕ) (p : ℕ) (part : List Float) (o : Continued ℕ) → o ≡ continueIn g s ws p part → o ≡ continueFor a s ws p part
-  unfolding continueFor continueIn
-  continue-known s ws p part o x = rw (e, ← is) x
+  pub continue-known : (s ws : List ℕ) (p : ℕ) (part : List Float) (o : Continued ℕ) → o ≡ continueIn g s ws p part → o ≡ continueFor choice s ws p part
+  continue-known s ws p part o x = rw e x
 
-module _ (a : Asked) (e : isCode (a .code) ≡ false) (word : ℕ) (q : word ≡ packedOf (Refused Setting)) where
-  pub render-unknown : (s : List ℕ) (out : List Float) (shelf : List ℕ) → leaves word out shelf ≡ renderFor a s out shelf
-  unfolding renderFor
+module _ (choice : Choice) (e : choice ≡ Unknown) (word : ℕ) (q : word ≡ packedOf (Refused Setting)) where
+  pub render-unknown : (s : List ℕ) (out : List Float) (shelf : List ℕ) → leaves word out shelf ≡ renderFor choice s out shelf
   render-unknown s out shelf = rw (e, q) refl
 
-  pub rerender-unknown : (old new : List ℕ) (out : List Float) (shelf : List ℕ) → leaves word out shelf ≡ rerenderFor a old new out shelf
-  unfolding rerenderFor
+  pub rerender-unknown : (old new : List ℕ) (out : List Float) (shelf : List ℕ) → leaves word out shelf ≡ rerenderFor choice old new out shelf
   rerender-unknown old new out shelf = rw (e, q) refl
 
-  pub continue-unknown : (s ws : List ℕ) (p : ℕ) (part : List Float) → continues word part ws ≡ continueFor a s ws p part
-  unfolding continueFor
+  pub continue-unknown : (s ws : List ℕ) (p : ℕ) (part : List Float) → continues word part ws ≡ continueFor choice s ws p part
   continue-unknown s ws p part = rw (e, q) refl
 
 module _ (g : Settings) (s ws : List ℕ) (p : ℕ) (part : List Float) (d : Entry) (decoded : d ≡ decodedOf ws) where

@@ -36,7 +36,11 @@ use Rattle.score.proofs.Codec.{both}
 use Rattle.state.specs.declared.Settings.{Settings}
 use Rattle.state.specs.Settings.{settingsOk}
 use Rattle.waveform.specs.Waveform.{isWaveform, valueOf}
-use Rattle.desk.specs.Desk.{Asked, waveformOf, settingsOf, isCode, codeRefusals, singleOf, isGivenIn}
+use Rattle.desk.specs.declared.Shape.{Shape}
+use Rattle.desk.specs.declared.Shape.the-variants as shape
+use Rattle.desk.specs.declared.Choice.{Choice}
+use Rattle.desk.specs.declared.Choice.the-variants.{Known, Unknown}
+use Rattle.desk.specs.Desk.{shapeOf, singleFor, singleOf, isGivenIn}
 
 pub record Fits (a : Answer) : Type 0 where
   pub number-fits : numbersOf a .number < 256
@@ -133,12 +137,13 @@ unfolding answerOf
 check-fits s = first-fits (map Score (faultsOf s)) (score-low s) 0 (λ none. omega arith)
 
 pub single-fits : (code : ℕ) (phase dt duty : Float) → Fits (singleOf code phase dt duty .answer)
-unfolding singleOf
-single-fits code phase dt duty =
-    let w = waveformOf code duty in
-    first-holds (λ (v : Value). Fits (v .answer)) (codeRefusals code) _ _ (λ why l. refused-fits why (unless-low (isCode code) Setting (omega arith) why l))
-    (λ none. value-fits (unless (isWaveform w) Setting ++ unless (isPhase phase dt) Argument)
-    (append-low (unless (isWaveform w) Setting) (unless (isPhase phase dt) Argument) (unless-low (isWaveform w) Setting (omega arith)) (unless-low (isPhase phase dt) Argument (omega arith))) (valueOf w phase dt))
+single-fits code phase dt duty = go (shapeOf code duty)
+  where
+    go : (x : Shape) → Fits (singleFor x phase dt .answer)
+    go (shape.Known w) =
+        value-fits (unless (isWaveform w) Setting ++ unless (isPhase phase dt) Argument)
+        (append-low (unless (isWaveform w) Setting) (unless (isPhase phase dt) Argument) (unless-low (isWaveform w) Setting (omega arith)) (unless-low (isPhase phase dt) Argument (omega arith))) (valueOf w phase dt)
+    go shape.Unknown = refused-fits Setting (omega arith)
 
 pub render-fits : (g : Settings) (s : List ℕ) (out : List Float) (shelf : List ℕ) → Fits (renderOf g s out shelf .result .answer)
 unfolding renderOf
@@ -166,15 +171,14 @@ rerender-fits g old new out shelf =
     run-fits (From m) h = done-fits (length out - m * 4096) (omega arith)
 
 -- what a continuing call in words answers
-abbrev pub continueSays : Asked → List ℕ → List ℕ → ℕ → ℕ → Answer
-continueSays a s ws p n = firstOf (codeRefusals (a .code) ++ continueRefusals (settingsOf a) s (isGivenIn s p ws) p n) Refused (Done n)
+abbrev pub continueSays : Choice → List ℕ → List ℕ → ℕ → ℕ → Answer
+continueSays (Known g) s ws p n = firstOf (continueRefusals g s (isGivenIn s p ws) p n) Refused (Done n)
+continueSays Unknown s ws p n = Refused Setting
 
-pub continue-fits : (a : Asked) (s ws : List ℕ) (p n : ℕ) → Fits (continueSays a s ws p n)
-continue-fits a s ws p n =
-    let g = settingsOf a in
+pub continue-fits : (c : Choice) (s ws : List ℕ) (p n : ℕ) → Fits (continueSays c s ws p n)
+continue-fits (Known g) s ws p n =
     let judged = refusalsOf g (isStretch p n) s in
     let given = unless (isGivenIn s p ws) GivenState in
-    first-fits (codeRefusals (a .code) ++ (judged ++ given))
-    (append-low (codeRefusals (a .code)) (judged ++ given) (unless-low (isCode (a .code)) Setting (omega arith)) (append-low judged given (judged-low g (isStretch p n) s) (unless-low (isGivenIn s p ws) GivenState (omega arith))))
-    n
-    (λ none. let short : p + n ≤ most = leb-true (p + n) most (all-passed g (isStretch p n) s (none-both judged given (none-both (codeRefusals (a .code)) (judged ++ given) none .1) .0) .sized) in omega arith)
+    first-fits (judged ++ given) (append-low judged given (judged-low g (isStretch p n) s) (unless-low (isGivenIn s p ws) GivenState (omega arith))) n
+    (λ none. let short : p + n ≤ most = leb-true (p + n) most (all-passed g (isStretch p n) s (none-both judged given none .0) .sized) in omega arith)
+continue-fits Unknown s ws p n = refused-fits Setting (omega arith)

@@ -7,7 +7,7 @@ use Rattle.answers.specs.declared.Refusal.the-variants.{Score, NewScore, Settin
 use Rattle.answers.specs.declared.ScoreFault.the-variants.{Kind, Order}
 use Rattle.floats.specs.Double.{naught}
 use Rattle.desk.specs.Packed.{packedOf}
-use Rattle.desk.specs.Desk.{waveformOf, isCode, singleOf}
+use Rattle.desk.specs.Desk.{shapeOf, singleOf}
 
 -- done with no samples, with 4,096; the second record falls; the new score's fourth has a wrong kind
 pub words : map packedOf (Done 0 ∷ Done 4096 ∷ Refused (Score (Order 1)) ∷ Refused (NewScore (Kind 3)) ∷ Refused Setting ∷ []) ≡ 0 ∷ 0x1000_0000_0000 ∷ 0x105 ∷ 0x313 ∷ 6 ∷ []
@@ -23,5 +23,5 @@ five = ofBits binary64 0x4014_0000_0000_0000
 -- code 9 with a NaN for a phase is 6; so is a pulse with a NaN for a duty; a sine with one is done; a sine with a dt of 5 is 9
 pub judged : (singleOf 9 nan naught naught .answer ∷ singleOf 4 naught naught nan .answer ∷ singleOf 0 naught naught nan .answer ∷ singleOf 0 naught five naught .answer ∷ [])
     ≡ Refused Setting ∷ Refused Setting ∷ Done 0 ∷ Refused Argument ∷ []
-unfolding waveformOf isCode singleOf ofBits le lt eq
+unfolding shapeOf ofBits le lt eq
 judged = refl

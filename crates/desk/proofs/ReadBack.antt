@@ -1,6 +1,6 @@
 -- What a host reads in a word is what the call answered: number, place and count. Assumes nothing.
 use mathlib.Core.Path.{_≡_, refl, sym, ap, _∙_}
-use mathlib.Core.List.{List, _++_}
+use mathlib.Core.List.{List}
 use Prim.Native.Nat.{ℕ, _+_, _*_, _/_, _%_, _<_}
 use native.Mathlib.Omega.{arith}
 use lib.ListN.{length}
@@ -15,8 +15,10 @@ use Rattle.render.specs.Calls.{renderOf, continueRefusals}
 use Rattle.rerender.specs.Rerender.{rerenderOf}
 use Rattle.score.specs.Score.{answerOf}
 use Rattle.state.specs.declared.Settings.{Settings}
+use Rattle.desk.specs.declared.Choice.{Choice}
+use Rattle.desk.specs.declared.Choice.the-variants.{Known, Unknown}
 use Rattle.desk.specs.Packed.{packedOf, numbersIn}
-use Rattle.desk.specs.Desk.{Continued, Asked, settingsOf, codeRefusals, checkOf, singleOf, rendered, rerendered, isGivenIn, madeIn, keptIn, continueFor}
+use Rattle.desk.specs.Desk.{Continued, checkOf, singleOf, rendered, rerendered, isGivenIn, madeIn, keptIn, continueIn, continueFor}
 use Rattle.desk.proofs.Lines.{listing-fits}
 use Rattle.desk.proofs.Fits.{Fits, done-fits, refused-fits, check-fits, single-fits, render-fits, rerender-fits, continueSays, continue-fits}
 
@@ -52,7 +54,7 @@ check-reads s = read-back (answerOf s) (check-fits s)
 pub sample-reads : (code : ℕ) (phase dt duty : Float) → numbersIn (packedOf (singleOf code phase dt duty .answer)) ≡ numbersOf (singleOf code phase dt duty .answer)
 sample-reads code phase dt duty = read-back (singleOf code phase dt duty .answer) (single-fits code phase dt duty)
 
--- a code above 4, whatever else is given
+-- an unknown code, whatever else is given
 pub unknown-reads : numbersIn (packedOf (Refused Setting)) ≡ numbersOf (Refused Setting)
 unknown-reads = read-back (Refused Setting) (refused-fits Setting (omega arith))
 
@@ -63,15 +65,16 @@ module _ (g : Settings) where
   pub rerender-reads : (old new : List ℕ) (out : List Float) (shelf : List ℕ) → numbersIn (rerendered (rerenderOf g old new out shelf) .result) ≡ numbersOf (rerenderOf g old new out shelf .result)
   rerender-reads old new out shelf = read-back (rerenderOf g old new out shelf .result) (rerender-fits g old new out shelf)
 
--- a continuing call, from words that are no state too
-pub continue-says : (a : Asked) (s ws : List ℕ) (p : ℕ) (part : List Float) → continueFor a s ws p part .result ≡ packedOf (continueSays a s ws p (length part))
-unfolding continueFor
-continue-says a s ws p part =
-    let refusals = codeRefusals (a .code) ++ continueRefusals (settingsOf a) s (isGivenIn s p ws) p (length part) in
-    first-through (λ (o : Continued ℕ). o .result) refusals (keptIn part ws) (madeIn (settingsOf a) s ws p (length part)) ∙ sym (first-through packedOf refusals Refused (Done (length part)))
+-- a continuing call, from words that are no state and under unknown settings too
+pub continue-says : (c : Choice) (s ws : List ℕ) (p : ℕ) (part : List Float) → continueFor c s ws p part .result ≡ packedOf (continueSays c s ws p (length part))
+unfolding continueIn
+continue-says (Known g) s ws p part =
+    let refusals = continueRefusals g s (isGivenIn s p ws) p (length part) in
+    first-through (λ (o : Continued ℕ). o .result) refusals (keptIn part ws) (madeIn g s ws p (length part)) ∙ sym (first-through packedOf refusals Refused (Done (length part)))
+continue-says Unknown s ws p part = refl
 
-pub continue-reads : (a : Asked) (s ws : List ℕ) (p : ℕ) (part : List Float) → numbersIn (continueFor a s ws p part .result) ≡ numbersOf (continueSays a s ws p (length part))
-continue-reads a s ws p part = ap numbersIn (continue-says a s ws p part) ∙ read-back (continueSays a s ws p (length part)) (continue-fits a s ws p (length part))
+pub continue-reads : (c : Choice) (s ws : List ℕ) (p : ℕ) (part : List Float) → numbersIn (continueFor c s ws p part .result) ≡ numbersOf (continueSays c s ws p (length part))
+continue-reads c s ws p part = ap numbersIn (continue-says c s ws p part) ∙ read-back (continueSays c s ws p (length part)) (continue-fits c s ws p (length part))
 
 pub fresh-reads : (numbersIn (packedOf (Done 0)) ≡ numbersOf (Done 0)) × (numbersIn (packedOf (Refused Argument)) ≡ numbersOf (Refused Argument))
 fresh-reads = (read-back (Done 0) (done-fits 0 (omega arith)), read-back (Refused Argument) (refused-fits Argument (omega arith)))

@@ -5,9 +5,10 @@ use Prim.Native.Nat.{ℕ}
 use lib.Ieee.{Float}
 use Rattle.sections.specs.Outcome.{leaves}
 use Rattle.sections.proofs.Unique.{same-left}
+use Rattle.desk.specs.declared.Choice.{Choice}
 use Rattle.desk.specs.Packed.{packedOf}
 use Rattle.desk.specs.Version.{version}
-use Rattle.desk.specs.Desk.{Filled, fills, Continued, continues, Asked, checkOf, singleOf, renderFor, rerenderFor, continueFor, freshFor, listFor}
+use Rattle.desk.specs.Desk.{Filled, fills, Continued, continues, checkOf, singleOf, renderFor, rerenderFor, continueFor, freshFor, listFor}
 
 pub gav-version-unique : (r t : ℕ) → r ≡ version → t ≡ version → r ≡ t
 gav-version-unique r t p q = p ∙ sym q
@@ -27,17 +28,17 @@ same-filled o r t a b x y =
     let e : fills r a ≡ fills t b = x ∙ sym y in
     (ap (λ (l : Filled). l .result) e, ap (λ (l : Filled). l .left) e)
 
-pub gav-render-unique : (a : Asked) (s : List ℕ) (out : List Float) (shelf : List ℕ) (r t : ℕ) (ys zs : List Float) (c d : List ℕ)
-    → leaves r ys c ≡ renderFor a s out shelf → leaves t zs d ≡ renderFor a s out shelf → (r ≡ t) × (ys ≡ zs) × (c ≡ d)
-gav-render-unique a s out shelf r t ys zs c d x y = same-left (renderFor a s out shelf) r t ys zs c d x y
+pub gav-render-unique : (choice : Choice) (s : List ℕ) (out : List Float) (shelf : List ℕ) (r t : ℕ) (ys zs : List Float) (c d : List ℕ)
+    → leaves r ys c ≡ renderFor choice s out shelf → leaves t zs d ≡ renderFor choice s out shelf → (r ≡ t) × (ys ≡ zs) × (c ≡ d)
+gav-render-unique choice s out shelf r t ys zs c d x y = same-left (renderFor choice s out shelf) r t ys zs c d x y
 
-pub gav-rerender-unique : (a : Asked) (old new : List ℕ) (out : List Float) (shelf : List ℕ) (r t : ℕ) (ys zs : List Float) (c d : List ℕ)
-    → leaves r ys c ≡ rerenderFor a old new out shelf → leaves t zs d ≡ rerenderFor a old new out shelf → (r ≡ t) × (ys ≡ zs) × (c ≡ d)
-gav-rerender-unique a old new out shelf r t ys zs c d x y = same-left (rerenderFor a old new out shelf) r t ys zs c d x y
+pub gav-rerender-unique : (choice : Choice) (old new : List ℕ) (out : List Float) (shelf : List ℕ) (r t : ℕ) (ys zs : List Float) (c d : List ℕ)
+    → leaves r ys c ≡ rerenderFor choice old new out shelf → leaves t zs d ≡ rerenderFor choice old new out shelf → (r ≡ t) × (ys ≡ zs) × (c ≡ d)
+gav-rerender-unique choice old new out shelf r t ys zs c d x y = same-left (rerenderFor choice old new out shelf) r t ys zs c d x y
 
-pub gav-continue-unique : (a : Asked) (s ws : List ℕ) (p : ℕ) (part : List Float) (r t : ℕ) (ys zs : List Float) (c d : List ℕ)
-    → continues r ys c ≡ continueFor a s ws p part → continues t zs d ≡ continueFor a s ws p part → (r ≡ t) × (ys ≡ zs) × (c ≡ d)
-gav-continue-unique a s ws p part r t ys zs c d x y =
+pub gav-continue-unique : (choice : Choice) (s ws : List ℕ) (p : ℕ) (part : List Float) (r t : ℕ) (ys zs : List Float) (c d : List ℕ)
+    → continues r ys c ≡ continueFor choice s ws p part → continues t zs d ≡ continueFor choice s ws p part → (r ≡ t) × (ys ≡ zs) × (c ≡ d)
+gav-continue-unique choice s ws p part r t ys zs c d x y =
     let e : continues r ys c ≡ continues t zs d = x ∙ sym y in
     (ap (λ (o : Continued ℕ). o .result) e, ap (λ (o : Continued ℕ). o .heard) e, ap (λ (o : Continued ℕ). o .words) e)
 

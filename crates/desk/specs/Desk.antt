@@ -29,6 +29,10 @@ use Rattle.state.specs.Heart.{stateFrom, samplesFrom}
 use Rattle.waveform.specs.declared.Waveform.{Waveform}
 use Rattle.waveform.specs.declared.Waveform.the-variants.{Sine, Square, Sawtooth, Triangle, Pulse}
 use Rattle.waveform.specs.Waveform.{sampleOf}
+use Rattle.desk.specs.declared.Shape.{Shape}
+use Rattle.desk.specs.declared.Shape.the-variants as shape
+use Rattle.desk.specs.declared.Choice.{Choice}
+use Rattle.desk.specs.declared.Choice.the-variants.{Known, Unknown}
 use Rattle.desk.specs.Packed.{packedOf}
 
 -- ---- what is left by a call: the word that it answers, and what was lent
@@ -63,34 +67,39 @@ pub record Asked : Type 0 where
 abbrev pub asks : ℕ → ℕ → Float → Float → Float → Float → Float → Asked
 asks rate code duty attack decay sustain release = record { rate = rate; code = code; duty = duty; attack = attack; decay = decay; sustain = sustain; release = release }
 
--- codes 0 to 4 in the Rust's order; the duty is Pulse's alone. What a code above 4 would be does not count: it is refused
-unfoldable pub waveformOf : ℕ → Float → Waveform
-waveformOf code duty = cond (eqb code 0) Sine (cond (eqb code 1) Square (cond (eqb code 2) Sawtooth (cond (eqb code 3) Triangle (Pulse duty))))
+-- the table of codes: 0 to 4 in the Rust's order, every other is unknown; the duty is Pulse's alone
+unfoldable pub shapeOf : ℕ → Float → Shape
+shapeOf code duty =
+    cond (eqb code 0) (shape.Known Sine)
+    (cond (eqb code 1) (shape.Known Square)
+    (cond (eqb code 2) (shape.Known Sawtooth)
+    (cond (eqb code 3) (shape.Known Triangle)
+    (cond (eqb code 4) (shape.Known (Pulse duty)) shape.Unknown))))
 
-unfoldable pub settingsOf : Asked → Settings
-settingsOf a =
-    record {
-      rate = a .rate;
-      waveform = waveformOf (a .code) (a .duty);
-      adsr = record { attack = a .attack; decay = a .decay; sustain = a .sustain; release = a .release };
-    }
+-- the settings that are asked for, or unknown
+abbrev pub settingsOf : Asked → Waveform → Settings
+settingsOf a w = record { rate = a .rate; waveform = w; adsr = record { attack = a .attack; decay = a .decay; sustain = a .sustain; release = a .release } }
 
--- a code above 4 is 6, which comes before all else
-unfoldable pub isCode : ℕ → Bool
-isCode code = leb code 4
+abbrev pub choiceFor : Shape → Asked → Choice
+choiceFor (shape.Known w) a = Known (settingsOf a w)
+choiceFor shape.Unknown a = Unknown
 
-abbrev pub codeRefusals : ℕ → List Refusal
-codeRefusals code = unless (isCode code) Setting
+unfoldable pub choiceOf : Asked → Choice
+choiceOf a = choiceFor (shapeOf (a .code) (a .duty)) a
 
 -- ---- the score's check
 abbrev pub checkOf : List ℕ → ℕ
 checkOf s = packedOf (answerOf s)
 
--- ---- a single sample; refused, +0
-unfoldable pub singleOf : ℕ → Float → Float → Float → Value
-singleOf code phase dt duty = firstOf (codeRefusals code) (λ (why : Refusal). valueOr (why ∷ []) naught) (sampleOf (waveformOf code duty) phase dt)
+-- ---- a single sample; an unknown code is 6 and +0
+abbrev pub singleFor : Shape → Float → Float → Value
+singleFor (shape.Known w) phase dt = sampleOf w phase dt
+singleFor shape.Unknown phase dt = valueOr (Setting ∷ []) naught
 
--- ---- render
+abbrev pub singleOf : ℕ → Float → Float → Float → Value
+singleOf code phase dt duty = singleFor (shapeOf code duty) phase dt
+
+-- ---- render: unknown settings are 6, which comes before all else
 abbrev pub rendered : Outcome Rendered → Outcome ℕ
 rendered o = leaves (packedOf (o .result .answer)) (o .heard) (o .stored)
 
@@ -98,15 +107,17 @@ rendered o = leaves (packedOf (o .result .answer)) (o .heard) (o .stored)
 abbrev pub keptOf : List Float → List ℕ → Refusal → Outcome ℕ
 keptOf out shelf why = leaves (packedOf (Refused why)) out shelf
 
-unfoldable pub renderFor : Asked → List ℕ → List Float → List ℕ → Outcome ℕ
-renderFor a s out shelf = firstOf (codeRefusals (a .code)) (keptOf out shelf) (rendered (renderOf (settingsOf a) s out shelf))
+abbrev pub renderFor : Choice → List ℕ → List Float → List ℕ → Outcome ℕ
+renderFor (Known g) s out shelf = rendered (renderOf g s out shelf)
+renderFor Unknown s out shelf = keptOf out shelf Setting
 
 -- ---- re-render
 abbrev pub rerendered : Outcome Answer → Outcome ℕ
 rerendered o = leaves (packedOf (o .result)) (o .heard) (o .stored)
 
-unfoldable pub rerenderFor : Asked → List ℕ → List ℕ → List Float → List ℕ → Outcome ℕ
-rerenderFor a old new out shelf = firstOf (codeRefusals (a .code)) (keptOf out shelf) (rerendered (rerenderOf (settingsOf a) old new out shelf))
+abbrev pub rerenderFor : Choice → List ℕ → List ℕ → List Float → List ℕ → Outcome ℕ
+rerenderFor (Known g) old new out shelf = rerendered (rerenderOf g old new out shelf)
+rerenderFor Unknown old new out shelf = keptOf out shelf Setting
 
 -- ---- continue: a state is its twelve words, and comes back in them
 -- a state, and as many records acted as the score has below p; words that are no state, another number of them too, are 10 in its place in the order
@@ -121,14 +132,13 @@ madeIn g s ws p n = continues (packedOf (Done n)) (samplesFrom g s p (stateOf ws
 abbrev pub keptIn : List Float → List ℕ → Refusal → Continued ℕ
 keptIn part ws why = continues (packedOf (Refused why)) part ws
 
-unfoldable pub continueFor : Asked → List ℕ → List ℕ → ℕ → List Float → Continued ℕ
-continueFor a s ws p part =
-    let g = settingsOf a in
-    firstOf (codeRefusals (a .code) ++ continueRefusals g s (isGivenIn s p ws) p (length part)) (keptIn part ws) (madeIn g s ws p (length part))
-
--- what is left of it where the code is one. It serves a private function; no public statement cites it
+-- under settings g
 unfoldable pub continueIn : Settings → List ℕ → List ℕ → ℕ → List Float → Continued ℕ
 continueIn g s ws p part = firstOf (continueRefusals g s (isGivenIn s p ws) p (length part)) (keptIn part ws) (madeIn g s ws p (length part))
+
+abbrev pub continueFor : Choice → List ℕ → List ℕ → ℕ → List Float → Continued ℕ
+continueFor (Known g) s ws p part = continueIn g s ws p part
+continueFor Unknown s ws p part = keptIn part ws Setting
 
 -- ---- the fresh state in twelve words; another number of them is 9
 abbrev pub freshFor : List ℕ → Filled

@@ -6,7 +6,7 @@ ghost use mathlib.Core.Path.{_≡_};
 ghost use Rattle.sections.specs.Outcome.{leaves};
 ghost use Rattle.desk.specs.Packed.{packedOf};
 ghost use Rattle.desk.specs.Version.{version};
-ghost use Rattle.desk.specs.Desk.{fills, continues, asks, waveformOf, settingsOf, isCode, checkOf, singleOf, renderFor, rerenderFor, continueIn, continueFor, freshFor, listFor};
+ghost use Rattle.desk.specs.Desk.{fills, continues, shapeOf, asks, choiceOf, checkOf, singleOf, renderFor, rerenderFor, continueIn, continueFor, freshFor, listFor};
 use answers::Answer;
 use answers::Refusal;
 use answers::Value;
@@ -18,8 +18,17 @@ use waveform::Waveform;
 // GAV_VERSION of the header.
 const VERSION: u32 = 1;
 
-// The last code of a waveform.
-const LAST_CODE: u32 = 4;
+// The waveform of a code, where it has one.
+pub enum Shape {
+    Known(Waveform),
+    Unknown,
+}
+
+// The settings that are asked for, where their code has a waveform.
+pub enum Choice {
+    Known(Settings),
+    Unknown,
+}
 
 // Which signatures and how many words of a state a host has to be written for.
 #[no_mangle]
@@ -70,12 +79,12 @@ pub extern "C" fn gav_render(
     out: &mut [f64],
     shelf: &mut [u64],
 ) -> u64
-    ensures { λ r. ⌜ leaves r (now (out .exit)) (now (shelf .exit)) ≡ renderFor (asks rate code duty attack decay sustain release) (now (score .entry)) (now (out .entry)) (now (shelf .entry)) ⌝ }
+    ensures { λ r. ⌜ leaves r (now (out .exit)) (now (shelf .exit)) ≡ renderFor (choiceOf (asks rate code duty attack decay sustain release)) (now (score .entry)) (now (out .entry)) (now (shelf .entry)) ⌝ }
 {
-    if !is_code(code) {
+    let choice = choice_of(rate, code, duty, attack, decay, sustain, release);
+    let Choice::Known(settings) = choice else {
         return packed(Answer::Refused(Refusal::Setting));
-    }
-    let settings = settings_of(rate, code, duty, attack, decay, sustain, release);
+    };
     let rendered = render::render(settings, score, out, shelf);
     let answer = rendered.answer;
     packed(answer)
@@ -96,12 +105,12 @@ pub extern "C" fn gav_rerender(
     out: &mut [f64],
     shelf: &mut [u64],
 ) -> u64
-    ensures { λ r. ⌜ leaves r (now (out .exit)) (now (shelf .exit)) ≡ rerenderFor (asks rate code duty attack decay sustain release) (now (old .entry)) (now (new .entry)) (now (out .entry)) (now (shelf .entry)) ⌝ }
+    ensures { λ r. ⌜ leaves r (now (out .exit)) (now (shelf .exit)) ≡ rerenderFor (choiceOf (asks rate code duty attack decay sustain release)) (now (old .entry)) (now (new .entry)) (now (out .entry)) (now (shelf .entry)) ⌝ }
 {
-    if !is_code(code) {
+    let choice = choice_of(rate, code, duty, attack, decay, sustain, release);
+    let Choice::Known(settings) = choice else {
         return packed(Answer::Refused(Refusal::Setting));
-    }
-    let settings = settings_of(rate, code, duty, attack, decay, sustain, release);
+    };
     packed(rerender::rerender(settings, old, new, out, shelf))
 }
 
@@ -120,12 +129,12 @@ pub extern "C" fn gav_continue(
     position: u64,
     part: &mut [f64],
 ) -> u64
-    ensures { λ r. ⌜ continues r (now (part .exit)) (now (state .exit)) ≡ continueFor (asks rate code duty attack decay sustain release) (now (score .entry)) (now (state .entry)) position (now (part .entry)) ⌝ }
+    ensures { λ r. ⌜ continues r (now (part .exit)) (now (state .exit)) ≡ continueFor (choiceOf (asks rate code duty attack decay sustain release)) (now (score .entry)) (now (state .entry)) position (now (part .entry)) ⌝ }
 {
-    if !is_code(code) {
+    let choice = choice_of(rate, code, duty, attack, decay, sustain, release);
+    let Choice::Known(settings) = choice else {
         return packed(Answer::Refused(Refusal::Setting));
-    }
-    let settings = settings_of(rate, code, duty, attack, decay, sustain, release);
+    };
     continue_in(settings, score, state, position, part)
 }
 
@@ -163,25 +172,20 @@ fn packed(answer: Answer) -> u64
     numbers.number as u64 + 256 * place + 0x1_0000_0000 * count
 }
 
-fn is_code(code: u32) -> bool
-    ensures { λ r. ⌜ r ≡ isCode code ⌝ }
-{
-    code <= LAST_CODE
-}
-
-fn waveform_of(code: u32, duty: f64) -> Waveform
-    ensures { λ r. ⌜ r ≡ waveformOf code duty ⌝ }
+fn shape_of(code: u32, duty: f64) -> Shape
+    ensures { λ r. ⌜ r ≡ shapeOf code duty ⌝ }
 {
     match code {
-        0 => Waveform::Sine,
-        1 => Waveform::Square,
-        2 => Waveform::Sawtooth,
-        3 => Waveform::Triangle,
-        _ => Waveform::Pulse(duty),
+        0 => Shape::Known(Waveform::Sine),
+        1 => Shape::Known(Waveform::Square),
+        2 => Shape::Known(Waveform::Sawtooth),
+        3 => Shape::Known(Waveform::Triangle),
+        4 => Shape::Known(Waveform::Pulse(duty)),
+        _ => Shape::Unknown,
     }
 }
 
-fn settings_of(
+fn choice_of(
     rate: u32,
     code: u32,
     duty: f64,
@@ -189,30 +193,36 @@ fn settings_of(
     decay: f64,
     sustain: f64,
     release: f64,
-) -> Settings
-    ensures { λ r. ⌜ r ≡ settingsOf (asks rate code duty attack decay sustain release) ⌝ }
+) -> Choice
+    ensures { λ r. ⌜ r ≡ choiceOf (asks rate code duty attack decay sustain release) ⌝ }
 {
-    let waveform = waveform_of(code, duty);
-    let adsr = Adsr {
-        attack,
-        decay,
-        sustain,
-        release,
-    };
-    Settings {
-        rate,
-        waveform,
-        adsr,
+    let shape = shape_of(code, duty);
+    match shape {
+        Shape::Known(waveform) => {
+            let adsr = Adsr {
+                attack,
+                decay,
+                sustain,
+                release,
+            };
+            Choice::Known(Settings {
+                rate,
+                waveform,
+                adsr,
+            })
+        }
+        Shape::Unknown => Choice::Unknown,
     }
 }
 
 fn single(code: u32, phase: f64, dt: f64, duty: f64) -> Value
     ensures { λ r. ⌜ r ≡ singleOf code phase dt duty ⌝ }
 {
-    if !is_code(code) {
-        return answers::value_if(false, Refusal::Setting, 0.0);
+    let shape = shape_of(code, duty);
+    match shape {
+        Shape::Known(waveform) => waveform::sample(waveform, phase, dt),
+        Shape::Unknown => answers::value_if(false, Refusal::Setting, 0.0),
     }
-    waveform::sample(waveform_of(code, duty), phase, dt)
 }
 
 // A continuing call whose state comes and goes in words. Words that are no state are judged where the state would be.
