@@ -84,6 +84,11 @@ def bits_of(x, wide):
     return struct.unpack("<Q" if wide else "<I", struct.pack("<d" if wide else "<f", x))[0]
 
 
+def says(number, count):
+    """An answer in one word; none of a leaf has a place."""
+    return number | count << 32
+
+
 def finite(x):
     return -math.inf < x < math.inf
 
@@ -226,9 +231,9 @@ def envelope_answer(op, *given):
     level, time, release_level = (float_of(w, True) for w in given[7:])
     state, slots = (stage, level, time, release_level), []
     if op == 3 and not (all(x == x for x in settings) and 8000 <= rate <= 192000):
-        return (6, 0) + given[6:] + 8 * (UNWRITTEN,)
+        return (6,) + given[6:] + 8 * (UNWRITTEN,)
     if op != 4 and not (0 <= level <= 1 and 0 <= release_level <= 1 and 0 <= time <= 11):
-        return (9, 0) + given[6:] + 8 * (UNWRITTEN,)
+        return (9,) + given[6:] + 8 * (UNWRITTEN,)
     if op == 0:
         state = (ATTACK, level, 0.0, release_level)
     elif op == 1 and stage != IDLE:
@@ -240,7 +245,7 @@ def envelope_answer(op, *given):
             state = envelope_step(usable(settings), div(1.0, float(rate)), state)
             slots.append(bits_of(state[1], True))
     after = (state[0],) + tuple(bits_of(x, True) for x in state[1:])
-    return (0, length) + after + tuple(slots) + (8 - length) * (UNWRITTEN,)
+    return (says(0, length),) + after + tuple(slots) + (8 - length) * (UNWRITTEN,)
 
 
 # The waveforms in radians.
@@ -261,9 +266,9 @@ def reduced(x):
 
 
 def waveform_value(shape, phase, dt, duty):
-    """Of Square to Pulse, 1 to 4: a sine is measured at u itself."""
-    calls = [square, saw, triangle, lambda p, d: pulse(p, d, duty)]
-    return calls[shape - 1](phase, dt)
+    """Of Square to Pulse, 1 to 4: a sine is measured at u itself, and here only refused."""
+    calls = {1: square, 2: saw, 3: triangle, 4: lambda p, d: pulse(p, d, duty)}
+    return calls[shape](phase, dt)
 
 
 def radians_block(shape, duty, phase, step, scale, length):
@@ -279,7 +284,7 @@ def radians_block(shape, duty, phase, step, scale, length):
 def waveform_answer(op, shape, *given):
     duty, phase, step, scale = (float_of(w, True) for w in given[:4])
     number, after, samples = 0, 0.0, []
-    if op == 2:
+    if op in (2, 3):
         if shape == 4 and not 0 <= duty <= 1:
             number = 6
         elif not (0 <= phase <= 1 and 0 <= step <= 4):
@@ -393,8 +398,8 @@ def measure(path):
 PARTS = {
     "phase": ("<9I", 5, phase_answer, {op: {0, 9} if op < 7 else {0} for op in range(8)}),
     "polyblep": ("<6Q", 4, polyblep_answer, {op: {0, 9} for op in range(6)}),
-    "envelope": ("<25Q", 11, envelope_answer, {0: {0, 9}, 1: {0, 9}, 2: {0, 9}, 3: {0, 6, 9}, 4: {0}}),
-    "waveform": ("<17Q", 7, waveform_answer, {0: {0}, 1: {0}, 2: {0, 6, 9}}),
+    "envelope": ("<24Q", 11, envelope_answer, {0: {0, 9}, 1: {0, 9}, 2: {0, 9}, 3: {0, 6, 9}, 4: {0}}),
+    "waveform": ("<17Q", 7, waveform_answer, {0: {0}, 1: {0}, 2: {0, 6, 9}, 3: {9}}),
     "voice": ("<31I", 16, voice_answer, {op: {0, 9} if op < 5 else {0} for op in range(6)}),
 }
 
@@ -406,7 +411,7 @@ def compare(name, path):
     seen = {op: set() for op in numbers}
     for row in struct.iter_unpack(layout, open(path, "rb").read()):
         total += 1
-        seen[row[0]].add(row[given])
+        seen[row[0]].add(row[given] % 256)
         if answer(*row[:given]) == row[given:]:
             equal += 1
         elif total - equal < 5:

@@ -15,11 +15,11 @@ SHAPES = {
     "polyblep": (8, 6, 4),
     "pitch": (8, 4, 1),
     "sine": (8, 2, 1),
-    "envelope": (8, 25, 11),
+    "envelope": (8, 24, 11),
     "waveform": (8, 17, 7),
     "voice": (4, 31, 16),
-    "blocks": (8, 11, 8),
-    "render": (8, 40, 25),
+    "blocks": (8, 10, 8),
+    "render": (8, 38, 25),
 }
 # A row of these goes on: this word of it says by how many.
 MORE = {"blocks": 7, "render": 1}

@@ -1,10 +1,13 @@
 //! Rows of the two block calls: op, waveform (0 Sine to 4 Pulse, in the original's order), duty, rate, frequency, depth,
-//! start phase, samples asked for; then number, count, phase after, and every sample. 11 u64 a row and one for each
-//! sample asked for, every float as its bits.
+//! start phase, samples asked for; then answer, phase after, and every sample. Ten u64 a row and one for each sample
+//! asked for, every float as its bits.
 //!
-//! `set` is the oscillator too, made with other settings, then given its waveform and a note's frequency. Only the LFO
-//! has a depth; elsewhere it is 1. Only Pulse has a duty. The samples are 42 each before the call.
+//! `set` is the oscillator too, made with other settings, then given its waveform and a note's frequency; `cleared` has
+//! been given a note's frequency that does not sound, and it was cleared. `reset` is set back from the start phase, the
+//! oscillator after it was set. Only the LFO has a depth; elsewhere it is 1. Only Pulse has a duty. The samples are 42
+//! each before the call.
 
+use crate::block::Block;
 use crate::blocks::generators::oscillator::OscillatorBlock;
 use crate::blocks::modulators::lfo::LfoBlock;
 use crate::chance::Chance;
@@ -14,7 +17,7 @@ use crate::math::Real;
 use crate::opened;
 use crate::patterns::near;
 use crate::random::XorShiftRng;
-use crate::rows::{self, Part};
+use crate::rows::{self, says, Part};
 use crate::waveform::{generate_waveform_sample, Waveform, DEFAULT_DUTY_CYCLE};
 use crate::waveform_rows::{duties, not_a_unit, phases, random_phase, waveform, FREQUENCIES, TAU, TINY, UNWRITTEN};
 use crate::waveform_rows::{PULSE, SAWTOOTH, SINE, SQUARE, TRIANGLE};
@@ -22,10 +25,10 @@ use crate::waveform_rows::{PULSE, SAWTOOTH, SINE, SQUARE, TRIANGLE};
 pub const PART: Part = Part {
     name: "blocks",
     word: 8,
-    words: 11,
+    words: 10,
     more_at: Some(7),
-    number_at: Some(8),
-    ops: &["oscillator", "lfo", "oscillator, set"],
+    answer_at: Some(8),
+    ops: &["oscillator", "lfo", "oscillator, set", "oscillator, reset", "lfo, reset", "oscillator, cleared"],
     edges,
     random: |chance| rows::each(chance, random),
     answer,
@@ -34,6 +37,20 @@ pub const PART: Part = Part {
 const OSCILLATOR: u64 = 0;
 const LFO: u64 = 1;
 const SET: u64 = 2;
+const SET_AND_RESET: u64 = 3;
+const LFO_RESET: u64 = 4;
+const CLEARED: u64 = 5;
+
+fn is_lfo(op: u64) -> bool {
+    [LFO, LFO_RESET].contains(&op)
+}
+
+fn is_reset(op: u64) -> bool {
+    [SET_AND_RESET, LFO_RESET].contains(&op)
+}
+
+/// What does not sound.
+const UNHEARD: f64 = -1.0;
 
 /// A shape and its duty.
 type Wave = (u64, f64);
@@ -61,7 +78,7 @@ impl Asked {
     fn words(self) -> Vec<u64> {
         let (shape, duty) = self.wave;
         let duty = if shape == PULSE { duty } else { 0.0 };
-        let depth = if self.op == LFO { self.depth } else { 1.0 };
+        let depth = if is_lfo(self.op) { self.depth } else { 1.0 };
         // A NaN's payload cannot be seen by who replays the rows, and a phase is compared by its bits.
         let phase = if self.phase.is_nan() { f64::NAN } else { self.phase };
         let [duty, frequency, depth, phase] = [duty, self.frequency, depth, phase].map(f64::to_bits);
@@ -73,8 +90,17 @@ fn float(row: &[u64], at: usize) -> f64 {
     f64::from_bits(row[at])
 }
 
+/// The phase that the block call starts from.
+fn start(row: &[u64]) -> f64 {
+    if is_reset(row[0]) {
+        0.0
+    } else {
+        float(row, 6)
+    }
+}
+
 fn highest(op: u64) -> f64 {
-    if op == LFO {
+    if is_lfo(op) {
         100.0
     } else {
         20000.0
@@ -88,21 +114,21 @@ fn refusal(row: &[u64]) -> Option<u64> {
         return Some(6);
     }
     let sounds = (0.0..=highest(row[0])).contains(&float(row, 4)) && unit.contains(&float(row, 5));
-    (!sounds || !(0.0..1000.0).contains(&float(row, 6))).then_some(9)
+    (!sounds || !(0.0..1000.0).contains(&start(row))).then_some(9)
 }
 
-/// Number, count, phase after, samples.
+/// Answer, phase after, samples.
 fn answer(row: &[u64]) -> Vec<u64> {
-    let (number, count, phase, samples) = match refusal(row) {
-        Some(number) => (number, 0, row[6], vec![UNWRITTEN.to_bits(); row[7] as usize]),
+    let (said, phase, samples) = match refusal(row) {
+        Some(number) => (says(number, 0, 0), start(row).to_bits(), vec![UNWRITTEN.to_bits(); row[7] as usize]),
         None => {
             let (samples, phase) = ask(row);
-            (0, row[7], phase, samples)
+            (says(0, 0, row[7]), phase, samples)
         }
     };
     assert!(refusal(row).is_some() || f64::from_bits(phase).is_finite());
     assert!(samples.iter().all(|&sample| f64::from_bits(sample).is_finite()), "not finite at {row:?}");
-    [vec![number, count, phase], samples].concat()
+    [vec![said, phase], samples].concat()
 }
 
 /// Every sample and the phase after, as bits.
@@ -115,25 +141,28 @@ fn ask(row: &[u64]) -> Played {
     if row[1] == PULSE && float(row, 2) != DEFAULT_DUTY_CYCLE {
         return by_samples;
     }
-    let by_block = if row[0] == LFO { lfo(row) } else { oscillator(row) };
+    let by_block = if is_lfo(row[0]) { lfo(row) } else { oscillator(row) };
     assert_eq!(by_block, by_samples, "the block parts ways at {row:?}");
     by_block
 }
 
-/// The opened copy from the given phase; from +0, where it starts, the untouched one agrees.
+/// The opened copy from the given phase; from +0, where it starts or is set back to, the untouched one agrees.
 fn oscillator(row: &[u64]) -> Played {
     let (frequency, waveform) = (float(row, 4), waveform(row[1]));
-    // What does not sound: a frequency below 0, and noise, which stops the program.
-    let (own, first) = if row[0] == SET { (-1.0, Waveform::Noise) } else { (frequency, waveform) };
+    let is_set = [SET, SET_AND_RESET].contains(&row[0]);
+    // Noise stops the program.
+    let (own, first) = if is_set { (UNHEARD, Waveform::Noise) } else { (frequency, waveform) };
     let mut plain = OscillatorBlock::<f64>::new(own, first, None);
     let mut open = opened::oscillator::OscillatorBlock::<f64>::new(own, first, None);
-    if row[0] == SET {
+    if is_set {
         (plain.set_waveform(waveform), open.set_waveform(waveform));
         (plain.set_midi_frequency(frequency), open.set_midi_frequency(frequency));
+    } else if row[0] == CLEARED {
+        (plain.set_midi_frequency(UNHEARD), open.set_midi_frequency(UNHEARD));
+        (plain.clear_midi_frequency(), open.clear_midi_frequency());
     }
     open.set_opened_phase(float(row, 6));
-    let samples = run(&mut open, row[3] as f64, row[7] as usize);
-    assert!(row[6] != 0 || samples == run(&mut plain, row[3] as f64, row[7] as usize));
+    let samples = played(row, &mut plain, &mut open);
     (samples, open.opened_phase().to_bits())
 }
 
@@ -143,14 +172,25 @@ fn lfo(row: &[u64]) -> Played {
     let mut plain = LfoBlock::<f64>::new(frequency, depth, waveform, None);
     let mut open = opened::lfo::LfoBlock::<f64>::new(frequency, depth, waveform, None);
     open.set_opened_phase(float(row, 6));
-    let samples = run(&mut open, row[3] as f64, row[7] as usize);
-    assert!(row[6] != 0 || samples == run(&mut plain, row[3] as f64, row[7] as usize));
+    let samples = played(row, &mut plain, &mut open);
     (samples, open.opened_phase().to_bits())
+}
+
+/// The opened copy's samples. Before a reset the untouched one plays some, which leave it at another phase.
+fn played(row: &[u64], plain: &mut impl Block<f64>, open: &mut impl Block<f64>) -> Vec<u64> {
+    let (rate, length) = (row[3] as f64, row[7] as usize);
+    if is_reset(row[0]) {
+        run(plain, rate, 5);
+        (plain.reset(), open.reset());
+    }
+    let samples = run(open, rate, length);
+    assert!(start(row).to_bits() != 0 || samples == run(plain, rate, length));
+    samples
 }
 
 /// The block's increment, its loop and its reduction, about the original's single sample, which takes any duty.
 fn sample_by_sample(row: &[u64]) -> Played {
-    let (duty, depth, mut phase) = (float(row, 2), float(row, 5), float(row, 6));
+    let (duty, depth, mut phase) = (float(row, 2), float(row, 5), start(row));
     let increment = float(row, 4) / row[3] as f64 * TAU;
     let rng = &mut XorShiftRng::new(0);
     let mut samples = Vec::new();
@@ -171,7 +211,7 @@ fn usual(op: u64, wave: Wave) -> Asked {
 
 /// The oscillator's frequency, or for the LFO a 200th of it: both end at the highest.
 fn at_op(op: u64, frequency: f64) -> f64 {
-    if op == LFO {
+    if is_lfo(op) {
         frequency / 200.0
     } else {
         frequency
@@ -217,9 +257,23 @@ fn edges() -> Vec<Vec<u64>> {
         rows.extend(depths().into_iter().map(|depth| Asked { depth, ..usual(LFO, wave) }));
         rows.extend([0, 1, 64].map(|length| Asked { length, ..usual(SET, wave) }));
     }
+    rows.extend([SET_AND_RESET, LFO_RESET, CLEARED].into_iter().flat_map(edges_of_states));
     rows.extend([OSCILLATOR, LFO, SET].into_iter().flat_map(edges_of_refusals));
     rows.extend(edges_of_documents());
     rows.into_iter().map(Asked::words).collect()
+}
+
+/// Set back or cleared: each shape, and some settings that are refused. After a reset no start phase is.
+fn edges_of_states(op: u64) -> Vec<Asked> {
+    let mut rows = Vec::new();
+    for wave in WAVES {
+        rows.extend([0, 1, 5].map(|length| Asked { length, ..usual(op, wave) }));
+    }
+    let usual = usual(op, (TRIANGLE, 0.0));
+    rows.extend([0.0, -0.0, 999.99, 1000.0, -1.0, f64::NAN].map(|phase| Asked { phase, ..usual }));
+    rows.extend([UNHEARD, f64::NAN].map(|frequency| Asked { frequency, ..usual }));
+    rows.extend([Asked { rate: 7999, ..usual }, Asked { depth: 2.0, ..usual }]);
+    rows
 }
 
 /// The usual one at every length but the longest; the fastest, from the last phase, at every length.
@@ -256,7 +310,7 @@ fn edges_of_refusals(op: u64) -> Vec<Asked> {
         rows.extend(not_a_frequency(op).into_iter().map(|frequency| Asked { frequency, ..usual }));
         rows.extend(not_a_phase().into_iter().map(|phase| Asked { phase, ..usual }));
         rows.extend([0.0, f64::NAN].map(|phase| Asked { rate: 7999, frequency: f64::NAN, phase, ..usual }));
-        if op == LFO {
+        if is_lfo(op) {
             rows.extend(not_a_unit().into_iter().map(|depth| Asked { depth, ..usual }));
         }
     }
@@ -278,7 +332,7 @@ fn edges_of_documents() -> [Asked; 2] {
 // The random rows.
 
 fn random(chance: &mut Chance) -> Vec<u64> {
-    let op = chance.pick(&[OSCILLATOR, OSCILLATOR, LFO, LFO, SET]);
+    let op = chance.pick(&[OSCILLATOR, OSCILLATOR, LFO, LFO, SET, SET_AND_RESET, LFO_RESET, CLEARED]);
     let shape = chance.pick(&[SINE, SQUARE, SAWTOOTH, TRIANGLE, PULSE, PULSE]);
     let duty = random_duty(chance);
     let rate = random_rate(chance);
@@ -298,7 +352,7 @@ fn spoilt(asked: Asked, chance: &mut Chance) -> Asked {
     let unit = chance.pick(&not_a_unit());
     match chance.below(6) {
         0 if shape == PULSE => Asked { wave: (PULSE, unit), ..asked },
-        1 if asked.op == LFO => Asked { depth: unit, ..asked },
+        1 if is_lfo(asked.op) => Asked { depth: unit, ..asked },
         0..=2 => Asked { rate: chance.pick(&not_a_rate()), ..asked },
         3 => Asked { frequency: chance.pick(&not_a_frequency(asked.op)), ..asked },
         _ => Asked { phase: chance.pick(&not_a_phase()), ..asked },

@@ -1,5 +1,5 @@
-//! Rows of the envelope: op, the four settings, rate, samples asked for, the given state; then number, count, the state
-//! after, eight slots. 25 u64 a row, every float as its bits.
+//! Rows of the envelope: op, the four settings, rate, samples asked for, the given state; then answer, the state
+//! after, eight slots. 24 u64 a row, every float as its bits.
 //!
 //! A state is stage (0 to 4), level, stage_time, release_level. The slots are eight numbers, 42 each before the call,
 //! of which the first are lent to `process`. A NaN in a given state is 7FF8000000000000, and comes back so.
@@ -11,15 +11,15 @@ use crate::context::DspContext;
 use crate::opened::envelope::EnvelopeStage::{self, Attack, Decay, Idle, Release, Sustain};
 use crate::parameter::ModulationValues;
 use crate::patterns::near;
-use crate::rows::Part;
+use crate::rows::{says, Part};
 use crate::{blocks, opened};
 
 pub const PART: Part = Part {
     name: "envelope",
     word: 8,
-    words: 25,
+    words: 24,
     more_at: None,
-    number_at: Some(11),
+    answer_at: Some(11),
     ops: &["note_on", "note_off", "reset", "process", "new"],
     edges,
     random: |chance| Box::new(Runs::new(chance)),
@@ -96,14 +96,14 @@ fn refusal(row: &[u64]) -> Option<u64> {
     }
 }
 
-/// Number, count, state after, slots.
+/// Answer, state after, slots.
 fn answer(row: &[u64]) -> Vec<u64> {
     let mut slots = [UNWRITTEN; SLOTS as usize];
-    let (number, count, after) = match refusal(row) {
-        Some(number) => (number, 0, [row[7], row[8], row[9], row[10]]),
-        None => (0, row[6], ask(row, &mut slots[..row[6] as usize])),
+    let (said, after) = match refusal(row) {
+        Some(number) => (says(number, 0, 0), [row[7], row[8], row[9], row[10]]),
+        None => (says(0, 0, row[6]), ask(row, &mut slots[..row[6] as usize])),
     };
-    let mut words = vec![number, count];
+    let mut words = vec![said];
     words.extend(after);
     words.extend(slots.map(f64::to_bits));
     words

@@ -1,4 +1,4 @@
-//! Rows of the accumulator: op, given phase, increment, a, b; then number, value, phase and increment after.
+//! Rows of the accumulator: op, given phase, increment, a, b; then answer, value, phase and increment after.
 //!
 //! Nine u32 a row, every float as its bits. a and b are frequency and rate of set_frequency, a is the argument of
 //! set_increment and set_phase, else 0. A NaN in a given state is 7FC00000, and comes back so.
@@ -13,7 +13,7 @@ pub const PART: Part = Part {
     word: 4,
     words: 9,
     more_at: None,
-    number_at: Some(5),
+    answer_at: Some(5),
     ops: &["set_frequency", "set_increment", "increment", "next", "phase", "set_phase", "reset", "new"],
     edges,
     random: |chance| rows::each(chance, random),

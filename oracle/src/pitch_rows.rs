@@ -1,4 +1,4 @@
-//! Rows of the pitches: note; then number, the pitch's f32 bits, the bits of the same number in f64. Four u64 a row.
+//! Rows of the pitches: note; then answer, the pitch's f32 bits, the bits of the same number in f64. Four u64 a row.
 //!
 //! Every u8 once, so there is nothing to draw: a seed and a count change nothing.
 
@@ -10,7 +10,7 @@ pub const PART: Part = Part {
     word: 8,
     words: 4,
     more_at: None,
-    number_at: Some(1),
+    answer_at: Some(1),
     ops: &["midi_note_to_frequency"],
     edges,
     random: |_| Box::new(std::iter::empty()),

@@ -1,4 +1,4 @@
-//! Rows of polyblep: op, phase (t), dt, duty; then number and value. Six u64 a row, every float as its bits.
+//! Rows of polyblep: op, phase (t), dt, duty; then answer and value. Six u64 a row, every float as its bits.
 //!
 //! Only polyblep_pulse reads the duty; it is 0 elsewhere.
 
@@ -12,7 +12,7 @@ pub const PART: Part = Part {
     word: 8,
     words: 6,
     more_at: None,
-    number_at: Some(4),
+    answer_at: Some(4),
     ops: &["poly_blep", "poly_blamp", "polyblep_saw", "polyblep_square", "polyblep_pulse", "polyblamp_triangle"],
     edges,
     random: |chance| rows::each(chance, random),

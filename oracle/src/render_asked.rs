@@ -1,6 +1,7 @@
 //! What a row of the render asks for, by the names of its words, and what the original or 01 answers.
 
 use crate::render::{untouched, Player, Record, Settings, Wave, Words, KIND_RESET, MARK};
+use crate::rows::says;
 use crate::waveform_rows::{PULSE, SINE, UNWRITTEN};
 
 pub const RENDER: u64 = 0;
@@ -147,7 +148,7 @@ impl Asked {
         self.op == CONTINUE && !(is_state(&self.state) && self.state[5] >> 16 == below as u64)
     }
 
-    /// Number, place, count, state after; samples, of a sine their scales, shelf.
+    /// Answer, state after; samples, of a sine their scales, shelf.
     pub fn answer(&self) -> Vec<u64> {
         match self.refusal() {
             Some(refusal) => self.refused(refusal),
@@ -157,7 +158,7 @@ impl Asked {
 
     fn refused(&self, (number, place): Refusal) -> Vec<u64> {
         let state = if self.op == RENDER { Player::fresh(self.settings).words() } else { self.state };
-        let mut words = vec![number, place as u64, 0];
+        let mut words = vec![says(number, place as u64, 0)];
         words.extend(state);
         if self.op == RERENDER {
             words.extend(&self.left);
@@ -186,7 +187,7 @@ impl Asked {
         assert!(shelf[first.clone()] == played.shelf[first], "an entry parts ways");
         played.samples.splice(..from as usize, samples[..from as usize].iter().copied());
         played.shelf.splice(..entry as usize, shelf[..entry as usize].iter().copied());
-        let mut words = vec![0, 0, self.samples - from];
+        let mut words = vec![says(0, 0, self.samples - from)];
         // A re-render hands back no state.
         words.extend(if self.op == RERENDER { self.state } else { player.words() });
         words.extend(played.samples);

@@ -1,6 +1,6 @@
-//! Rows of the render: op, how many words follow the row's first forty, rate, waveform (0 Sine to 4 Pulse, in the
+//! Rows of the render: op, how many words follow the row's first 38, rate, waveform (0 Sine to 4 Pulse, in the
 //! original's order), duty, the four settings, samples asked for, bytes of the score, words of the shelf, position, the
-//! given state; then number, place, count, the state after. Then the score's bytes, with zeros up to a whole word, every
+//! given state; then answer, the state after. Then the score's bytes, with zeros up to a whole word, every
 //! sample, of a sine that was played also level times velocity at every sample, and every word of the shelf.
 //! All are u64, every float as its bits; a state is the twelve words of a shelf entry.
 //!
@@ -17,9 +17,9 @@ use crate::{render_edges, render_edits};
 pub const PART: Part = Part {
     name: "render",
     word: 8,
-    words: 40,
+    words: 38,
     more_at: Some(1),
-    number_at: Some(GIVEN),
+    answer_at: Some(GIVEN),
     ops: &["render", "continue", "re-render"],
     edges: || [render_edges::all(), render_edits::edges()].concat(),
     random: render_edits::among,

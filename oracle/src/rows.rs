@@ -9,13 +9,13 @@ use crate::chance::Chance;
 /// A part's rows: their shape, and how they are made.
 pub struct Part {
     pub name: &'static str,
-    /// Bytes in a word (4 or 8), words in a row, which word says how many more there are, if any, and which holds the
-    /// answer's number, if any: the first word of the answer. Given words that are more than stand before it come after
+    /// Bytes in a word (4 or 8), words in a row, which word says how many more there are, if any, and which is the answer
+    /// (`says`), if any: the first word that is not given. Given words that are more than stand before it come after
     /// the row's first words. The first word is the op, unless there is only one.
     pub word: usize,
     pub words: usize,
     pub more_at: Option<usize>,
-    pub number_at: Option<usize>,
+    pub answer_at: Option<usize>,
     pub ops: &'static [&'static str],
     /// The given words of every edge.
     pub edges: fn() -> Vec<Vec<u64>>,
@@ -23,6 +23,12 @@ pub struct Part {
     pub random: fn(Chance) -> Rows,
     /// What the original answers, or the refusal: the words after the given ones.
     pub answer: fn(&[u64]) -> Vec<u64>,
+}
+
+/// An answer in one word, as the library's header packs it.
+pub fn says(number: u64, place: u64, count: u64) -> u64 {
+    assert!(number < 1 << 8 && place < 1 << 24 && count < 1 << 32);
+    number | place << 8 | count << 32
 }
 
 /// Given words of rows, one after the other.
@@ -56,7 +62,7 @@ fn put(part: &Part, given: &[u64], out: &mut impl Write) {
     let answer = (part.answer)(given);
     let more = part.more_at.map_or(0, |at| given[at] as usize);
     assert_eq!(given.len() + answer.len(), part.words + more);
-    let (head, score) = given.split_at(part.number_at.unwrap_or(given.len()));
+    let (head, score) = given.split_at(part.answer_at.unwrap_or(given.len()));
     let (numbers, rest) = answer.split_at(part.words - head.len());
     for word in [head, numbers, score, rest].into_iter().flatten() {
         assert!(part.word == 8 || *word <= u32::MAX as u64);
@@ -89,7 +95,7 @@ fn tally_part<'a>(part: &Part, count: u64, rows: &'a [u8]) -> &'a [u8] {
     let (mut counts, mut rest) = (vec![[0u64; 2]; part.ops.len()], rows);
     for _ in 0..count {
         let (row, after) = rest.split_at(size(part, rest));
-        let refused = part.number_at.is_some_and(|at| word(part, row, at) != 0);
+        let refused = part.answer_at.is_some_and(|at| word(part, row, at) % 256 != 0);
         let op = if part.ops.len() == 1 { 0 } else { word(part, row, 0) };
         counts[op as usize][refused as usize] += 1;
         rest = after;

@@ -17,7 +17,7 @@ pub const PART: Part = Part {
     word: 8,
     words: 2,
     more_at: None,
-    number_at: None,
+    answer_at: None,
     ops: &["sine"],
     edges,
     random: |chance| rows::each(chance, random),

@@ -1,4 +1,4 @@
-//! Rows of the voice: op, the given state, note, velocity; then number, what is answered (released, active or how many
+//! Rows of the voice: op, the given state, note, velocity; then answer, what it gives (released, active or how many
 //! are held), the state after. 31 u32 a row, floats as their bits.
 //!
 //! A state is the active note (256 for none), gate, how many keys are held, 16 notes and 16 velocities of four bytes a
@@ -17,7 +17,7 @@ pub const PART: Part = Part {
     word: 4,
     words: 31,
     more_at: None,
-    number_at: Some(16),
+    answer_at: Some(16),
     ops: &["note_on", "note_off", "reset", "is_active", "held_note_count", "new"],
     edges,
     random: |chance| Box::new(Runs::new(chance)),

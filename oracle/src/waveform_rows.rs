@@ -1,16 +1,17 @@
 //! Rows of the waveforms, all but sine: op, waveform (1 to 4, in the original's order), duty, phase, step, scale,
-//! samples asked for; then number, phase after, eight slots. 17 u64 a row, every float as its bits.
+//! samples asked for; then answer, phase after, eight slots. 17 u64 a row, every float as its bits.
 //!
 //! `fill` and `block` count in radians: one sample by `generate_waveform_sample`, whose phase grows and is not reduced;
 //! up to eight by `process_waveform_scalar`, which reduces. `sample` takes a phase and a step of it in cycles, which are
-//! judged. Only Pulse has a duty. The slots are eight numbers, 42 each before the call, of which the first are written.
+//! judged. Of a sine (0) there are only those that `sample`, and `sine` at a phase alone, refuse: one that is played is
+//! measured (`sine_rows`). Only Pulse has a duty. The slots are eight numbers, 42 each before the call, of which the first are written.
 
 use crate::chance::Chance;
 use crate::math::Real;
 use crate::patterns::{near, two_to};
 use crate::polyblep::{polyblamp_triangle, polyblep_pulse, polyblep_saw, polyblep_square};
 use crate::random::XorShiftRng;
-use crate::rows::{self, Part};
+use crate::rows::{self, says, Part};
 use crate::waveform::{generate_waveform_sample, process_waveform_scalar, Waveform, DEFAULT_DUTY_CYCLE};
 
 pub const PART: Part = Part {
@@ -18,8 +19,8 @@ pub const PART: Part = Part {
     word: 8,
     words: 17,
     more_at: None,
-    number_at: Some(7),
-    ops: &["fill", "block", "sample"],
+    answer_at: Some(7),
+    ops: &["fill", "block", "sample", "sine"],
     edges,
     random: |chance| rows::each(chance, random),
     answer,
@@ -28,6 +29,7 @@ pub const PART: Part = Part {
 const FILL: u64 = 0;
 const BLOCK: u64 = 1;
 const SAMPLE: u64 = 2;
+const ALONE: u64 = 3;
 
 pub const SINE: u64 = 0;
 pub const SQUARE: u64 = 1;
@@ -61,24 +63,26 @@ pub fn waveform(shape: u64) -> Waveform {
     }
 }
 
-/// 01's refusals of a single sample: the duty, then phase and dt. The other two refuse nothing.
+/// 01's refusals of a single sample: the duty, then phase and dt; a sine alone has neither duty nor dt. The other two
+/// refuse nothing.
 fn refusal(row: &[u64]) -> Option<u64> {
     let [duty, phase, dt] = [2, 3, 4].map(|at| f64::from_bits(row[at]));
     let unit = 0.0..=1.0;
     match row[0] {
         SAMPLE if row[1] == PULSE && !unit.contains(&duty) => Some(6),
         SAMPLE if !unit.contains(&phase) || !(0.0..=4.0).contains(&dt) => Some(9),
+        ALONE if !unit.contains(&phase) => Some(9),
         _ => None,
     }
 }
 
-/// Number, phase after (0 of a single sample), slots.
+/// Answer, phase after (0 of a single sample), slots.
 fn answer(row: &[u64]) -> Vec<u64> {
     let mut slots = [UNWRITTEN; SLOTS as usize];
     let number = refusal(row);
     let output = &mut slots[..row[6] as usize];
     let after = match row[0] {
-        SAMPLE => {
+        SAMPLE | ALONE => {
             output[0] = number.map_or_else(|| single(row), |_| 0.0);
             0.0
         }
@@ -86,7 +90,7 @@ fn answer(row: &[u64]) -> Vec<u64> {
         _ => block(row, output),
     };
     assert!(slots.iter().all(|x| x.is_finite()) && after.is_finite(), "not finite at {row:?}");
-    let mut words = vec![number.unwrap_or(0), after.to_bits()];
+    let mut words = vec![says(number.unwrap_or(0), 0, 0), after.to_bits()];
     words.extend(slots.map(f64::to_bits));
     words
 }
@@ -118,7 +122,8 @@ fn single(row: &[u64]) -> f64 {
         SQUARE => polyblep_square(phase, dt),
         SAWTOOTH => polyblep_saw(phase, dt),
         TRIANGLE => polyblamp_triangle(phase, dt),
-        _ => polyblep_pulse(phase, dt, duty),
+        PULSE => polyblep_pulse(phase, dt, duty),
+        _ => panic!("a sine that is not refused: {row:?}"),
     }
 }
 
@@ -151,7 +156,7 @@ pub fn not_a_unit() -> Vec<f64> {
 }
 
 fn edges() -> Vec<Vec<u64>> {
-    [edges_of_fill(), edges_of_block(), edges_of_sample()].concat()
+    [edges_of_fill(), edges_of_block(), edges_of_sample(), edges_of_sine()].concat()
 }
 
 fn edges_of_fill() -> Vec<Vec<u64>> {
@@ -205,9 +210,23 @@ fn edges_of_sample() -> Vec<Vec<u64>> {
     rows
 }
 
+/// Phases outside 0 to 1; of a sample also with a dt that is outside too, and such a dt alone.
+fn edges_of_sine() -> Vec<Vec<u64>> {
+    let not_a_step = [-TINY, near(4.0, 1), f64::INFINITY, f64::NAN];
+    let mut rows: Vec<_> = not_a_step.map(|dt| given(SAMPLE, SINE, 0.0, 0.25, dt, 1.0, 1)).into();
+    for phase in not_a_unit() {
+        rows.extend([0.25, f64::NAN].map(|dt| given(SAMPLE, SINE, 0.0, phase, dt, 1.0, 1)));
+        rows.push(given(ALONE, SINE, 0.0, phase, 0.0, 1.0, 1));
+    }
+    rows
+}
+
 // The random rows.
 
 fn random(chance: &mut Chance) -> Vec<u64> {
+    if chance.below(32) == 0 {
+        return random_sine(chance);
+    }
     let shape = chance.pick(&SHAPES);
     let op = chance.pick(&[FILL, FILL, BLOCK, BLOCK, BLOCK, SAMPLE]);
     let duty = match op {
@@ -232,6 +251,18 @@ fn random_sample(shape: u64, duty: f64, chance: &mut Chance) -> Vec<u64> {
         row[at] = chance.pick(&not_a_unit()).to_bits();
     }
     row
+}
+
+/// A phase outside 0 to 1, at all magnitudes.
+fn random_sine(chance: &mut Chance) -> Vec<u64> {
+    let op = chance.pick(&[SAMPLE, ALONE]);
+    let phase = match chance.below(4) {
+        0 => chance.pick(&not_a_unit()),
+        1 => -chance.scaled(-60, 60),
+        _ => near(1.0, 1) + chance.scaled(-52, 60),
+    };
+    let dt = if op == SAMPLE { 4.0 * chance.dense() } else { 0.0 };
+    given(op, SINE, 0.0, phase, dt, 1.0, 1)
 }
 
 /// 0 up to 1,000; some near a corner of the shape, or within a step of one.

@@ -9,7 +9,7 @@
 #include <stdlib.h>
 
 #define UNWRITTEN 42.0
-#define MOST_OPS 3
+#define MOST_OPS 6
 #define RERENDER 2 /* the op of render that is one */
 
 /* The numbers that are met are a set of bits for each op. */
@@ -91,19 +91,20 @@ static bool near_block(struct tally *tally, const struct block *b, double phase,
     return fine;
 }
 
-/* Op, waveform, duty, rate, frequency, depth, start phase, samples; number, count, phase after; the samples. */
+/* Op, waveform, duty, rate, frequency, depth, start phase, samples; answer, phase after; the samples. Ops 1 and 4 are
+ * the LFO's; 3 and 4 set the phase back before they play. */
 static void block_row(struct rows *rows, struct tally *tally) {
-    const uint64_t *row = take(rows, 11), *theirs = take(rows, row[7]);
+    const uint64_t *row = take(rows, 10), *theirs = take(rows, row[7]);
     const struct block b = {(uint32_t)row[3], (uint32_t)row[1],          number(row[2]),
-                            number(row[4]),   row[0] == 1 ? 100 : 20000, number(row[5])};
+                            number(row[4]),   row[0] % 3 == 1 ? 100 : 20000, number(row[5])};
     size_t n = (size_t)row[7];
-    double start = number(row[6]), phase = start, *out = room(n * sizeof *out);
+    double start = row[0] == 3 || row[0] == 4 ? 0.0 : number(row[6]), phase = start, *out = room(n * sizeof *out);
     for (size_t i = 0; i < n; i++) out[i] = UNWRITTEN;
     uint64_t answer = reference_block(&b, &phase, out, n);
     bool is_sine = b.code == GAV_SINE && answer == says(0, 0, n);
     bool fine = is_sine ? near_block(tally, &b, start, out, theirs, n) : same_words(out, theirs, n);
-    tally->met[row[0] % MOST_OPS] |= 1u << row[8];
-    tally->equal += fine && answer == says((unsigned)row[8], 0, row[9]) && bits(phase) == row[10];
+    tally->met[row[0] % MOST_OPS] |= 1u << gav_number(row[8]);
+    tally->equal += fine && answer == row[8] && bits(phase) == row[9];
     free(out);
 }
 
@@ -127,8 +128,8 @@ static uint8_t *take_bytes(const uint64_t **here, size_t len) {
 }
 
 static void read_asked(struct rows *rows, struct asked *a) {
-    const uint64_t *row = take(rows, 40), *here = take(rows, row[1]);
-    bool is_sine = row[3] == GAV_SINE && row[25] == 0, is_edit = row[0] == RERENDER;
+    const uint64_t *row = take(rows, 38), *here = take(rows, row[1]);
+    bool is_sine = row[3] == GAV_SINE && gav_number(row[25]) == 0, is_edit = row[0] == RERENDER;
     a->settings = (struct gav_settings){(uint32_t)row[2], (uint32_t)row[3], number(row[4]), number(row[5]),
                                         number(row[6]),   number(row[7]),   number(row[8])};
     a->n = (size_t)row[9], a->len = (size_t)row[10], a->words = (size_t)row[11];
@@ -170,9 +171,9 @@ static bool same_call(struct tally *tally, const struct asked *a, bool is_render
     } else {
         answer = reference_continue(&a->settings, a->score, a->len, after, GAV_STATE_WORDS, a->position, out, a->n);
     }
-    bool fine = answer == says((unsigned)a->answer[0], a->answer[1], a->answer[2]);
+    bool fine = answer == a->answer[0];
     if (gav_number(answer) == 0) fine &= same_walk(tally, a, state, out);
-    return fine && same_words(state, a->answer + 3, GAV_STATE_WORDS) &&
+    return fine && same_words(state, a->answer + 1, GAV_STATE_WORDS) &&
            (is_render || same_words(after, state, GAV_STATE_WORDS));
 }
 
@@ -182,7 +183,7 @@ static bool same_edit(struct tally *tally, const struct asked *a, double *out, u
     memcpy(shelf, a->found + a->n, a->words * sizeof *shelf);
     uint64_t answer =
         reference_rerender(&a->settings, a->old, a->old_len, a->score, a->len, out, a->n, shelf, a->words);
-    bool fine = answer == says((unsigned)a->answer[0], a->answer[1], a->answer[2]);
+    bool fine = answer == a->answer[0];
     size_t start = a->n - gav_count(answer);
     fine &= same_words(out, a->samples, a->scales ? start : a->n);
     for (size_t i = start; a->scales && i < a->n; i++) {
@@ -202,13 +203,15 @@ static void render_row(struct rows *rows, struct tally *tally) {
     for (size_t i = 0; i < a.n; i++) out[i] = UNWRITTEN;
     memset(shelf, 0x2A, a.words * sizeof *shelf);
     bool fine = op == RERENDER ? same_edit(tally, &a, out, shelf) : same_call(tally, &a, op == 0, out, shelf);
-    tally->met[op % MOST_OPS] |= 1u << a.answer[0];
+    tally->met[op % MOST_OPS] |= 1u << gav_number(a.answer[0]);
     tally->equal += fine && (a.scales || same_words(out, a.samples, a.n)) && same_words(shelf, a.shelf, a.words);
     free(out);
     free(shelf);
     free(a.score);
     free(a.old);
 }
+
+#define BLOCKS_MET (1 | 1 << 6 | 1 << 9)
 
 /* Each part with the numbers that each of its ops must be met with. */
 static const struct part {
@@ -218,7 +221,7 @@ static const struct part {
     unsigned met[MOST_OPS];
 } PARTS[] = {
     {"pitch", false, pitch_row, {1 | 1 << 9}},
-    {"blocks", true, block_row, {1 | 1 << 6 | 1 << 9, 1 | 1 << 6 | 1 << 9, 1 | 1 << 6 | 1 << 9}},
+    {"blocks", true, block_row, {BLOCKS_MET, BLOCKS_MET, BLOCKS_MET, BLOCKS_MET, BLOCKS_MET, BLOCKS_MET}},
     {"render", true, render_row, {0xFF, 0xFF | 1 << 10, 0x1FF | 0x1F << 17}},
 };
 

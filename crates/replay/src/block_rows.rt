@@ -1,6 +1,6 @@
-// The original's answers to the two block calls, of oscillator.rs and lfo.rs: a row is eleven u64 and one for each sample. The
-// answer, the phase after the call and every sample are compared bit for bit; but the samples of a sine, which is ours, must
-// lie within 0.000001 of the original's, times the depth.
+// The original's answers to the calls of oscillator.rs and lfo.rs: a row is ten u64 and one for each sample. The answer, the
+// phase after the call and every sample are compared bit for bit; but the samples of a sine, which is ours, must lie within
+// 0.000001 of the original's, times the depth.
 use crate::fields;
 use crate::tally;
 use crate::tally::Finding;
@@ -11,7 +11,7 @@ use waveform::Radians;
 use waveform::Waveform;
 
 // The bytes of a row before its samples.
-pub const ROW: usize = 88;
+pub const ROW: usize = 80;
 
 // Where a row says how many samples it asks for: so many words follow.
 pub const MORE: usize = 56;
@@ -24,13 +24,17 @@ pub fn compared(row: &[u8]) -> Finding {
     compared_in(row, &mut out)
 }
 
+// As much is lent as the row says, or as there is.
 fn compared_in(row: &[u8], out: &mut [f64]) -> Finding {
-    let length = words::u64_at(row, MORE);
-    let lent = fields::at_most(length, out.len());
-    let told = is_called(row, &mut out[0..lent]);
-    let found = compared_samples(row, &out[0..lent]);
+    let lent = fields::at_most(words::u64_at(row, MORE), out.len());
+    judged(row, &mut out[0..lent])
+}
+
+fn judged(row: &[u8], out: &mut [f64]) -> Finding {
+    let told = is_called(row, out);
+    let found = compared_samples(row, out);
     Finding {
-        equal: told & (lent as u64 == length) & found.equal,
+        equal: told & found.equal & (out.len() as u64 == words::u64_at(row, MORE)),
         farthest: found.farthest,
     }
 }
@@ -38,56 +42,77 @@ fn compared_in(row: &[u8], out: &mut [f64]) -> Finding {
 // Whether the call answers what it must, and leaves the phase that it must.
 fn is_called(row: &[u8], out: &mut [f64]) -> bool {
     match words::u64_at(row, 0) {
-        0 => is_oscillated(row, own_oscillator(row), out),
-        1 => is_modulated(row, given_lfo(row), out),
-        2 => is_oscillated(row, set_oscillator(row), out),
+        0 | 2 | 3 | 5 => is_oscillated(row, out),
+        1 | 4 => is_modulated(row, out),
         _ => false,
     }
 }
 
-fn is_oscillated(row: &[u8], mut block: OscillatorBlock, out: &mut [f64]) -> bool {
-    let start = Radians(fields::float_at(row, 48));
-    block.phase = start;
-    let got = block.process(words::u32_at(row, 24), out);
+fn is_oscillated(row: &[u8], out: &mut [f64]) -> bool {
+    let got = oscillator_of(row).process(words::u32_at(row, 24), out);
     let answer = got.answer;
     is_outcome(row, answer, got.block.phase.0)
 }
 
-fn own_oscillator(row: &[u8]) -> OscillatorBlock {
-    OscillatorBlock::new(fields::float_at(row, 32), waveform_of(row))
+// Set: made with settings that are refused where they are used. Cleared: given a note's frequency that is.
+fn oscillator_of(row: &[u8]) -> OscillatorBlock {
+    match words::u64_at(row, 0) {
+        0 => own_oscillator(row),
+        2 => set_oscillator(row),
+        3 => set_oscillator(row).reset(),
+        _ => own_oscillator(row)
+            .set_midi_frequency(UNHEARD)
+            .clear_midi_frequency(),
+    }
 }
 
-// Made with settings that are refused where they are used.
+fn own_oscillator(row: &[u8]) -> OscillatorBlock {
+    started(
+        row,
+        OscillatorBlock::new(fields::float_at(row, 32), waveform_of(row)),
+    )
+}
+
 fn set_oscillator(row: &[u8]) -> OscillatorBlock {
-    let block = OscillatorBlock::new(UNHEARD, Waveform::Pulse(2.0));
-    block
+    started(row, OscillatorBlock::new(UNHEARD, Waveform::Pulse(2.0)))
         .set_waveform(waveform_of(row))
         .set_midi_frequency(fields::float_at(row, 32))
 }
 
-fn is_modulated(row: &[u8], mut block: LfoBlock, out: &mut [f64]) -> bool {
+fn started(row: &[u8], made: OscillatorBlock) -> OscillatorBlock {
     let start = Radians(fields::float_at(row, 48));
+    let mut block = made;
     block.phase = start;
-    let got = block.process(words::u32_at(row, 24), out);
+    block
+}
+
+fn is_modulated(row: &[u8], out: &mut [f64]) -> bool {
+    let got = lfo_of(row).process(words::u32_at(row, 24), out);
     let answer = got.answer;
     is_outcome(row, answer, got.block.phase.0)
 }
 
-fn given_lfo(row: &[u8]) -> LfoBlock {
-    LfoBlock::new(
+fn lfo_of(row: &[u8]) -> LfoBlock {
+    let start = Radians(fields::float_at(row, 48));
+    let mut block = LfoBlock::new(
         fields::float_at(row, 32),
         fields::float_at(row, 40),
         waveform_of(row),
-    )
+    );
+    block.phase = start;
+    if words::u64_at(row, 0) == 4 {
+        return block.reset();
+    }
+    block
 }
 
 fn is_outcome(row: &[u8], answer: Answer, phase: f64) -> bool {
-    fields::is_counted(row, 64, answer) & fields::is_word(row, 80, phase)
+    fields::says(answer, words::u64_at(row, 64)) & fields::is_word(row, 72, phase)
 }
 
 // A sine is measured where the original was asked; a refusal has left every number as it was. The depth is the scale of all.
 fn compared_samples(row: &[u8], samples: &[f64]) -> Finding {
-    if (words::u64_at(row, 8) == 0) & (words::u64_at(row, 64) == 0) {
+    if (words::u64_at(row, 8) == 0) & (words::u64_at(row, 64) % 256 == 0) {
         return fields::measured(row, ROW, 40, 0, samples);
     }
     tally::exactly(fields::are_floats(row, ROW, samples))

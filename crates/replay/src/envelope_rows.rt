@@ -1,4 +1,4 @@
-// The original's answers to the calls of envelope.rs: a row is 25 u64, compared bit for bit: the answer, the state after the
+// The original's answers to the calls of envelope.rs: a row is 24 u64, compared bit for bit: the answer, the state after the
 // call, and eight numbers of which the first are lent to `process`.
 use crate::fields;
 use answers::Answer;
@@ -8,28 +8,21 @@ use envelope::EnvelopeBlock;
 use envelope::EnvelopeStage;
 use envelope::Processed;
 
-pub const ROW: usize = 200;
+pub const ROW: usize = 192;
 
 pub fn is_equal(row: &[u8]) -> bool {
     let lent = fields::at_most(words::u64_at(row, 48), 8);
     let mut slots = [fields::UNWRITTEN; 8];
     let told = is_called(row, &mut slots[0..lent]);
-    told & (words::u64_at(row, 0) < 5) & fields::are_slots(row, 136, &slots)
+    told & (words::u64_at(row, 0) < 5) & fields::are_slots(row, 128, &slots)
 }
 
 // Whether the call answers and leaves what it must.
 fn is_called(row: &[u8], out: &mut [f64]) -> bool {
     let got = called(row, given(row), out);
     let answer = got.answer;
-    let envelope = got.block.envelope;
-    fields::is_counted(row, 88, answer) & is_state(row, envelope)
-}
-
-fn given(row: &[u8]) -> EnvelopeBlock {
-    EnvelopeBlock {
-        adsr: settings(row),
-        envelope: state(row),
-    }
+    let after = got.block.envelope;
+    fields::says(answer, words::u64_at(row, 88)) & is_state(row, after)
 }
 
 fn called(row: &[u8], block: EnvelopeBlock, out: &mut [f64]) -> Processed {
@@ -50,21 +43,20 @@ fn made(given: EnvelopeBlock) -> Processed {
     }
 }
 
-fn settings(row: &[u8]) -> Adsr {
-    Adsr {
-        attack: fields::float_at(row, 8),
-        decay: fields::float_at(row, 16),
-        sustain: fields::float_at(row, 24),
-        release: fields::float_at(row, 32),
-    }
-}
-
-fn state(row: &[u8]) -> Envelope {
-    Envelope {
-        stage: stage_of(words::u64_at(row, 56)),
-        level: fields::float_at(row, 64),
-        stage_time: fields::float_at(row, 72),
-        release_level: fields::float_at(row, 80),
+fn given(row: &[u8]) -> EnvelopeBlock {
+    EnvelopeBlock {
+        adsr: Adsr {
+            attack: fields::float_at(row, 8),
+            decay: fields::float_at(row, 16),
+            sustain: fields::float_at(row, 24),
+            release: fields::float_at(row, 32),
+        },
+        envelope: Envelope {
+            stage: stage_of(words::u64_at(row, 56)),
+            level: fields::float_at(row, 64),
+            stage_time: fields::float_at(row, 72),
+            release_level: fields::float_at(row, 80),
+        },
     }
 }
 
@@ -76,7 +68,7 @@ fn is_state(row: &[u8], after: Envelope) -> bool {
         words::f64_bits(after.stage_time),
         words::f64_bits(after.release_level),
     ];
-    fields::are_words(row, 104, &told)
+    fields::are_words(row, 96, &told)
 }
 
 fn stage_of(number: u64) -> EnvelopeStage {

@@ -4,6 +4,7 @@ ghost use Prim.Native.Nat.{_≤_};
 use crate::nearness;
 use crate::tally::Finding;
 use answers::Answer;
+use answers::Value;
 use waveform::Waveform;
 
 // What each number holds before a call: no sample is that high.
@@ -37,20 +38,19 @@ pub fn is_word(row: &[u8], at: usize, x: f64) -> bool {
     words::f64_bits(x) == words::u64_at(row, at)
 }
 
-// The number of an answer that has neither place nor count; of another one a number that no row has.
-pub fn number_of(answer: Answer) -> u64 {
+// Whether a row's word is the answer, packed as the library's header packs it: the number, from bit 8 on the place, from bit
+// 32 on the count.
+pub fn says(answer: Answer, word: u64) -> bool {
     let numbers = answers::in_numbers(answer);
-    if (numbers.place == 0) & (numbers.count == 0) {
-        return numbers.number as u64;
-    }
-    256
+    (numbers.number as u64 == word % 0x100)
+        & (numbers.place as u64 == word / 0x100 % 0x100_0000)
+        & (numbers.count as u64 == word / 0x1_0000_0000)
 }
 
-// An answer with a count and no place: the number, and the count after it.
-pub fn is_counted(row: &[u8], at: usize, answer: Answer) -> bool {
-    let numbers = answers::in_numbers(answer);
-    let told = [numbers.number as u64, numbers.count as u64];
-    (numbers.place == 0) & are_words(row, at, &told)
+// Whether two words of a row are the answer and the number beside it.
+pub fn is_value(row: &[u8], answer_at: usize, value_at: usize, got: Value) -> bool {
+    let answer = got.answer;
+    says(answer, words::u64_at(row, answer_at)) & is_word(row, value_at, got.value)
 }
 
 pub fn waveform_of(code: u64, duty: f64) -> Waveform {

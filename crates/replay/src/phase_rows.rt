@@ -1,15 +1,22 @@
 // The original's answers to the calls of phase.rs: a row is nine u32, compared bit for bit.
 use crate::fields;
+use answers::Answer;
 use phase::Changed;
 use phase::Cycles;
 use phase::PhaseAccumulator;
 use phase::Shown;
-use phase::Stepped;
 
 pub const ROW: usize = 36;
 
+// Whether the call answers and leaves what it must.
 pub fn is_equal(row: &[u8]) -> bool {
-    is_called(row, given(row))
+    match words::u32_at(row, 0) {
+        0 | 1 | 5 | 6 => is_changed(row),
+        2 | 4 => is_shown(row),
+        3 => is_stepped(row),
+        7 => is_made(row),
+        _ => false,
+    }
 }
 
 fn given(row: &[u8]) -> PhaseAccumulator {
@@ -23,16 +30,11 @@ fn float_at(row: &[u8], at: usize) -> f32 {
     words::f32_of(words::u32_at(row, at))
 }
 
-// Whether the call answers and leaves what it must.
-fn is_called(row: &[u8], given: PhaseAccumulator) -> bool {
-    match words::u32_at(row, 0) {
-        0 | 1 | 5 | 6 => is_changed(row, set(row, given)),
-        2 => is_shown(row, given.increment(), given),
-        3 => is_stepped(row, given.next()),
-        4 => is_shown(row, given.phase(), given),
-        7 => is_outcome(row, 0, 0, PhaseAccumulator::new()),
-        _ => false,
-    }
+fn is_changed(row: &[u8]) -> bool {
+    let got = set(row, given(row));
+    let answer = got.answer;
+    let after = got.accumulator;
+    is_outcome(row, answer, 0.0, after)
 }
 
 fn set(row: &[u8], given: PhaseAccumulator) -> Changed {
@@ -45,38 +47,35 @@ fn set(row: &[u8], given: PhaseAccumulator) -> Changed {
     }
 }
 
-fn is_changed(row: &[u8], got: Changed) -> bool {
-    let answer = got.answer;
-    let accumulator = got.accumulator;
-    is_outcome(row, fields::number_of(answer), 0, accumulator)
-}
-
 // A getter hands back no state: the one that was given.
-fn is_shown(row: &[u8], got: Shown, given: PhaseAccumulator) -> bool {
+fn is_shown(row: &[u8]) -> bool {
+    let got = shown(row, given(row));
     let answer = got.answer;
-    is_outcome(
-        row,
-        fields::number_of(answer),
-        words::f32_bits(got.cycles.0),
-        given,
-    )
+    is_outcome(row, answer, got.cycles.0, given(row))
 }
 
-fn is_stepped(row: &[u8], got: Stepped) -> bool {
-    let answer = got.answer;
-    let accumulator = got.accumulator;
-    is_outcome(
-        row,
-        fields::number_of(answer),
-        words::f32_bits(got.cycles.0),
-        accumulator,
-    )
+fn shown(row: &[u8], given: PhaseAccumulator) -> Shown {
+    match words::u32_at(row, 0) {
+        2 => given.increment(),
+        _ => given.phase(),
+    }
 }
 
-// The number, what is shown, and the state after.
-fn is_outcome(row: &[u8], number: u64, value: u32, after: PhaseAccumulator) -> bool {
-    (number == words::u32_at(row, 20) as u64)
-        & (value == words::u32_at(row, 24))
+fn is_stepped(row: &[u8]) -> bool {
+    let got = given(row).next();
+    let answer = got.answer;
+    let after = got.accumulator;
+    is_outcome(row, answer, got.cycles.0, after)
+}
+
+fn is_made(row: &[u8]) -> bool {
+    is_outcome(row, Answer::Done(0), 0.0, PhaseAccumulator::new())
+}
+
+// The answer, what is shown, and the state after.
+fn is_outcome(row: &[u8], answer: Answer, value: f32, after: PhaseAccumulator) -> bool {
+    fields::says(answer, words::u32_at(row, 20) as u64)
+        & (words::f32_bits(value) == words::u32_at(row, 24))
         & (words::f32_bits(after.phase.0) == words::u32_at(row, 28))
         & (words::f32_bits(after.increment.0) == words::u32_at(row, 32))
 }

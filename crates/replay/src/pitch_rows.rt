@@ -4,22 +4,15 @@ use crate::fields;
 pub const ROW: usize = 32;
 
 pub fn is_equal(row: &[u8]) -> bool {
-    let note = words::u64_at(row, 0);
-    if note > 255 {
-        return false;
-    }
-    is_single(row, note as u8) & is_double(row, note as u8)
+    let word = words::u64_at(row, 0);
+    let note = (word % 256) as u8;
+    let wide = pitch::midi_note_to_frequency_f64(note);
+    (word < 256) & is_single(row, note) & fields::is_value(row, 8, 24, wide)
 }
 
 fn is_single(row: &[u8], note: u8) -> bool {
     let got = pitch::midi_note_to_frequency(note);
     let answer = got.answer;
-    (fields::number_of(answer) == words::u64_at(row, 8))
+    fields::says(answer, words::u64_at(row, 8))
         & (words::f32_bits(got.value) as u64 == words::u64_at(row, 16))
-}
-
-fn is_double(row: &[u8], note: u8) -> bool {
-    let got = pitch::midi_note_to_frequency_f64(note);
-    let answer = got.answer;
-    (fields::number_of(answer) == words::u64_at(row, 8)) & fields::is_word(row, 24, got.value)
 }

@@ -12,10 +12,7 @@ pub fn is_equal(row: &[u8]) -> bool {
         fields::float_at(row, 16),
         fields::float_at(row, 24),
     );
-    let answer = got.answer;
-    (op < 6)
-        & (fields::number_of(answer) == words::u64_at(row, 32))
-        & fields::is_word(row, 40, got.value)
+    (op < 6) & fields::is_value(row, 32, 40, got)
 }
 
 fn called(op: u64, t: f64, dt: f64, duty: f64) -> Value {

@@ -1,18 +1,17 @@
-// The original's renders, driven span by span: a row is 40 u64, then its score, its samples and its shelf, all compared bit for
+// The original's renders, driven span by span: a row is 38 u64, then its score, its samples and its shelf, all compared bit for
 // bit: the answer, the state after, every sample and every word of the shelf; but a sine, which is ours, must only be within
 // 0.000001 times level times velocity. A re-render's row has, before the samples that it must leave, its old score and the
 // samples and the shelf that it finds.
 use crate::fields;
 use crate::tally;
 use crate::tally::Finding;
-use answers::Answer;
 use envelope::Adsr;
 use render::Rendered;
 use state::Settings;
 use state::State;
 
 // The bytes of a row before its score.
-pub const ROW: usize = 320;
+pub const ROW: usize = 304;
 
 // Where a row says how many words follow.
 pub const MORE: usize = 8;
@@ -30,12 +29,12 @@ pub fn compared(row: &[u8]) -> Finding {
 fn compared_in(row: &[u8], out: &mut [f64], shelf: &mut [u64]) -> Finding {
     let samples = fields::at_most(words::u64_at(row, 72), out.len());
     let kept = fields::at_most(words::u64_at(row, 88), shelf.len());
-    let told = is_called(row, &mut out[0..samples], &mut shelf[0..kept]);
-    judged(row, told, &out[0..samples], &shelf[0..kept])
+    judged(row, &mut out[0..samples], &mut shelf[0..kept])
 }
 
 // The shelf is the last that a row has; before it stand the samples, of a sine the scales between.
-fn judged(row: &[u8], told: bool, out: &[f64], shelf: &[u64]) -> Finding {
+fn judged(row: &[u8], out: &mut [f64], shelf: &mut [u64]) -> Finding {
+    let told = is_called(row, out, shelf);
     let end = fields::after(ROW, words::u64_at(row, MORE) as usize);
     let first = fields::before(end, shelf.len());
     let found = compared_samples(row, fields::before(first, out.len()), out);
@@ -47,25 +46,10 @@ fn judged(row: &[u8], told: bool, out: &[f64], shelf: &[u64]) -> Finding {
 
 // A sine is measured where the original was asked; a refusal has left every number as it was.
 fn compared_samples(row: &[u8], last: usize, samples: &[f64]) -> Finding {
-    if (words::u64_at(row, 24) == 0) & (words::u64_at(row, 200) == 0) {
+    if (words::u64_at(row, 24) == 0) & (words::u64_at(row, 200) % 256 == 0) {
         return fields::measured(row, fields::before(last, samples.len()), last, 8, samples);
     }
     tally::exactly(fields::are_floats(row, last, samples))
-}
-
-// Where a re-render's row has the first sample that the call finds.
-fn first_found(row: &[u8]) -> usize {
-    fields::after(after_score(row), words_in(words::u64_at(row, 96) as usize))
-}
-
-// The byte after the score and its zeros.
-fn after_score(row: &[u8]) -> usize {
-    fields::after(ROW, words_in(words::u64_at(row, 80) as usize))
-}
-
-// How many words so many bytes fill.
-fn words_in(bytes: usize) -> usize {
-    bytes / 8 + (bytes % 8 + 7) / 8
 }
 
 // Whether the call answers what it must, and the state after it is the one that it must be.
@@ -99,29 +83,35 @@ fn is_continued(row: &[u8], out: &mut [f64]) -> bool {
 fn is_rerendered(row: &[u8], out: &mut [f64], shelf: &mut [u64]) -> bool {
     find(row, out, shelf);
     let answer = rerender::rerender(settings_of(row), old_of(row), score_of(row), out, shelf);
-    is_answer(row, answer)
+    fields::says(answer, words::u64_at(row, 200))
 }
 
 fn find(row: &[u8], out: &mut [f64], shelf: &mut [u64]) {
-    let first = first_found(row);
+    let first = past(row, past(row, ROW, 80), 96);
     fields::put_floats(row, first, out);
     fields::put_words(row, fields::after(first, out.len()), shelf);
 }
 
 fn score_of(row: &[u8]) -> &[u8] {
-    bytes_at(row, ROW, words::u64_at(row, 80))
+    bytes_at(row, ROW, 80)
 }
 
 fn old_of(row: &[u8]) -> &[u8] {
-    bytes_at(row, after_score(row), words::u64_at(row, 96))
+    bytes_at(row, past(row, ROW, 80), 96)
 }
 
-// So many bytes of a row, or as many as there are.
-fn bytes_at(row: &[u8], at: usize, count: u64) -> &[u8] {
+// The bytes of a score that begins there, as many as a word of the row says or as there are.
+fn bytes_at(row: &[u8], at: usize, size_at: usize) -> &[u8] {
     let first = fields::at_most(at as u64, row.len());
-    let size = fields::at_most(count, row.len() - first);
+    let size = fields::at_most(words::u64_at(row, size_at), row.len() - first);
     let end = first + size;
     &row[first..end]
+}
+
+// The byte after that score and its zeros.
+fn past(row: &[u8], at: usize, size_at: usize) -> usize {
+    let size = words::u64_at(row, size_at) as usize;
+    fields::after(at, std::num::wrapping_add_usize(size, 7) >> 3)
 }
 
 fn settings_of(row: &[u8]) -> Settings {
@@ -146,20 +136,6 @@ fn state_of(row: &[u8]) -> State {
 fn is_outcome(row: &[u8], got: Rendered) -> bool {
     let answer = got.answer;
     let state = got.state;
-    is_answer(row, answer) & is_state(row, state)
-}
-
-fn is_answer(row: &[u8], answer: Answer) -> bool {
-    let numbers = answers::in_numbers(answer);
-    let told = [
-        numbers.number as u64,
-        numbers.place as u64,
-        numbers.count as u64,
-    ];
-    fields::are_words(row, 200, &told)
-}
-
-fn is_state(row: &[u8], state: State) -> bool {
     let entry = shelf::encode(state);
-    fields::are_words(row, 224, &entry)
+    fields::says(answer, words::u64_at(row, 200)) & fields::are_words(row, 208, &entry)
 }

@@ -1,5 +1,5 @@
 // Our sine beside the original's: a row is two u64, a phase in cycles and the original's sine there, which ours must be
-// within 0.000001 of. A phase that is refused counts as far off.
+// within 0.000001 of. A phase that is refused counts as far off; the rows of such are in the part waveform.
 use crate::fields;
 use crate::nearness;
 use crate::tally::Finding;
@@ -20,7 +20,7 @@ pub fn compared(row: &[u8]) -> Finding {
 fn difference(row: &[u8]) -> f64 {
     let ours = sine::sine(fields::float_at(row, 0));
     let answer = ours.answer;
-    if fields::number_of(answer) > 0 {
+    if !fields::says(answer, 0) {
         return FAR;
     }
     nearness::apart(ours.value, fields::float_at(row, 8))

@@ -1,9 +1,7 @@
-// The count of a part: how many rows its head names, how many of them were equal, and how far a sine was off. A row that is
-// not there is not equal.
+// The count of a part: how many of its rows were equal, and how far a sine was off.
 use crate::nearness;
 
 pub struct Tally {
-    pub rows: u64,
     pub equal: u64,
     pub farthest: f64,
 }
@@ -12,14 +10,6 @@ pub struct Tally {
 pub struct Finding {
     pub equal: bool,
     pub farthest: f64,
-}
-
-pub fn none_of(rows: u64) -> Tally {
-    Tally {
-        rows,
-        equal: 0,
-        farthest: 0.0,
-    }
 }
 
 // A row more, of at most as many as there are: the sum does not wrap.

@@ -1,8 +1,8 @@
-// The original's answers to the calls of voice.rs: a row is 31 u32, compared bit for bit: the number, what is answered, and
-// the state after with its held keys, which are 0 beyond their count.
+// The original's answers to the calls of voice.rs: a row is 31 u32, compared bit for bit: the answer, what it gives, and the
+// state after with its held keys, which are 0 beyond their count.
 use crate::fields;
+use answers::Answer;
 use voice::Changed;
-use voice::Off;
 use voice::VoiceState;
 use voice::keys::ActiveNote;
 use voice::keys::Keys;
@@ -12,88 +12,58 @@ pub const ROW: usize = 124;
 // What stands for no active note.
 const NONE: u32 = 256;
 
-pub fn is_equal(row: &[u8]) -> bool {
-    is_called(row, state(row))
-}
-
 // Whether the call answers and leaves what it must.
-fn is_called(row: &[u8], given: VoiceState) -> bool {
+pub fn is_equal(row: &[u8]) -> bool {
     match words::u32_at(row, 0) {
-        0 => is_changed(row, given.note_on(byte_at(row, 56), byte_at(row, 60))),
-        1 => is_lifted(row, given.note_off(byte_at(row, 56))),
-        2 => is_changed(row, given.reset()),
-        3 => is_activity(row, given),
-        4 => is_count(row, given),
-        5 => is_outcome(row, 0, 0, VoiceState::new()),
+        0 | 2 => is_changed(row),
+        1 => is_lifted(row),
+        3 => is_activity(row),
+        4 => is_count(row),
+        5 => is_outcome(row, Answer::Done(0), 0, VoiceState::new()),
         _ => false,
     }
 }
 
-fn is_changed(row: &[u8], got: Changed) -> bool {
+fn is_changed(row: &[u8]) -> bool {
+    let got = changed(row);
     let answer = got.answer;
-    let voice = got.voice;
-    is_outcome(row, fields::number_of(answer), 0, voice)
+    let after = got.voice;
+    is_outcome(row, answer, 0, after)
 }
 
-fn is_lifted(row: &[u8], got: Off) -> bool {
+fn changed(row: &[u8]) -> Changed {
+    if words::u32_at(row, 0) == 0 {
+        return given(row).note_on(byte_at(row, 56), byte_at(row, 60));
+    }
+    given(row).reset()
+}
+
+fn is_lifted(row: &[u8]) -> bool {
+    let got = given(row).note_off(byte_at(row, 56));
     let answer = got.answer;
-    let voice = got.voice;
-    is_outcome(
-        row,
-        fields::number_of(answer),
-        number_of(got.released),
-        voice,
-    )
+    let after = got.voice;
+    is_outcome(row, answer, number_of(got.released), after)
 }
 
 // A getter hands back no state: the one that was given.
-fn is_activity(row: &[u8], given: VoiceState) -> bool {
-    let got = given.is_active();
+fn is_activity(row: &[u8]) -> bool {
+    let got = given(row).is_active();
     let answer = got.answer;
-    is_outcome(row, fields::number_of(answer), number_of(got.active), given)
+    is_outcome(row, answer, number_of(got.active), given(row))
 }
 
-fn is_count(row: &[u8], given: VoiceState) -> bool {
-    let got = given.held_note_count();
+fn is_count(row: &[u8]) -> bool {
+    let got = given(row).held_note_count();
     let answer = got.answer;
-    is_outcome(row, fields::number_of(answer), got.count as u64, given)
+    is_outcome(row, answer, got.count as u64, given(row))
 }
 
-// The number, a yes or no or a number of keys, and the state after.
-fn is_outcome(row: &[u8], number: u64, value: u64, after: VoiceState) -> bool {
-    (number == words::u32_at(row, 64) as u64)
-        & (value == words::u32_at(row, 68) as u64)
-        & is_state(row, after)
-}
-
-fn state(row: &[u8]) -> VoiceState {
-    VoiceState {
-        keys: keys_of(row),
-        velocity: words::f32_of(words::u32_at(row, 48)),
-        frequency: words::f32_of(words::u32_at(row, 52)),
-    }
-}
-
-fn keys_of(row: &[u8]) -> Keys {
-    Keys {
-        active: active_of(words::u32_at(row, 4)),
-        gate: words::u32_at(row, 8) == 1,
-        notes: bytes_at(row, 16),
-        velocities: bytes_at(row, 32),
-        count: words::u32_at(row, 12) as usize,
-    }
-}
-
-fn active_of(code: u32) -> ActiveNote {
-    if code < NONE {
-        return ActiveNote::Note(code as u8);
-    }
-    ActiveNote::Silent
-}
-
-fn is_state(row: &[u8], after: VoiceState) -> bool {
+// The answer, a yes or no or a number of keys, and the state after.
+fn is_outcome(row: &[u8], answer: Answer, value: u64, after: VoiceState) -> bool {
     let keys = after.keys;
-    is_keys(row, keys)
+    fields::says(answer, words::u32_at(row, 64) as u64)
+        & (value == words::u32_at(row, 68) as u64)
+        & is_keys(row, keys)
         & (words::f32_bits(after.velocity) == words::u32_at(row, 116))
         & (words::f32_bits(after.frequency) == words::u32_at(row, 120))
 }
@@ -109,6 +79,27 @@ fn is_keys(row: &[u8], keys: Keys) -> bool {
         & are_bytes(row, 100, &velocities)
 }
 
+fn given(row: &[u8]) -> VoiceState {
+    VoiceState {
+        keys: Keys {
+            active: active_of(words::u32_at(row, 4)),
+            gate: words::u32_at(row, 8) == 1,
+            notes: bytes_at(row, 16),
+            velocities: bytes_at(row, 32),
+            count: words::u32_at(row, 12) as usize,
+        },
+        velocity: words::f32_of(words::u32_at(row, 48)),
+        frequency: words::f32_of(words::u32_at(row, 52)),
+    }
+}
+
+fn active_of(code: u32) -> ActiveNote {
+    if code < NONE {
+        return ActiveNote::Note(code as u8);
+    }
+    ActiveNote::Silent
+}
+
 fn code_of(active: ActiveNote) -> u32 {
     match active {
         ActiveNote::Silent => NONE,
@@ -122,7 +113,7 @@ fn number_of(yes: bool) -> u64 {
 
 fn are_bytes(row: &[u8], at: usize, got: &[u8; 16]) -> bool {
     (words::u64_at(got, 0) == words::u64_at(row, at))
-        & (words::u64_at(got, 8) == words::u64_at(row, std::num::wrapping_add_usize(at, 8)))
+        & (words::u64_at(got, 8) == words::u64_at(row, fields::after(at, 1)))
 }
 
 fn byte_at(row: &[u8], at: usize) -> u8 {

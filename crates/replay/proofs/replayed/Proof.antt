@@ -11,9 +11,6 @@ Inv-loop name rows row₀ tally₀ left₀ row tally left = length row ≡ lengt
 abbrev μ-loop : tie.MeasureT-loop
 μ-loop name rows row₀ tally₀ left₀ row tally left = left
 
-none-of-requires : tie.Need-none-of-requires Inv-loop μ-loop
-none-of-requires c κs = search needs
-
 loop-holds : tie.Need-loop-holds Inv-loop μ-loop
 loop-holds c = search needs
 
@@ -53,7 +50,6 @@ replayed-spec =
     (tie.spec
     Inv-loop
     μ-loop
-    none-of-requires
     loop-holds
     is-read-requires
     same-length
