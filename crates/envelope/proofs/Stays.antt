@@ -1,8 +1,10 @@
 -- Through any number of samples, and through any calls from `new`, the envelope stays accepted: both levels from 0 to 1 and the time from 0 to 11; and the levels of a run of samples lie from 0 to 1.
 -- The sustain setting is a value of an f64, which is what owning it tells. Assumes nothing.
+use mathlib.Core.Path.{_≡_}
 use mathlib.Core.Bool.{_&&_}
 use mathlib.Core.List.{List, [], _∷_, _++_}
 use Prim.Native.Nat.{ℕ, suc, _<_}
+use native.Mathlib.Omega.{arith}
 use lib.Dec.{T}
 use lib.ListN.{length, getD}
 use lib.Ieee.{Float, nan, binary64, fits}
@@ -10,6 +12,7 @@ use lib.Ieee.Fits.{and-l, and-r}
 use Rattle.floats.specs.Range.{within}
 use Rattle.floats.specs.Double.{naught, one}
 use Rattle.runs.proofs.Laws.{repeated-keeps}
+use Rattle.answers.specs.declared.Answer.the-variants.{Done}
 use Rattle.answers.specs.declared.Refusal.the-variants.{Setting, Argument}
 use Rattle.answers.specs.Order.{unless}
 use Rattle.answers.specs.Outcome.{Outcome}
@@ -89,3 +92,21 @@ calls-keep b (c ∷ cs) g = calls-keep (after b c) cs (after-keeps b c g)
 -- from `new`, through any calls, refused ones too, the envelope stays within the limits: so no call refuses it
 pub stays : (attack decay sustain release : Float) → T (fits binary64 sustain) → (cs : List Call) → T (isEnvelope (run (newOf attack decay sustain release) cs .envelope))
 stays attack decay sustain release w cs = calls-keep (newOf attack decay sustain release) cs (record { sustain-fits = w; accepted = fresh-accepted }) .accepted
+
+clash : _≡_ {A = ℕ} 0 1 → ⊥
+clash e = omega arith
+
+-- 01: "The level is proved to stay between 0 and 1 from a fresh envelope". Every level that `process` writes, after any calls from `new`, is 0 to 1
+pub process-in : (attack decay sustain release : Float) → T (fits binary64 sustain) → (cs : List Call) (rate : ℕ) (xs : List Float) (n : ℕ)
+    → processOf (run (newOf attack decay sustain release) cs) rate xs .result .answer ≡ Done n → (i : ℕ) → i < length xs → T (within naught one (getD (processOf (run (newOf attack decay sustain release) cs) rate xs .lent) i nan))
+unfolding processOf
+process-in attack decay sustain release w cs rate xs n done i l =
+    let b = run (newOf attack decay sustain release) cs in
+    let g : Good b = calls-keep (newOf attack decay sustain release) cs (record { sustain-fits = w; accepted = fresh-accepted }) in
+    let usable = isAdsr (b .adsr) && isRate rate in
+    let sound = isEnvelope (b .envelope) in
+    first-keeps (unless usable Setting ++ unless sound Argument) _ _ (λ (o : Outcome Processed). o .result .answer ≡ Done n → T (within naught one (getD (o .lent) i nan))) (λ why e. absurd (clash (cc)))
+    (λ e d.
+    let t = both-passed usable sound Setting Argument e .0 in
+    levels-in (b .adsr) rate (b .envelope) (and-l (isAdsr (b .adsr)) (isRate rate) t) (g .sustain-fits) (and-r (isAdsr (b .adsr)) (isRate rate) t) (g .accepted) i (length xs) l)
+    done
