@@ -1,5 +1,5 @@
 -- The first refusal that holds: what follows counts where nothing before refuses; a call that is done has no refusal; and a refusal is given exactly when its test fails and the list before it is empty. Assumes nothing.
-use mathlib.Core.Path.{_≡_, refl, sym, ap, _∙_}
+use mathlib.Core.Path.{_≡_, refl, ap, _∙_}
 use mathlib.Core.Bool.{Bool, true, false}
 use mathlib.Core.List.{List, [], _∷_, _++_, map}
 use mathlib.Core.Logic.{_⊎_, inl, inr}

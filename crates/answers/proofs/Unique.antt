@@ -19,5 +19,5 @@ pub value-if-unique : (ok : Bool) (refusal : Refusal) (x : Float) (r t : Value) 
 value-if-unique ok refusal x r t p q = p ∙ sym q
 
 -- of a block call the result and every lent number
-pub leaves-unique : {R : Type 0} (o : Outcome R) (r t : R) (ys zs : List Float) → leaves r ys ≡ o → leaves t zs ≡ o → (r ≡ t) × (ys ≡ zs)
-leaves-unique {R} o r t ys zs p q = (ap (λ (x : Outcome R). x .result) (p ∙ sym q), ap (λ (x : Outcome R). x .lent) (p ∙ sym q))
+pub same-left : {R : Type 0} (o : Outcome R) (r t : R) (ys zs : List Float) → leaves r ys ≡ o → leaves t zs ≡ o → (r ≡ t) × (ys ≡ zs)
+same-left {R} o r t ys zs p q = (ap (λ (x : Outcome R). x .result) (p ∙ sym q), ap (λ (x : Outcome R). x .lent) (p ∙ sym q))

@@ -6,7 +6,6 @@ use Prim.Native.Nat.{ℕ}
 use lib.ListN.{length}
 use lib.Ieee.{Float}
 use Rattle.answers.specs.declared.Answer.the-variants.{Done}
-use Rattle.answers.specs.declared.Refusal.{Refusal}
 use Rattle.answers.proofs.Order.{none-both, done-none}
 use Rattle.shelf.specs.declared.Entry.{Entry}
 use Rattle.shelf.specs.Shelf.{entryOf, stateOf, isEntry, decodedOf}

@@ -107,6 +107,6 @@ process-in attack decay sustain release w cs rate xs n done i l =
     let sound = isEnvelope (b .envelope) in
     first-keeps (unless usable Setting ++ unless sound Argument) _ _ (λ (o : Outcome Processed). o .result .answer ≡ Done n → T (within naught one (getD (o .lent) i nan))) (λ why e. absurd (clash (cc)))
     (λ e d.
-    let t = both-passed usable sound Setting Argument e .0 in
+    let t = both-held usable sound Setting Argument e .0 in
     levels-in (b .adsr) rate (b .envelope) (and-l (isAdsr (b .adsr)) (isRate rate) t) (g .sustain-fits) (and-r (isAdsr (b .adsr)) (isRate rate) t) (g .accepted) i (length xs) l)
     done

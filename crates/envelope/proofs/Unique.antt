@@ -8,7 +8,7 @@ use Rattle.envelope.specs.Limits.{isAdsr, isEnvelope, clampedOf, sampleT
 use Rattle.envelope.specs.Stages.{stepOf, freshOf, triggeredOf, releasedOf}
 use Rattle.envelope.specs.Scaled.{Scaled}
 use Rattle.answers.specs.Outcome.{leaves}
-use Rattle.answers.proofs.Unique.{leaves-unique}
+use Rattle.answers.proofs.Unique.{same-left}
 use Rattle.envelope.specs.Calls.{newOf, noteOnOf, noteOffOf, resetOf, processOf}
 use Rattle.envelope.specs.declared.Adsr.{Adsr}
 use Rattle.envelope.specs.declared.Envelope.{Envelope}
@@ -30,7 +30,7 @@ reset-unique b r t p q = p ∙ sym q
 
 -- the result and every lent number
 pub process-unique : (b : EnvelopeBlock) (rate : ℕ) (xs ys zs : List Float) (r t : Processed) → leaves r ys ≡ processOf b rate xs → leaves t zs ≡ processOf b rate xs → (r ≡ t) × (ys ≡ zs)
-process-unique b rate xs ys zs r t = leaves-unique (processOf b rate xs) r t ys zs
+process-unique b rate xs ys zs r t = same-left (processOf b rate xs) r t ys zs
 
 -- ---- the helpers
 pub fresh-unique : (r t : Envelope) → r ≡ freshOf → t ≡ freshOf → r ≡ t

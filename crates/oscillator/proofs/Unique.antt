@@ -5,7 +5,7 @@ use Prim.Native.Nat.{ℕ}
 use lib.Ieee.{Float}
 use Rattle.floats.specs.Double.{naught}
 use Rattle.answers.specs.Outcome.{leaves}
-use Rattle.answers.proofs.Unique.{leaves-unique}
+use Rattle.answers.proofs.Unique.{same-left}
 use Rattle.waveform.specs.declared.Waveform.{Waveform}
 use Rattle.waveform.specs.Waveform.{radians}
 use Rattle.oscillator.specs.Oscillator.{newOf, withMidi, withWaveform, withPhase, processOf}
@@ -30,4 +30,4 @@ reset-unique b r t p q = p ∙ sym q
 
 -- the result and every lent number
 pub process-unique : (b : OscillatorBlock) (rate : ℕ) (xs ys zs : List Float) (r t : Processed) → leaves r ys ≡ processOf b rate xs → leaves t zs ≡ processOf b rate xs → (r ≡ t) × (ys ≡ zs)
-process-unique b rate xs ys zs r t = leaves-unique (processOf b rate xs) r t ys zs
+process-unique b rate xs ys zs r t = same-left (processOf b rate xs) r t ys zs

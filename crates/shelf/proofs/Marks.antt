@@ -6,6 +6,7 @@ use Prim.Native.Nat.{ℕ, _+_, _*_}
 use lib.ListN.{set, take}
 use lib.Ieee.{binary64, lt, eq, le, ofBits, toBits}
 use Rattle.floats.specs.Double.{naught, half, one}
+use Rattle.domain.specs.Domain.{highestPitch}
 use Rattle.envelope.specs.Limits.{eleven, isEnvelope}
 use Rattle.envelope.specs.declared.EnvelopeStage.the-variants.{Sustain, Release}
 use Rattle.voice.specs.Keys.{atMost, isKeys, keysOf}
@@ -13,7 +14,7 @@ use Rattle.voice.specs.declared.keys.ActiveNote.the-variants.{Note}
 use Rattle.waveform.specs.Waveform.{radians}
 use Rattle.state.specs.declared.State.{State}
 use Rattle.state.specs.State.{freshOf, concert}
-use Rattle.state.specs.Limits.{highest, inLimits, isState}
+use Rattle.state.specs.Limits.{inLimits, isState}
 use Rattle.shelf.specs.Shelf.{packedWord, fourPairs, entryOf, stateOf, isEntry}
 
 -- the fresh state
@@ -77,7 +78,7 @@ full =
     record {
       phase = radians (ofBits binary64 0x408f_3fff_ffff_ffff);
       envelope = record { stage = Release; level = one; «stage_time» = eleven; «release_level» = half };
-      frequency = highest;
+      frequency = highestPitch binary64;
       velocity = ofBits binary64 0x3fef_ffff_ffff_ffff;
       keys = keysOf (Note 127) true (record { note = 112; velocity = 127 } ∷ record { note = 113; velocity = 126 } ∷ record { note = 114; velocity = 125 } ∷ record { note = 115; velocity = 124 } ∷ record { note = 116; velocity = 123 } ∷ record { note = 117; velocity = 122 } ∷ record { note = 118; velocity = 121 } ∷ record { note = 119; velocity = 120 } ∷ record { note = 120; velocity = 119 } ∷ record { note = 121; velocity = 118 } ∷ record { note = 122; velocity = 117 } ∷ record { note = 123; velocity = 116 } ∷ record { note = 124; velocity = 115 } ∷ record { note = 125; velocity = 114 } ∷ record { note = 126; velocity = 113 } ∷ record { note = 127; velocity = 112 } ∷ []);
       acted = 4096;
