@@ -10,7 +10,7 @@ use Rattle.answers.specs.Order.{unless}
 use Rattle.answers.specs.declared.Refusal.{Refusal}
 use Rattle.answers.specs.declared.Refusal.the-variants.{Score, NewScore, Setting, Size, StartEntry, Argument, GivenState}
 use Rattle.answers.proofs.Order.{passed, none-both, Leads, leads-append, leads-after, leads-parts, leads-unless}
-use Rattle.judging.specs.Judging.{refusalsOf, newRefusalsOf, isRoom, isStretch}
+use Rattle.judging.specs.Judging.{refusalsOf, Passed, newRefusalsOf, isRoom, isStretch}
 use Rattle.judging.proofs.Refusals.{all-passed, none-refused, new-passed, none-newly, judged-first, six-first, seven-first, score-first, newly-first, new-first}
 use Rattle.render.specs.Calls.{isGiven}
 use Rattle.render.proofs.Outcomes.{render-decided, continue-decided}
@@ -23,14 +23,11 @@ use Rattle.score.specs.Record.{countOf}
 use Rattle.score.specs.Score.{verdictOf}
 use Rattle.state.specs.declared.Settings.{Settings}
 use Rattle.state.specs.declared.State.{State}
-use Rattle.demands.specs.Demand1.{Passes, RenderWhen, ContinueWhen, RerenderWhen, RenderExactly, ContinueExactly, RerenderExactly}
+use Rattle.demands.specs.Demand1.{RenderWhen, ContinueWhen, RerenderWhen, RenderExactly, ContinueExactly, RerenderExactly}
 
 -- ---- 6, 7 and the old or only score's
 module _ (g : Settings) (room : Bool) (s : List ℕ) where
-  passes : refusalsOf g room s ≡ [] → Passes g room s
-  passes e = let p = all-passed g room s e in record { settings = p .settings; sized = p .sized; accepted = p .accepted }
-
-  none : Passes g room s → refusalsOf g room s ≡ []
+  none : Passed g room s → refusalsOf g room s ≡ []
   none p = none-refused g room s (countOf s) (p .settings) (p .sized) (p .accepted)
 
   render-first : (why : Refusal) → RenderWhen g room s why → Leads why (refusalsOf g room s)
@@ -51,7 +48,7 @@ render-exactly g s out shelf =
         only-when = λ e. judged-first g room s (RenderWhen g room s) (λ a. a) (λ a b. (a, b)) (λ a b fault v. (a, b, v)) why (c .refused why e);
         whenever = λ h. c .is-refused why (render-first g room s why h);
       };
-      done = record { only-when = λ e. passes g room s (c .done (length out) e); whenever = λ h. c .is-done (none g room s h) };
+      done = record { only-when = λ e. all-passed g room s (c .done (length out) e); whenever = λ h. c .is-done (none g room s h) };
       as-it-came = c .keeps;
     }
 
@@ -66,7 +63,7 @@ module _ (g : Settings) (room : Bool) (s : List ℕ) (given : Bool) where
   continue-only : (why : Refusal) → Leads why (judged ++ tenth) → ContinueWhen g room s given why
   continue-only why h =
       ⊎-elim (λ l. judged-first g room s (ContinueWhen g room s given) (λ a. a) (λ a b. (a, b)) (λ a b fault v. (a, b, v)) why l)
-      (λ l. let u = leads-unless why given GivenState (l .1) in subst (ContinueWhen g room s given) (u .1) (passes g room s (l .0), u .0))
+      (λ l. let u = leads-unless why given GivenState (l .1) in subst (ContinueWhen g room s given) (u .1) (all-passed g room s (l .0), u .0))
       (leads-parts why judged tenth h)
 
   continue-first : (why : Refusal) → ContinueWhen g room s given why → Leads why (judged ++ tenth)
@@ -86,7 +83,7 @@ continue-exactly g s v p part =
     record {
       refused = λ why. record { only-when = λ e. continue-only g room s given why (c .refused why e); whenever = λ h. c .is-refused why (continue-first g room s given why h) };
       done = record {
-        only-when = λ e. (let b = none-both (refusalsOf g room s) (unless given GivenState) (c .done (length part) e) in (passes g room s (b .0), passed given GivenState (b .1)));
+        only-when = λ e. (let b = none-both (refusalsOf g room s) (unless given GivenState) (c .done (length part) e) in (all-passed g room s (b .0), passed given GivenState (b .1)));
         whenever = λ h. c .is-done (rw (none g room s (h .0), h .1) refl);
       };
       as-it-came = c .keeps;
@@ -110,7 +107,7 @@ module _ (g : Settings) (old new : List ℕ) (n : ℕ) (shelf : List ℕ) where
   eighth = startRefusals new plan shelf
 
   -- an entry is read, and is no start
-  start-only : (why : Refusal) → Passes g room old → verdictOf new ≡ Accepted (countOf new) → Leads why eighth → When why
+  start-only : (why : Refusal) → Passed g room old → verdictOf new ≡ Accepted (countOf new) → Leads why eighth → When why
   start-only why p a h = go plan refl h
     where
       go : (q : Plan) → planOf old new n ≡ q → Leads why (startRefusals new q shelf) → When why
@@ -121,11 +118,11 @@ module _ (g : Settings) (old new : List ℕ) (n : ℕ) (shelf : List ℕ) where
   rerender-only why h =
       ⊎-elim
       (λ l. ⊎-elim (λ l. judged-first g room old When (λ a. a) (λ a b. (a, b)) (λ a b fault v. (a, b, v)) why l)
-      (λ l. newly-first new When (λ fault v. (passes g room old (l .0), v)) why (l .1)) (leads-parts why (refusalsOf g room old) (newRefusalsOf new) l))
-      (λ l. let b = none-both (refusalsOf g room old) (newRefusalsOf new) (l .0) in start-only why (passes g room old (b .0)) (new-passed new (b .1)) (l .1))
+      (λ l. newly-first new When (λ fault v. (all-passed g room old (l .0), v)) why (l .1)) (leads-parts why (refusalsOf g room old) (newRefusalsOf new) l))
+      (λ l. let b = none-both (refusalsOf g room old) (newRefusalsOf new) (l .0) in start-only why (all-passed g room old (b .0)) (new-passed new (b .1)) (l .1))
       (leads-parts why tests eighth h)
 
-  none-tested : Passes g room old → verdictOf new ≡ Accepted (countOf new) → tests ≡ []
+  none-tested : Passed g room old → verdictOf new ≡ Accepted (countOf new) → tests ≡ []
   none-tested p a = rw (none g room old p, none-newly new (countOf new) a) refl
 
   early : (why : Refusal) → RenderWhen g room old why → Leads why (rerenderRefusals g old new n shelf)
@@ -162,7 +159,7 @@ rerender-exactly g old new out shelf =
         only-when = λ e. (
             let b = none-both (checks g old new n (length shelf)) (startRefusals new (planOf old new n) shelf) (c .done _ e) in
             let a = none-both (refusalsOf g at old) (newRefusalsOf new) (b .0) in
-            (passes g at old (a .0), new-passed new (a .1), starts g old new n shelf (b .1)));
+            (all-passed g at old (a .0), new-passed new (a .1), starts g old new n shelf (b .1)));
         whenever = λ h. c .is-done (rw (none-tested g old new n shelf (h .0) (h .1), none-eighth g old new n shelf (h .2)) refl);
       };
       as-it-came = c .keeps;

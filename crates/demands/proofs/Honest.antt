@@ -34,8 +34,8 @@ use Rattle.shelf.specs.declared.Entry.{Entry}
 use Rattle.shelf.specs.Shelf.{entryWords, mark, entriesFor, entryOf, isEntry, decodedOf, shelfOf}
 use Rattle.shelf.proofs.There.{Fitting, encode-decode}
 use Rattle.shelf.proofs.Whole.{entry-words}
-use Rattle.judging.specs.Judging.{isRoom}
-use Rattle.judging.proofs.Refusals.{Passed, all-passed}
+use Rattle.judging.specs.Judging.{Passed, isRoom}
+use Rattle.judging.proofs.Refusals.{all-passed}
 use Rattle.render.specs.Calls.{renderOf, isGiven}
 use Rattle.render.proofs.Outcomes.{render-decided}
 

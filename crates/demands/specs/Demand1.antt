@@ -13,7 +13,7 @@ use Rattle.answers.specs.declared.Refusal.{Refusal}
 use Rattle.answers.specs.declared.Refusal.the-variants.{Score, NewScore, Setting, Size, StartEntry, Argument, GivenState}
 use Rattle.answers.specs.declared.ScoreFault.{ScoreFault}
 use Rattle.answers.specs.declared.ScoreFault.the-variants.{Length, Mark, Kind, Field, Order}
-use Rattle.judging.specs.Judging.{isRoom, isStretch}
+use Rattle.judging.specs.Judging.{Passed, isRoom, isStretch}
 use Rattle.render.specs.Calls.{says, renderOf, leavesPart, isGiven, continueOf}
 use Rattle.rerender.specs.declared.Plan.the-variants.{From}
 use Rattle.rerender.specs.Rerender.{planOf, isStart, countFor, rerenderOf}
@@ -54,12 +54,6 @@ pub record FaultsExactly (s : List ℕ) : Type 0 where
   pub faulty : (fault : ScoreFault) → Exactly (verdictOf s ≡ Faulty fault) (FaultWhen s fault)
 
 -- ---- the calls
--- 6, 7 and the old or only score's numbers passed
-pub record Passes (g : Settings) (room : Bool) (s : List ℕ) : Type 0 where
-  pub settings : settingsOk g ≡ true
-  pub sized : room ≡ true
-  pub accepted : verdictOf s ≡ Accepted (countOf s)
-
 -- when a render is refused for each of these
 abbrev pub RenderWhen : Settings → Bool → List ℕ → Refusal → Type 0
 RenderWhen g room s Setting = settingsOk g ≡ false
@@ -78,31 +72,31 @@ ContinueWhen g room s given (Score fault) = RenderWhen g room s (Score fault)
 ContinueWhen g room s given (NewScore fault) = ⊥
 ContinueWhen g room s given StartEntry = ⊥
 ContinueWhen g room s given Argument = ⊥
-ContinueWhen g room s given GivenState = Passes g room s × (given ≡ false)
+ContinueWhen g room s given GivenState = Passed g room s × (given ≡ false)
 
 -- a re-render: the new score's numbers after these, and then 8 where an entry is read
 abbrev pub RerenderWhen : Settings → Bool → List ℕ → List ℕ → ℕ → List ℕ → Refusal → Type 0
 RerenderWhen g room old new n shelf Setting = RenderWhen g room old Setting
 RerenderWhen g room old new n shelf Size = RenderWhen g room old Size
 RerenderWhen g room old new n shelf (Score fault) = RenderWhen g room old (Score fault)
-RerenderWhen g room old new n shelf (NewScore fault) = Passes g room old × (verdictOf new ≡ Faulty fault)
-RerenderWhen g room old new n shelf StartEntry = Passes g room old × (verdictOf new ≡ Accepted (countOf new)) × ((m : ℕ) × (planOf old new n ≡ From m) × (isStart new m shelf ≡ false))
+RerenderWhen g room old new n shelf (NewScore fault) = Passed g room old × (verdictOf new ≡ Faulty fault)
+RerenderWhen g room old new n shelf StartEntry = Passed g room old × (verdictOf new ≡ Accepted (countOf new)) × ((m : ℕ) × (planOf old new n ≡ From m) × (isStart new m shelf ≡ false))
 RerenderWhen g room old new n shelf Argument = ⊥
 RerenderWhen g room old new n shelf GivenState = ⊥
 
 pub record RenderExactly (g : Settings) (s : List ℕ) (out : List Float) (shelf : List ℕ) : Type 0 where
   pub refused : (why : Refusal) → Exactly (renderOf g s out shelf .result .answer ≡ Refused why) (RenderWhen g (isRoom (length out) (length shelf)) s why)
-  pub done : Exactly (renderOf g s out shelf .result .answer ≡ Done (length out)) (Passes g (isRoom (length out) (length shelf)) s)
+  pub done : Exactly (renderOf g s out shelf .result .answer ≡ Done (length out)) (Passed g (isRoom (length out) (length shelf)) s)
   pub as-it-came : (why : Refusal) → renderOf g s out shelf .result .answer ≡ Refused why → renderOf g s out shelf ≡ leaves (says (Refused why) (freshOf 0)) out shelf
 
 pub record ContinueExactly (g : Settings) (s : List ℕ) (v : State) (p : ℕ) (part : List Float) : Type 0 where
   pub refused : (why : Refusal) → Exactly (continueOf g s v p part .result .answer ≡ Refused why) (ContinueWhen g (isStretch p (length part)) s (isGiven s p v) why)
-  pub done : Exactly (continueOf g s v p part .result .answer ≡ Done (length part)) (Passes g (isStretch p (length part)) s × (isGiven s p v ≡ true))
+  pub done : Exactly (continueOf g s v p part .result .answer ≡ Done (length part)) (Passed g (isStretch p (length part)) s × (isGiven s p v ≡ true))
   pub as-it-came : (why : Refusal) → continueOf g s v p part .result .answer ≡ Refused why → continueOf g s v p part ≡ leavesPart (says (Refused why) v) part
 
 pub record RerenderExactly (g : Settings) (old new : List ℕ) (out : List Float) (shelf : List ℕ) : Type 0 where
   pub refused : (why : Refusal) → Exactly (rerenderOf g old new out shelf .result ≡ Refused why) (RerenderWhen g (isRoom (length out) (length shelf)) old new (length out) shelf why)
   pub done : Exactly
       (rerenderOf g old new out shelf .result ≡ Done (countFor g old new (planOf old new (length out)) (length out)))
-      (Passes g (isRoom (length out) (length shelf)) old × (verdictOf new ≡ Accepted (countOf new)) × ((m : ℕ) → planOf old new (length out) ≡ From m → isStart new m shelf ≡ true))
+      (Passed g (isRoom (length out) (length shelf)) old × (verdictOf new ≡ Accepted (countOf new)) × ((m : ℕ) → planOf old new (length out) ≡ From m → isStart new m shelf ≡ true))
   pub as-it-came : (why : Refusal) → rerenderOf g old new out shelf .result ≡ Refused why → rerenderOf g old new out shelf ≡ leaves (Refused why) out shelf

@@ -23,7 +23,7 @@ use Rattle.score.proofs.Verdicts.{accepted-faults, none-accepted, faulty-faults
 use Rattle.shelf.specs.Shelf.{wordsFor}
 use Rattle.state.specs.declared.Settings.{Settings}
 use Rattle.state.specs.Settings.{settingsOk}
-use Rattle.judging.specs.Judging.{refusalsOf, newRefusalsOf, most, isRoom, isStretch}
+use Rattle.judging.specs.Judging.{refusalsOf, Passed, newRefusalsOf, most, isRoom, isStretch}
 
 -- ---- what the first of them leaves
 module _ (g : Settings) (room : Bool) (s : List ℕ) (rest : Answer) where
@@ -59,11 +59,6 @@ module _ (s : List ℕ) (rest : Answer) where
   new-faulty fault h = sym (faulty-first s fault h (λ x. Refused (NewScore x)) rest) ∙ by-new
 
 -- ---- none of them
-pub record Passed (g : Settings) (room : Bool) (s : List ℕ) : Type 0 where
-  pub settings : settingsOk g ≡ true
-  pub sized : room ≡ true
-  pub accepted : verdictOf s ≡ Accepted (countOf s)
-
 pub all-passed : (g : Settings) (room : Bool) (s : List ℕ) → refusalsOf g room s ≡ [] → Passed g room s
 unfolding refusalsOf
 all-passed g room s e =

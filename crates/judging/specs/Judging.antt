@@ -1,13 +1,16 @@
 -- What render, re-render and continuing call are refused for first. 01, "What a call says": "Order: 6, 7, the old or only score, the new score (same numbers plus 16), then 8 or 10"; "6 | rate, waveform's duty or an ADSR setting
 -- outside the domain"; "7 | N above 16,777,216, or shelf not 12 words per entry"; "A continuing call that would pass 16,777,216 is 7". The first of a call's refusals decides its outcome (`firstOf` of `answers`). Definitions only.
-use mathlib.Core.Bool.{Bool, _&&_}
+use mathlib.Core.Path.{_≡_}
+use mathlib.Core.Bool.{Bool, true, _&&_}
 use mathlib.Core.List.{List, _++_, map}
 use Prim.Native.Nat.{ℕ, _+_}
 use lib.Dec.{leb, eqb}
 use Rattle.answers.specs.Order.{unless}
 use Rattle.answers.specs.declared.Refusal.{Refusal}
 use Rattle.answers.specs.declared.Refusal.the-variants.{Score, NewScore, Setting, Size}
-use Rattle.score.specs.Score.{faultsOf}
+use Rattle.score.specs.declared.Verdict.the-variants.{Accepted}
+use Rattle.score.specs.Record.{countOf}
+use Rattle.score.specs.Score.{faultsOf, verdictOf}
 use Rattle.shelf.specs.Shelf.{wordsFor}
 use Rattle.state.specs.declared.Settings.{Settings}
 use Rattle.state.specs.Settings.{settingsOk}
@@ -16,6 +19,12 @@ use Rattle.state.specs.Settings.{settingsOk}
 -- 6, 7, and the old or only score's
 unfoldable pub refusalsOf : Settings → Bool → List ℕ → List Refusal
 refusalsOf g room s = unless (settingsOk g) Setting ++ unless room Size ++ map Score (faultsOf s)
+
+-- what a call has passed that is refused for none of these. Theorems cite it; no contract does
+pub record Passed (g : Settings) (room : Bool) (s : List ℕ) : Type 0 where
+  pub settings : settingsOk g ≡ true
+  pub sized : room ≡ true
+  pub accepted : verdictOf s ≡ Accepted (countOf s)
 
 -- the new score's
 unfoldable pub newRefusalsOf : List ℕ → List Refusal
