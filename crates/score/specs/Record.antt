@@ -5,6 +5,7 @@ use mathlib.Core.List.{List, [], _∷_, _++_}
 use Prim.Native.Nat.{ℕ, _+_, _*_, _/_, _%_, _≤_, _<_}
 use lib.ListN.{length, getD}
 use lib.Dec.{eqb}
+use Rattle.words.specs.Words.{wordOf}
 use Rattle.score.specs.declared.Kind.{Kind}
 use Rattle.score.specs.declared.Kind.the-variants.{On, Off, Reset}
 use Rattle.score.specs.declared.Record.{Record}
@@ -16,10 +17,6 @@ countOf s = length s / 10
 -- byte j of record i
 abbrev pub byteAt : List ℕ → ℕ → ℕ → ℕ
 byteAt s i j = getD s (i * 10 + j) 0
-
--- four bytes as one number, low byte first
-abbrev pub wordOf : ℕ → ℕ → ℕ → ℕ → ℕ
-wordOf a b c d = a + b * 256 + c * 65536 + d * 16777216
 
 -- the four bytes of record i from byte j on
 abbrev pub wordAt : List ℕ → ℕ → ℕ → ℕ

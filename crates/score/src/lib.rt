@@ -5,7 +5,7 @@ ghost use mathlib.Core.Bool.{true};
 ghost use Prim.Native.Nat.{_<_, _≤_, min};
 ghost use Rattle.answers.specs.Order.{firstOf};
 ghost use Rattle.score.specs.declared.Verdict.the-variants.{Accepted, Faulty};
-ghost use Rattle.score.specs.Record.{byteAt, wordOf, wordAt, markAt, restAt, positionAt, kindOf, kindByte, recordAt, encodeOf, countOf};
+ghost use Rattle.score.specs.Record.{byteAt, wordAt, markAt, restAt, positionAt, kindOf, kindByte, recordAt, encodeOf, countOf};
 ghost use Rattle.score.specs.Score.{mostOf, markRight, kindRight, fieldsRight, allRight, inOrder, faultsAt, verdictOf, answerOf};
 ghost use Rattle.score.specs.Below.{lastBelow, partsAt};
 ghost use Rattle.score.specs.Apart.{sameAt, firstIndex, differenceOf};
@@ -94,7 +94,7 @@ pub fn position(score: &[u8], i: usize) -> u32
     let b = byte_at(score, i, 3);
     let c = byte_at(score, i, 4);
     let d = byte_at(score, i, 5);
-    word_of(a, b, c, d)
+    words::word_of(a, b, c, d)
 }
 
 // Record i, read as it stands: nothing is judged.
@@ -191,17 +191,6 @@ fn byte_at(score: &[u8], i: usize, j: usize) -> u8
     score[at + j]
 }
 
-// Four bytes as one number, low byte first.
-fn word_of(a: u8, b: u8, c: u8, d: u8) -> u32
-    ensures { λ r. ⌜ r ≡ wordOf a b c d ⌝ }
-{
-    let a = a as u32;
-    let b = b as u32;
-    let c = c as u32;
-    let d = d as u32;
-    a + b * 256 + c * 65536 + d * 16777216
-}
-
 // Four bytes of a record that is there, from byte j on: one read, where no other reads one of them.
 fn word_at(score: &[u8], i: usize, j: usize) -> u32
     requires { ⌜ i < countOf (now score) ⌝ }
@@ -213,7 +202,7 @@ fn word_at(score: &[u8], i: usize, j: usize) -> u32
     let b = score[at + (j + 1)];
     let c = score[at + (j + 2)];
     let d = score[at + (j + 3)];
-    word_of(a, b, c, d)
+    words::word_of(a, b, c, d)
 }
 
 // The mark of a record that is there.
@@ -224,7 +213,7 @@ fn mark_at(score: &[u8], i: usize) -> u32
     let at = i * SIZE;
     let a = score[at];
     let b = score[at + 1];
-    word_of(a, b, 0, 0)
+    words::word_of(a, b, 0, 0)
 }
 
 // The eight bytes after the mark of a record that is there.

@@ -6,10 +6,10 @@ use native.Mathlib.Nat.{add-assoc}
 use native.Mathlib.Omega.{arith}
 use borrow.Author.Tests.{le-leb, lt-leb}
 use lib.ListN.{length, getD}
-use Rattle.words.specs.Words.{lowFirst, wordAt}
+use Rattle.words.specs.Words.{wordOf, lowFirst, wordAt}
 
 -- four bytes
-pub four-is : (b : List ℕ) (at : ℕ) → lowFirst 4 b at ≡ getD b at 0 + 256 * (getD b (at + 1) 0 + 256 * (getD b (at + 2) 0 + 256 * getD b (at + 3) 0))
+pub four-is : (b : List ℕ) (at : ℕ) → lowFirst 4 b at ≡ wordOf (getD b at 0) (getD b (at + 1) 0) (getD b (at + 2) 0) (getD b (at + 3) 0)
 unfolding lowFirst
 four-is b at = simp add-assoc (omega arith)
 

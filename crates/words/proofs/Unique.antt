@@ -3,7 +3,10 @@ use mathlib.Core.Path.{_≡_, sym, _∙_}
 use mathlib.Core.List.{List}
 use Prim.Native.Nat.{ℕ}
 use lib.Ieee.{Float, Format, ofBits, toBits}
-use Rattle.words.specs.Words.{wordAt}
+use Rattle.words.specs.Words.{wordOf, wordAt}
+
+pub word-of-unique : (a b c d r t : ℕ) → r ≡ wordOf a b c d → t ≡ wordOf a b c d → r ≡ t
+word-of-unique a b c d r t p q = p ∙ sym q
 
 -- `u32_at` at n = 4, `u64_at` at n = 8
 pub word-at-unique : (n : ℕ) (b : List ℕ) (at r t : ℕ) → r ≡ wordAt n b at → t ≡ wordAt n b at → r ≡ t

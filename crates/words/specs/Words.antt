@@ -5,6 +5,10 @@ use Prim.Native.Nat.{ℕ, zero, suc, _+_, _*_}
 use lib.Dec.{leb}
 use lib.ListN.{length, getD}
 
+-- four bytes as one number
+abbrev pub wordOf : ℕ → ℕ → ℕ → ℕ → ℕ
+wordOf a b c d = a + b * 256 + c * 65536 + d * 16777216
+
 -- the n bytes from `at` on, the first counting ones, the next 256, ..
 unfoldable pub lowFirst : ℕ → List ℕ → ℕ → ℕ
 lowFirst zero bytes at = 0

@@ -1,10 +1,21 @@
 // Numbers in bytes, low byte first, and floats as their bits, NaN too: how rows of vectors are read, and how a shelf's words
 // are. Writing bytes is left out.
 ghost use mathlib.Core.Path.{_≡_};
-ghost use Prim.Native.Nat.{_+_, _*_, _<_, _≤_};
-ghost use lib.ListN.{length, getD};
+ghost use Prim.Native.Nat.{_+_, _*_, _≤_};
+ghost use lib.ListN.{length};
 ghost use lib.Ieee.{binary32, binary64, ofBits, toBits};
-ghost use Rattle.words.specs.Words.{wordAt, lowFirst};
+ghost use Rattle.words.specs.Words.{wordOf, wordAt, lowFirst};
+
+// Four bytes as one number, low byte first.
+pub fn word_of(a: u8, b: u8, c: u8, d: u8) -> u32
+    ensures { λ r. ⌜ r ≡ wordOf a b c d ⌝ }
+{
+    let a = a as u32;
+    let b = b as u32;
+    let c = c as u32;
+    let d = d as u32;
+    a + b * 256 + c * 65536 + d * 16777216
+}
 
 // The four bytes from `at` on as a number, or 0 where they are not all there.
 pub fn u32_at(bytes: &[u8], at: usize) -> u32
@@ -78,13 +89,5 @@ fn four(bytes: &[u8], at: usize) -> u32
     requires { ⌜ at + 4 ≤ length (now bytes) ⌝ }
     ensures { λ r. ⌜ r ≡ lowFirst 4 (now (bytes .entry)) at ⌝ }
 {
-    byte(bytes, at)
-        + 256 * (byte(bytes, at + 1) + 256 * (byte(bytes, at + 2) + 256 * byte(bytes, at + 3)))
-}
-
-fn byte(bytes: &[u8], i: usize) -> u32
-    requires { ⌜ i < length (now bytes) ⌝ }
-    ensures { λ r. ⌜ (r ≡ getD (now (bytes .entry)) i 0) × (r < 256) ⌝ }
-{
-    bytes[i] as u32
+    word_of(bytes[at], bytes[at + 1], bytes[at + 2], bytes[at + 3])
 }
