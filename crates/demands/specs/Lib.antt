@@ -1,3 +1,4 @@
 pub mod Demand1
 pub mod Chain
+pub mod Demand3
 pub mod Edits
