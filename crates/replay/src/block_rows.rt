@@ -19,14 +19,10 @@ pub const MORE: usize = 56;
 // A frequency that is refused where it sounds.
 const UNHEARD: f64 = -1.0;
 
+// As much is lent as the row says, or as there is.
 pub fn compared(row: &[u8]) -> Finding {
     let mut out = [fields::UNWRITTEN; 1000];
-    compared_in(row, &mut out)
-}
-
-// As much is lent as the row says, or as there is.
-fn compared_in(row: &[u8], out: &mut [f64]) -> Finding {
-    let lent = fields::at_most(words::u64_at(row, MORE), out.len());
+    let lent = fields::at_most(words::u64_at(row, MORE), 1000);
     judged(row, &mut out[0..lent])
 }
 
@@ -69,13 +65,13 @@ fn oscillator_of(row: &[u8]) -> OscillatorBlock {
 fn own_oscillator(row: &[u8]) -> OscillatorBlock {
     started(
         row,
-        OscillatorBlock::new(fields::float_at(row, 32), waveform_of(row)),
+        OscillatorBlock::new(fields::float_at(row, 32), fields::waveform_of(row, 8)),
     )
 }
 
 fn set_oscillator(row: &[u8]) -> OscillatorBlock {
     started(row, OscillatorBlock::new(UNHEARD, Waveform::Pulse(2.0)))
-        .set_waveform(waveform_of(row))
+        .set_waveform(fields::waveform_of(row, 8))
         .set_midi_frequency(fields::float_at(row, 32))
 }
 
@@ -97,7 +93,7 @@ fn lfo_of(row: &[u8]) -> LfoBlock {
     let mut block = LfoBlock::new(
         fields::float_at(row, 32),
         fields::float_at(row, 40),
-        waveform_of(row),
+        fields::waveform_of(row, 8),
     );
     block.phase = start;
     if words::u64_at(row, 0) == 4 {
@@ -116,8 +112,4 @@ fn compared_samples(row: &[u8], samples: &[f64]) -> Finding {
         return fields::measured(row, ROW, 40, 0, samples);
     }
     tally::exactly(fields::are_floats(row, ROW, samples))
-}
-
-fn waveform_of(row: &[u8]) -> Waveform {
-    fields::waveform_of(words::u64_at(row, 8), fields::float_at(row, 16))
 }

@@ -53,13 +53,14 @@ pub fn is_value(row: &[u8], answer_at: usize, value_at: usize, got: Value) -> bo
     says(answer, words::u64_at(row, answer_at)) & is_word(row, value_at, got.value)
 }
 
-pub fn waveform_of(code: u64, duty: f64) -> Waveform {
-    match code {
+// A waveform by its code, and the duty after it.
+pub fn waveform_of(row: &[u8], at: usize) -> Waveform {
+    match words::u64_at(row, at) {
         0 => Waveform::Sine,
         1 => Waveform::Square,
         2 => Waveform::Sawtooth,
         3 => Waveform::Triangle,
-        _ => Waveform::Pulse(duty),
+        _ => Waveform::Pulse(float_at(row, after(at, 1))),
     }
 }
 

@@ -14,7 +14,7 @@ pub fn is_equal(row: &[u8]) -> bool {
         0 | 1 | 5 | 6 => is_changed(row),
         2 | 4 => is_shown(row),
         3 => is_stepped(row),
-        7 => is_made(row),
+        7 => is_outcome(row, Answer::Done(0), 0.0, PhaseAccumulator::new()),
         _ => false,
     }
 }
@@ -66,10 +66,6 @@ fn is_stepped(row: &[u8]) -> bool {
     let answer = got.answer;
     let after = got.accumulator;
     is_outcome(row, answer, got.cycles.0, after)
-}
-
-fn is_made(row: &[u8]) -> bool {
-    is_outcome(row, Answer::Done(0), 0.0, PhaseAccumulator::new())
 }
 
 // The answer, what is shown, and the state after.

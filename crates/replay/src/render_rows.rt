@@ -19,16 +19,12 @@ pub const MORE: usize = 8;
 // What each word of the shelf holds before a call: no entry has that stage.
 const UNKEPT: u64 = 0x2a2a_2a2a_2a2a_2a2a;
 
+// As much is lent as the row says, or as there is.
 pub fn compared(row: &[u8]) -> Finding {
     let mut out = [fields::UNWRITTEN; 10000];
     let mut shelf = [UNKEPT; 48];
-    compared_in(row, &mut out, &mut shelf)
-}
-
-// As much is lent as the row says, or as there is.
-fn compared_in(row: &[u8], out: &mut [f64], shelf: &mut [u64]) -> Finding {
-    let samples = fields::at_most(words::u64_at(row, 72), out.len());
-    let kept = fields::at_most(words::u64_at(row, 88), shelf.len());
+    let samples = fields::at_most(words::u64_at(row, 72), 10000);
+    let kept = fields::at_most(words::u64_at(row, 88), 48);
     judged(row, &mut out[0..samples], &mut shelf[0..kept])
 }
 
@@ -117,7 +113,7 @@ fn past(row: &[u8], at: usize, size_at: usize) -> usize {
 fn settings_of(row: &[u8]) -> Settings {
     Settings {
         rate: words::u32_at(row, 16),
-        waveform: fields::waveform_of(words::u64_at(row, 24), fields::float_at(row, 32)),
+        waveform: fields::waveform_of(row, 24),
         adsr: Adsr {
             attack: fields::float_at(row, 40),
             decay: fields::float_at(row, 48),

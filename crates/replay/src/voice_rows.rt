@@ -25,17 +25,17 @@ pub fn is_equal(row: &[u8]) -> bool {
 }
 
 fn is_changed(row: &[u8]) -> bool {
-    let got = changed(row);
+    let got = changed(row, given(row));
     let answer = got.answer;
     let after = got.voice;
     is_outcome(row, answer, 0, after)
 }
 
-fn changed(row: &[u8]) -> Changed {
+fn changed(row: &[u8], given: VoiceState) -> Changed {
     if words::u32_at(row, 0) == 0 {
-        return given(row).note_on(byte_at(row, 56), byte_at(row, 60));
+        return given.note_on(byte_at(row, 56), byte_at(row, 60));
     }
-    given(row).reset()
+    given.reset()
 }
 
 fn is_lifted(row: &[u8]) -> bool {

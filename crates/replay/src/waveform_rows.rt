@@ -3,7 +3,6 @@
 use crate::fields;
 use answers::Value;
 use waveform::Radians;
-use waveform::Waveform;
 
 pub const ROW: usize = 136;
 
@@ -33,13 +32,9 @@ fn is_alone(row: &[u8], got: Value) -> bool {
         & fields::are_floats(row, 80, &[fields::UNWRITTEN; 7])
 }
 
-fn waveform_of(row: &[u8]) -> Waveform {
-    fields::waveform_of(words::u64_at(row, 8), fields::float_at(row, 16))
-}
-
 fn sampled(row: &[u8]) -> Value {
     waveform::sample(
-        waveform_of(row),
+        fields::waveform_of(row, 8),
         fields::float_at(row, 24),
         fields::float_at(row, 32),
     )
@@ -49,7 +44,7 @@ fn sampled(row: &[u8]) -> Value {
 fn filled(row: &[u8], out: &mut [f64]) -> Radians {
     let start = Radians(fields::float_at(row, 24));
     let step = Radians(fields::float_at(row, 32));
-    let shape = waveform_of(row);
+    let shape = fields::waveform_of(row, 8);
     let after = waveform::fill(out, shape, start, step, fields::float_at(row, 40));
     if words::u64_at(row, 0) == 0 {
         return after;
