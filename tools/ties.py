@@ -5,7 +5,7 @@ crate's proofs/Unique.antt, `set_phase` `set-phase-unique`, or the one that SHAR
 is the contract's formula, for other names of what it is said of: every variable of the theorem stands for one and the same
 part of the formula in both, but those that stand for the outcome (the result, and what is left in each lent buffer), which
 are two, and which the conclusion says to be equal, all of them. Two variables stand for two parts, and everything that the
-function takes has a part in the formula.
+function takes has a part in the formula: of a lent buffer, what it held or what is left in it.
 
 The table under "The calls" in docs/PROMISES.md is written by hand. A row has a function, its kind, what its contract must say
 behind `≡`, with x for `now (x .entry)`, and the file of the definition that this begins with. A public function that has no row
@@ -547,7 +547,8 @@ def function_faults(texts, specs, rows, crate, function):
         if path.startswith("crates/") and not (path.split("/")[2] == "specs" and specs.declares(path, name)):
             yield f"its contract cites `{name}`, which {path} does not declare, or which stands outside specs/"
     yield from theorem_faults(texts, crate, function, shape)
-    missed = sorted(set(function.takes) - set(parts_of(shape, "taken")))
+    decided = set(function.lent) & set(parts_of(shape, "outcome"))
+    missed = sorted(set(function.takes) - set(parts_of(shape, "taken")) - decided)
     if missed:
         yield f"its contract says nothing of {', '.join(missed)}"
     if function.name in rows:

@@ -1,4 +1,4 @@
--- Demand 3, as a claim. 00-demands.md: "A re-render of an accepted old score into an accepted new one starts at the last shelf mark at or before the first changed record. If that mark's entry is what a render of the old score left,
+-- Demand 3, as a claim. The demand: "A re-render of an accepted old score into an accepted new one starts at the last shelf mark at or before the first changed record. If that mark's entry is what a render of the old score left,
 -- with the same settings and length, every sample and entry from the mark on equals a render of the new score from sample zero. Those before it stay as they came, even if they hold rubbish. The count is the samples from the mark to
 -- the end. Where the scores are equal, or the first change lies at or past the end, nothing is written and the count is nought." 01, "What a call says": "Where count is 0 for equal scores or a late P, no entry is read and 8 is not
 -- given". The argument is in proofs/Demand3.antt, that of its last two fields in proofs/First.antt. Definitions only.

@@ -1,4 +1,4 @@
--- Edits one after the other, as a claim. 00-demands.md, why it exists: "A slowly falling pad had lost eleven percent of its level after its fifth edit"; "every edit started from a state some milliseconds past the cut". A score is
+-- Edits one after the other, as a claim. Why the voice exists: "A slowly falling pad had lost eleven percent of its level after its fifth edit"; "every edit started from a state some milliseconds past the cut". A score is
 -- rendered, and then each next one is re-rendered, after the one before it, into the same output and shelf. However many edits there are: every call is done with its count, and output and shelf are those of one render of the last
 -- score. That holds from a mark b on where they were honest from b on and no edit lies before b; what stands before b stays as it came. The argument is in proofs/Edits.antt. Definitions only.
 use mathlib.Core.Path.{_≡_}

@@ -1,11 +1,9 @@
 -- `waveform::fill_in` meets its contract. Assumes nothing.
 use borrow.Author.Needs.{needs}
-use mathlib.Core.Path.{_≡_}
 use mathlib.Core.List.{[], _∷_}
 use mathlib.Core.Logic.{⊎-elim}
 use types.Run.{miss}
 use lib.Ieee.{Float}
-use Rattle.waveform.specs.declared.Waveform.the-variants.{Sine}
 use Rattle.waveform.proofs.Lent.{filled-as, table-read, table-unread}
 use Rattle.waveform.proofs.fill_in.Statement.{statement}
 use Rattle.waveform.proofs.fill_in.Tie as tie
