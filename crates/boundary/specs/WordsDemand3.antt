@@ -1,4 +1,4 @@
--- Demand 3 of the calls that C makes, as a claim. 00-demands.md, demand 3, which stands whole in `demands`' specs/Demand3.antt; include/gavberin.h, of gav_rerender: "old, old_len: the score that out and shelf were rendered of".
+-- Demand 3 of the calls that C makes, as a claim. The demand stands whole in `demands`' specs/Demand3.antt; include/gavberin.h, of gav_rerender: "old, old_len: the score that out and shelf were rendered of".
 -- A gav_render of the old score, in any output and shelf of as many samples, said 0; its entry at the mark is the one in the shelf, and anything at all may stand elsewhere. That it said 0 tells that the settings are known and in
 -- their domain and the old score accepted. The argument is in proofs/DeskDemand3.antt. Definitions only.
 use mathlib.Core.Path.{_≡_}
