@@ -12,9 +12,8 @@ use Rattle.state.specs.declared.Settings.{Settings}
 use Rattle.state.specs.declared.State.{State}
 use Rattle.spans.specs.declared.Place.{Place}
 use Rattle.spans.specs.declared.Walker.{Walker}
-use Rattle.spans.specs.Plain.{Sounded}
 use Rattle.spans.specs.Walk.{placeOf, begunFrom, placeFrom, playedFrom, Played}
-use Rattle.spans.specs.Walker.{beginsIn, At, FirstAfter}
+use Rattle.spans.specs.Inner.{Sounded, beginsIn, At, FirstAfter}
 use Rattle.spans.proofs.Offsets.{first-so, begins-so}
 use Rattle.spans.proofs.Turns.{turn-length, turn-stands, turn-heard}
 

@@ -12,7 +12,7 @@ use Rattle.score.proofs.Codec.{both, either}
 use Rattle.score.proofs.Parted.{clash}
 use Rattle.spans.specs.declared.Walker.{Walker}
 use Rattle.spans.specs.Walk.{standsAt, beginsAt}
-use Rattle.spans.specs.Walker.{standsIn, isMark, beginsIn, Sees, FirstAfter}
+use Rattle.spans.specs.Inner.{standsIn, isMark, beginsIn, Sees, FirstAfter}
 
 -- where one of two fails, each does
 pub neither : (p q : Bool) → (p || q) ≡ false → (p ≡ false) × (q ≡ false)

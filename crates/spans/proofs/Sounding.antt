@@ -24,7 +24,7 @@ use Rattle.waveform.proofs.Lent.{filled-as}
 use Rattle.state.specs.declared.Settings.{Settings}
 use Rattle.state.specs.declared.State.{State}
 use Rattle.state.specs.State.{withPhase, withEnvelope, paceOf, sampleOf, advanceOf}
-use Rattle.spans.specs.Plain.{advances, plain, Serves, Sounded}
+use Rattle.spans.specs.Inner.{advances, plain, Serves, Sounded}
 
 module _ (g : Settings) (v : State) where
   -- the state after k samples, field by field

@@ -17,9 +17,8 @@ use Rattle.state.specs.declared.Settings.{Settings}
 use Rattle.state.specs.declared.State.{State}
 use Rattle.state.specs.State.{sampleOf}
 use Rattle.spans.specs.declared.Place.{Place}
-use Rattle.spans.specs.Plain.{advances, plain, Sounded}
 use Rattle.spans.specs.Walk.{placeOf, beginsAt, standsAt, begunFrom, placeFrom, playedFrom}
-use Rattle.spans.specs.Walker.{FirstAfter}
+use Rattle.spans.specs.Inner.{advances, plain, Sounded, FirstAfter}
 use Rattle.spans.proofs.Acting.{act-stop}
 use Rattle.spans.proofs.Offsets.{neither}
 

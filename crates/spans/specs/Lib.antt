@@ -1,3 +1,2 @@
-pub mod Plain
 pub mod Walk
-pub mod Walker
+pub mod Inner

@@ -6,7 +6,7 @@ use native.Mathlib.Omega.{arith}
 use Rattle.score.specs.Record.{countOf}
 use Rattle.spans.specs.declared.Place.{Place}
 use Rattle.spans.specs.Walk.{actFrom}
-use Rattle.spans.specs.Walker.{placeIn, Sees}
+use Rattle.spans.specs.Inner.{placeIn, Sees}
 use Rattle.spans.proofs.Acting.{act-on, act-stop, is-there, begun-by}
 use Rattle.spans.proofs.Offsets.{stands-so}
 use Rattle.spans.proofs.begin.Statement.{statement}

@@ -3,7 +3,7 @@ use borrow.Author.Needs.{needs}
 use Prim.Native.Nat.{_-_}
 use native.Mathlib.Omega.{arith}
 use lib.ListN.{length}
-use Rattle.spans.specs.Walker.{placeIn, Sees}
+use Rattle.spans.specs.Inner.{placeIn, Sees}
 use Rattle.spans.proofs.Loops.{Upto, begins, goes-on, ends}
 use Rattle.spans.proofs.play_in.Statement.{statement}
 use Rattle.spans.proofs.play_in.Tie as tie
