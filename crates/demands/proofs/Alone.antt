@@ -32,10 +32,10 @@ use Rattle.rerender.specs.declared.Plan.the-variants.{From}
 use Rattle.rerender.specs.Rerender.{planOf, entryAt, startOf, isStart, madeFrom, runOf, startRefusals, rerenderRefusals, keptOf, rerenderOf}
 use Rattle.rerender.proofs.Cases.{plan-there, made-is, checks, all-checked}
 
-front : {A : Type 0} (k : ℕ) (xs ys : List A) → k ≤ length xs → take k (take k xs ++ ys) ≡ take k xs
+pub front : {A : Type 0} (k : ℕ) (xs ys : List A) → k ≤ length xs → take k (take k xs ++ ys) ≡ take k xs
 front k xs ys h = take-at (take k xs) ys k (length-take-le k xs h)
 
-back : {A : Type 0} (k : ℕ) (xs ys : List A) → k ≤ length xs → drop k (take k xs ++ ys) ≡ ys
+pub back : {A : Type 0} (k : ℕ) (xs ys : List A) → k ≤ length xs → drop k (take k xs ++ ys) ≡ ys
 back k xs ys h = ap (λ (i : ℕ). drop i (take k xs ++ ys)) (sym (length-take-le k xs h)) ∙ drop-append-seam (take k xs) ys
 
 -- no sample on, the state is the one that it was

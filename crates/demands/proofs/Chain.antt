@@ -1,7 +1,4 @@
--- The theorem of the chain. Cut an output anywhere into consecutive parts and continue over them from the fresh state at 0, under the same settings, with a score that grows only at its end: if every call answers 0, the parts
--- hold the samples, and the last call answers the end state, of one render of the last score. That each score is accepted is in the answers 0. The lemma beside it: where the settings are in their domain, each score is accepted
--- and the output is no longer than one may be, every call answers 0 exactly when no record was added below the position already reached. The sustain setting is a value of an f64, which is what owning it tells.
--- Assumes nothing.
+-- The claim of specs/Chain.antt. What a chain has come to is what a render of its last score has come to: by the calls, each of which goes on under a score that grew at its end. Assumes nothing.
 use mathlib.Core.Path.{_≡_, refl, sym, _∙_}
 use mathlib.Core.Bool.{true}
 use mathlib.Core.List.{List, [], _∷_}
@@ -12,7 +9,6 @@ use lib.Dec.{T}
 use lib.ListN.{length}
 use lib.Ieee.{Float, binary64, fits}
 use borrow.Author.Tests.{le-leb, eq-eqb}
-use Rattle.answers.specs.declared.Answer.the-variants.{Done}
 use Rattle.runs.specs.Runs.{run, listed}
 use Rattle.score.specs.declared.Verdict.the-variants.{Accepted}
 use Rattle.score.specs.Record.{countOf}
@@ -33,7 +29,7 @@ use Rattle.state.proofs.Stays.{fresh-kept}
 use Rattle.judging.specs.Judging.{most, isRoom}
 use Rattle.judging.proofs.Refusals.{none-refused}
 use Rattle.render.specs.Calls.{madeOf, renderOf, madePart}
-use Rattle.demands.specs.Chain.{Step, ChainOutcome, andThen, chainFrom, samplesOf, lastOf, AllDone, Grows, AllAccepted, NoneBelow, NoneAddedBelow}
+use Rattle.demands.specs.Chain.{Step, ChainOutcome, andThen, chainFrom, samplesOf, lastOf, AllDone, Grows, AllAccepted, NoneBelow, NoneAddedBelow, OneRender, DoneExactly, PartsAreOne}
 use Rattle.demands.proofs.Link.{PassedCall, call-passed, call-done, Agrees, Reached, acted-is, same-count, none-below, agrees, goes-on, after, onward, chain-step, first-done, rest-done, all-done}
 
 -- ---- a chain, from where a render of s has come to
@@ -83,12 +79,6 @@ unfolding stateFrom run
 chain-samples g xs w d = let e = ends g xs [] 0 nothing-accepted 0 (freshOf 0) refl w d in (e .heard, e .state)
 
 -- ---- the theorem
--- so it is what one render of the last score leaves
-pub record OneRender (g : Settings) (xs : List Step) (out : List Float) (shelf : List ℕ) : Type 0 where
-  pub done : renderOf g (lastOf [] xs) out shelf .result .answer ≡ Done (samplesOf xs)
-  pub heard : chainFrom g (freshOf 0) 0 xs .heard ≡ renderOf g (lastOf [] xs) out shelf .heard
-  pub state : chainFrom g (freshOf 0) 0 xs .state ≡ renderOf g (lastOf [] xs) out shelf .result .state
-
 -- what a chain has passed whose calls answer 0
 record PassedChain (g : Settings) (l : List ℕ) (n : ℕ) : Type 0 where
   settings : settingsOk g ≡ true
@@ -121,11 +111,6 @@ chain g x xs w d out shelf e h =
     record { done = rw r refl; heard = rw r (c .0); state = rw r (c .1) }
 
 -- ---- the lemma
--- every call answers 0 exactly when no record was added below the position already reached
-pub record DoneExactly (g : Settings) (xs : List Step) : Type 0 where
-  pub done-only-if : AllDone g (freshOf 0) 0 xs → NoneAddedBelow [] 0 xs
-  pub done-if : NoneAddedBelow [] 0 xs → AllDone g (freshOf 0) 0 xs
-
 done-none : (g : Settings) (xs : List Step) (s : List ℕ) (m : ℕ) → verdictOf s ≡ Accepted m → (p : ℕ) (v : State) → Reached g s p v → Grows s xs → AllDone g v p xs → NoneAddedBelow s p xs
 done-none g [] s m a p v r w d = tt
 done-none g (x ∷ xs) s m a p v r w d =
@@ -159,3 +144,6 @@ module _ (g : Settings) (ok : settingsOk g ≡ true) (sus : T (fits binary64 (g 
         done-only-if = λ d. done-none g xs [] 0 nothing-accepted 0 (freshOf 0) refl w d;
         done-if = λ f. none-done xs [] 0 nothing-accepted 0 (freshOf 0) refl w b (omega arith) f;
       }
+
+pub parts-are-one : PartsAreOne
+parts-are-one = record { one-render = chain; done-exactly = chain-done }

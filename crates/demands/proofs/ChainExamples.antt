@@ -24,9 +24,9 @@ use Rattle.state.specs.Settings.{settingsOk}
 use Rattle.state.specs.State.{freshOf}
 use Rattle.state.specs.Heart.{stateFrom, samplesFrom}
 use Rattle.render.specs.Calls.{keptPart, continueOf}
-use Rattle.demands.specs.Chain.{Step, ChainOutcome, chainFrom, AllDone, Grows, AllAccepted, NoneAddedBelow}
+use Rattle.demands.specs.Chain.{Step, ChainOutcome, chainFrom, AllDone, Grows, AllAccepted, NoneAddedBelow, OneRender}
 use Rattle.demands.proofs.Link.{late, chain-step, first-done}
-use Rattle.demands.proofs.Chain.{OneRender, chain, chain-done}
+use Rattle.demands.proofs.Chain.{chain, chain-done}
 
 -- ---- the chains
 -- a square wave at 8,000 Hz; half a second each way, to half the level

@@ -1,7 +1,4 @@
--- Demand 3, in plain words. Two accepted scores, old and new, differ first at position P, below the end of an output of N samples. Its shelf has, at the last mark at or before P, the entry that a render of the old score
--- left there, under the same settings and length; anything at all may stand elsewhere, in the output and in the shelf. Then the re-render is done; every sample and every entry from that mark on is that of a render of
--- the new score from sample zero; those before the mark stay as they came; and the count is the number of samples from the mark to the end.
--- An honest shelf is so never refused with 8. The sustain setting is a value of an f64, which is what owning it tells. Assumes nothing.
+-- The claim of specs/Demand3.antt. Both scores lead to one state at the mark, and the entry there is read as it; so a re-render goes on from the state that a render of the new score has at the mark. Assumes nothing.
 use mathlib.Core.Path.{_≡_, refl, sym, ap, _∙_}
 use mathlib.Core.Bool.{true}
 use mathlib.Core.List.{List, [], _++_}
@@ -15,14 +12,18 @@ use lib.Seq.{drop-append-seam}
 use lib.Ieee.{Float, binary64, fits}
 use Rattle.sections.specs.Outcome.{Outcome, leaves}
 use Rattle.render.specs.declared.Rendered.{Rendered}
-use Rattle.answers.specs.declared.Answer.the-variants.{Done}
-use Rattle.score.specs.declared.Difference.the-variants.{At}
+use Rattle.answers.specs.declared.Answer.{Answer}
+use Rattle.answers.specs.declared.Answer.the-variants.{Done, Refused}
+use Rattle.answers.specs.declared.Refusal.the-variants.{StartEntry}
+use Rattle.score.specs.declared.Difference.{Difference}
+use Rattle.score.specs.declared.Difference.the-variants.{Equal, At}
 use Rattle.score.specs.declared.Verdict.the-variants.{Accepted}
 use Rattle.score.specs.Score.{verdictOf}
 use Rattle.score.specs.Below.{countBelow}
 use Rattle.score.specs.Apart.{differenceOf}
 use Rattle.score.proofs.Agree.{equal-exactly}
 use Rattle.score.proofs.Cuts.{accepted-few}
+use Rattle.score.proofs.Parted.{clash}
 use Rattle.shelf.specs.declared.Entry.{Entry}
 use Rattle.shelf.specs.Shelf.{mark, entryWords, entriesFor, wordsFor, entryOf, decodedOf, shelfOf}
 use Rattle.shelf.proofs.Count.{start-there}
@@ -36,10 +37,12 @@ use Rattle.state.proofs.RunsOn.{samples-on, samples-length}
 use Rattle.state.proofs.Entries.{entries-on, entries-length, entry-at}
 use Rattle.state.proofs.Depends.{Shared, state-shared, differing-shared}
 use Rattle.state.proofs.Acted.{acted-fresh}
-use Rattle.judging.specs.Judging.{isRoom}
+use Rattle.judging.specs.Judging.{most, isRoom}
 use Rattle.judging.proofs.Refusals.{none-refused, none-newly}
 use Rattle.render.specs.Calls.{says, renderOf}
+use Rattle.demands.specs.Demand3.{Taken, Edit, Lent, Buffers, leftIn, FromMark, Remade, Demand3}
 use Rattle.demands.proofs.Honest.{honest}
+use Rattle.demands.proofs.Alone.{front, back}
 use Rattle.rerender.specs.declared.Plan.the-variants.{Nothing}
 use Rattle.rerender.specs.Rerender.{planOf, entryAt, startOf, isStart, rerenderOf}
 use Rattle.rerender.proofs.Cases.{made-is, plan-equal, plan-late, plan-from, checks, checks-pass}
@@ -55,23 +58,6 @@ shelvedOf g s n = shelfOf (entriesFrom g s 0 (freshOf 0) (entriesFor n))
 abbrev pub atMark : Settings → List ℕ → ℕ → State
 atMark g s m = stateFrom g s 0 (freshOf 0) (m * mark)
 
--- an accepted score
-pub record Taken (s : List ℕ) : Type 0 where
-  pub records : ℕ
-  pub accepted : verdictOf s ≡ Accepted records
-
--- two of them, and what goes with them
-pub record Edit (g : Settings) (old new : List ℕ) : Type 0 where
-  pub settings : settingsOk g ≡ true
-  pub sustain-fits : T (fits binary64 (g .adsr .sustain))
-  pub old-taken : Taken old
-  pub new-taken : Taken new
-
--- an output and a shelf of sizes that go together
-pub record Lent (out : List Float) (shelf : List ℕ) : Type 0 where
-  pub short : length out ≤ 16777216
-  pub fits : length shelf ≡ wordsFor (length out)
-
 -- entry i of a render's shelf is the state there
 pub entry-left : (g : Settings) (s : List ℕ) (n i : ℕ) → i < entriesFor n → entryAt (shelvedOf g s n) i ≡ entryOf (atMark g s i)
 entry-left g s n i h =
@@ -80,7 +66,7 @@ entry-left g s n i h =
 
 -- an output and a shelf of such sizes are room
 room-lent : (out : List Float) (shelf : List ℕ) → Lent out shelf → isRoom (length out) (length shelf) ≡ true
-room-lent out shelf z = rw (le-leb (length out) 16777216 (z .short), eq-eqb (length shelf) (wordsFor (length out)) (z .fits)) refl
+room-lent out shelf z = rw (le-leb (length out) most (z .short), eq-eqb (length shelf) (wordsFor (length out)) (z .fits)) refl
 
 -- a render of an accepted score is done, and leaves these
 pub rendered : (g : Settings) → settingsOk g ≡ true → (s : List ℕ) → Taken s → (out : List Float) (shelf : List ℕ) → Lent out shelf
@@ -158,8 +144,8 @@ module _ (g : Settings) (old new : List ℕ) (x : Edit g old new) (p : ℕ) (dif
       start-is = ap (λ (e : Entry). e .state) decoded
 
       -- an honest shelf is never refused
-      pub never-8 : isStart new m shelf ≡ true
-      never-8 =
+      pub start-taken : isStart new m shelf ≡ true
+      start-taken =
           let few = accepted-few new (x .new-taken .records) (x .new-taken .accepted) in
           let acted : startOf shelf m .acted ≡ countBelow new (m * mark) = ap (λ (v : State). v .acted) start-is ∙ acted-fresh g new few (m * mark) in
           rw (ap (λ (e : Entry). e .holds) decoded, eq-eqb (startOf shelf m .acted) (countBelow new (m * mark)) acted) refl
@@ -170,7 +156,7 @@ module _ (g : Settings) (old new : List ℕ) (x : Edit g old new) (p : ℕ) (dif
       demand-3 =
           let there : m < entriesFor (length out) = start-there (length out) p heard in
           checks-pass g old new out shelf (checked g old new x out shelf z)
-          ∙ rw (← plan-from old new (length out) p differs heard, never-8, made-is g old new m out shelf (z .fits), start-is, sound-after (length out) (omega arith), shelf-after (length out) (omega arith)) refl
+          ∙ rw (← plan-from old new (length out) p differs heard, start-taken, made-is g old new m out shelf (z .fits), start-is, sound-after (length out) (omega arith), shelf-after (length out) (omega arith)) refl
 
     -- the same in terms of renders of as many samples: one of the old score left the start entry, and one of the new score is what is heard from the mark on
     module _ (out₁ out₂ : List Float) (shelf₁ shelf₂ : List ℕ) (z₁ : Lent out₁ shelf₁) (z₂ : Lent out₂ shelf₂) (long₁ : length out₁ ≡ length out) (long₂ : length out₂ ≡ length out)
@@ -187,3 +173,56 @@ module _ (g : Settings) (old new : List ℕ) (x : Edit g old new) (p : ℕ) (dif
           let a : renderOf g new out₂ shelf₂ .heard ≡ soundOf g new (length out) = ap (λ (o : Outcome Rendered). o .heard) second ∙ ap (soundOf g new) long₂ in
           let b : renderOf g new out₂ shelf₂ .stored ≡ shelvedOf g new (length out) = ap (λ (o : Outcome Rendered). o .stored) second ∙ ap (shelvedOf g new) long₂ in
           rw (a, b) (demand-3 (left ∙ ap (λ (ws : List ℕ). entryAt ws m) first ∙ entry-left g old (length out) m there))
+
+-- ---- the claim
+-- a render of n samples of an accepted score, in any buffers
+module _ (g : Settings) (ok : settingsOk g ≡ true) (s : List ℕ) (a : Taken s) (n : ℕ) (b : Buffers n) where
+  pub heard-is : leftIn g s b .heard ≡ soundOf g s n
+  heard-is = ap (λ (o : Outcome Rendered). o .heard) (rendered g ok s a (b .out) (b .shelf) (b .lent)) ∙ ap (soundOf g s) (b .long)
+
+  pub stored-is : leftIn g s b .stored ≡ shelvedOf g s n
+  stored-is = ap (λ (o : Outcome Rendered). o .stored) (rendered g ok s a (b .out) (b .shelf) (b .lent)) ∙ ap (shelvedOf g s) (b .long)
+
+-- so what is left before mark m and made from it on are those of any render
+pub from-mark : (g : Settings) → settingsOk g ≡ true → (s : List ℕ) → Taken s → (m : ℕ) (out : List Float) (shelf : List ℕ) (ys : List Float) (ws : List ℕ)
+    → drop (m * mark) ys ≡ drop (m * mark) (soundOf g s (length out)) → drop (m * entryWords) ws ≡ drop (m * entryWords) (shelvedOf g s (length out))
+    → take (m * mark) ys ≡ take (m * mark) out → take (m * entryWords) ws ≡ take (m * entryWords) shelf → FromMark g s m out shelf ys ws
+from-mark g ok s a m out shelf ys ws h k h′ k′ =
+    record {
+      samples-are = λ b. h ∙ sym (ap (drop (m * mark)) (heard-is g ok s a (length out) b));
+      entries-are = λ b. k ∙ sym (ap (drop (m * entryWords)) (stored-is g ok s a (length out) b));
+      samples-stay = h′;
+      entries-stay = k′;
+    }
+
+remade : (g : Settings) (old new : List ℕ) (x : Edit g old new) (out : List Float) (shelf : List ℕ) (z : Lent out shelf) (p : ℕ) (e : differenceOf old new ≡ At p) (heard : p < length out)
+    (b : Buffers (length out)) → entryAt shelf (p / mark) ≡ entryAt (leftIn g old b .stored) (p / mark) → Remade g new (p / mark) out shelf (rerenderOf g old new out shelf)
+remade g old new x out shelf z p e heard b left =
+    let m = p / mark in
+    let n = length out in
+    let there : m < entriesFor n = start-there n p heard in
+    let honestly = left ∙ ap (λ (ws : List ℕ). entryAt ws m) (stored-is g (x .settings) old (x .old-taken) n b) ∙ entry-left g old n m there in
+    let d = demand-3 g old new x p e out shelf z heard honestly in
+    let ys : List Float = drop (m * mark) (soundOf g new n) in
+    let ws : List ℕ = drop (m * entryWords) (shelvedOf g new n) in
+    let in-out : m * mark ≤ n = omega arith in
+    let in-shelf : m * entryWords ≤ length shelf = omega (arith, z .fits) in
+    record {
+      counted = ap (λ (o : Outcome Answer). o .result) d;
+      never-8 = λ is. (let c : Done (n - m * mark) ≡ Refused StartEntry = sym (ap (λ (o : Outcome Answer). o .result) d) ∙ is in absurd (clash (cc)));
+      left = from-mark g (x .settings) new (x .new-taken) m out shelf (rerenderOf g old new out shelf .heard) (rerenderOf g old new out shelf .stored)
+          (ap (λ (o : Outcome Answer). drop (m * mark) (o .heard)) d ∙ back (m * mark) out ys in-out)
+          (ap (λ (o : Outcome Answer). drop (m * entryWords) (o .stored)) d ∙ back (m * entryWords) shelf ws in-shelf)
+          (ap (λ (o : Outcome Answer). take (m * mark) (o .heard)) d ∙ front (m * mark) out ys in-out)
+          (ap (λ (o : Outcome Answer). take (m * entryWords) (o .stored)) d ∙ front (m * entryWords) shelf ws in-shelf);
+    }
+
+differ : (old new : List ℕ) → Taken old → Taken new → (old ≡ new → ⊥) → (p : ℕ) × (differenceOf old new ≡ At p)
+differ old new a b apart = go (differenceOf old new) refl
+  where
+    go : (d : Difference) → differenceOf old new ≡ d → (p : ℕ) × (differenceOf old new ≡ At p)
+    go Equal e = absurd (apart (equal-exactly old new (a .records) (b .records) (a .accepted) (b .accepted) .no-other e))
+    go (At p) e = (p, e)
+
+pub demand-3-holds : Demand3
+demand-3-holds = record { re-rendered = remade; equal = λ g s x out shelf z. nothing-equal g s s x out shelf z refl; late = nothing-late; changed = differ }

@@ -1,17 +1,16 @@
--- Five edits that lose nothing, and any number. After one render, and then any edits of the score, each re-rendered into the same output and shelf, these hold what one render of the last score from sample zero leaves.
--- The sustain setting is a value of an f64, which is what owning it tells. Assumes nothing.
+-- The claim of specs/Edits.antt. An edit keeps what is honest from mark b on: from its own mark on it leaves a render of the new score (demand 3), and between b and that mark both scores make the same. A whole render is the case
+-- where b is 0. Assumes nothing.
 use mathlib.Core.Path.{_≡_, refl, sym, ap, _∙_}
-use mathlib.Core.List.{List, [], _∷_}
+use mathlib.Core.List.{List, [], _∷_, _++_}
 use mathlib.Core.Bool.{true}
 use mathlib.Core.Logic.{⊎-elim}
 use Prim.Native.Nat.{ℕ, _+_, _-_, _*_, _/_, _≤_, _<_}
 use native.Mathlib.Omega.{arith}
 use lib.Dec.{T}
-use lib.ListN.{length, take, take-append-drop}
-use lib.Seq.{take-at}
+use lib.ListN.{length, take, drop, take-append-drop}
+use lib.Seq.{take-at, drop-at, take-add, take-take, drop-drop, take-append-le, drop-append-le, length-take-le, length-front}
 use lib.Ieee.{Float, binary64, fits}
 use Rattle.sections.specs.Outcome.{Outcome, leaves}
-use Rattle.render.specs.declared.Rendered.{Rendered}
 use Rattle.answers.specs.declared.Answer.{Answer}
 use Rattle.answers.specs.declared.Answer.the-variants.{Done}
 use Rattle.score.specs.declared.Difference.{Difference}
@@ -20,7 +19,7 @@ use Rattle.score.specs.Below.{countBelow}
 use Rattle.score.specs.Apart.{differenceOf}
 use Rattle.score.proofs.Agree.{equal-exactly}
 use Rattle.score.proofs.Cuts.{lt-or-ge}
-use Rattle.shelf.specs.Shelf.{mark, entryWords, entriesFor, wordsFor, shelfOf}
+use Rattle.shelf.specs.Shelf.{mark, entryWords, entriesFor, wordsFor, entryOf, shelfOf}
 use Rattle.shelf.proofs.Count.{start-there}
 use Rattle.shelf.proofs.Whole.{shelf-append, shelf-length}
 use Rattle.state.specs.declared.Settings.{Settings}
@@ -31,15 +30,44 @@ use Rattle.state.specs.Heart.{stateFrom, samplesFrom, entriesFrom}
 use Rattle.state.proofs.RunsOn.{samples-on, samples-length}
 use Rattle.state.proofs.Entries.{entries-on, entries-length}
 use Rattle.state.proofs.Depends.{Shared, samples-shared, entries-shared, differing-shared}
-use Rattle.render.specs.Calls.{renderOf}
+use Rattle.judging.specs.Judging.{most}
 use Rattle.rerender.specs.declared.Plan.the-variants.{Nothing}
-use Rattle.rerender.specs.Rerender.{planOf, countFor, rerenderOf}
-use Rattle.demands.specs.Edits.{editsFrom, lastScore, answersFrom, allCounted}
+use Rattle.rerender.specs.Rerender.{planOf, entryAt, countFor, rerenderOf}
 use Rattle.rerender.proofs.Cases.{plan-equal, plan-late, plan-from, checks-pass}
-use Rattle.demands.proofs.Demand3.{soundOf, shelvedOf, atMark, Taken, Edit, Lent, entry-left, rendered, checked, demand-3}
+use Rattle.demands.specs.Demand3.{Taken, Edit, Lent, Buffers, leftIn}
+use Rattle.demands.specs.Edits.{editsFrom, lastScore, allCounted, AllTaken, NoneBefore, Editing, Edited, EditedWhole, AnyEdits}
+use Rattle.demands.proofs.Demand3.{soundOf, shelvedOf, atMark, entry-left, checked, demand-3, heard-is, stored-is, from-mark}
 
-abbrev Rendering : Type 0
-Rendering = Outcome Rendered
+-- ---- a list, and another's end in the place of its own from j on
+module _ {A : Type 0} where
+  abbrev over : ℕ → List A → List A → List A
+  over j xs ys = take j xs ++ drop j ys
+
+  over-length : (j : ℕ) (xs ys : List A) → j ≤ length xs → length xs ≡ length ys → length (over j xs ys) ≡ length ys
+  over-length j xs ys h e = length-front ys (take j xs) j (length-take-le j xs h ∙ sym (length-take-le j ys (omega arith)))
+
+  -- before k it stands as it is
+  over-front : (k j : ℕ) (xs ys : List A) → k ≤ j → j ≤ length xs → take k (over j xs ys) ≡ take k xs
+  over-front k j xs ys h l = take-append-le k (take j xs) (drop j ys) (omega (arith, length-take-le j xs l)) ∙ take-take k j xs h
+
+  drop-take : (k j : ℕ) (xs : List A) → k ≤ j → k ≤ length xs → drop k (take j xs) ≡ take (j - k) (drop k xs)
+  drop-take k j xs h l =
+      let e : j ≡ k + (j - k) = omega arith in
+      ap (λ (i : ℕ). drop k (take i xs)) e ∙ ap (drop k) (take-add k (j - k) xs) ∙ drop-at (take k xs) (take (j - k) (drop k xs)) k (length-take-le k xs l)
+
+  -- from k on it is the other, where from k to j the two are the same: both are what zs is
+  over-back : (k j : ℕ) (xs ys zs : List A) → k ≤ j → j ≤ length xs → j ≤ length ys → j ≤ length zs → drop k xs ≡ drop k zs → take j zs ≡ take j ys → drop k (over j xs ys) ≡ drop k ys
+  over-back k j xs ys zs h lx ly lz e f =
+      drop-append-le k (take j xs) (drop j ys) (omega (arith, length-take-le j xs lx))
+      ∙ ap (λ (l : List A). l ++ drop j ys) (drop-take k j xs h (omega arith) ∙ ap (take (j - k)) e ∙ sym (drop-take k j zs h (omega arith)) ∙ ap (drop k) f)
+      ∙ sym (drop-append-le k (take j ys) (drop j ys) (omega (arith, length-take-le j ys ly)))
+      ∙ ap (drop k) (take-append-drop j ys)
+
+  -- what is the same from k on is so from later on
+  later : (k j : ℕ) (xs zs : List A) → k ≤ j → drop k xs ≡ drop k zs → drop j xs ≡ drop j zs
+  later k j xs zs h e =
+      let d : j ≡ k + (j - k) = omega arith in
+      ap (λ (i : ℕ). drop i xs) d ∙ sym (drop-drop (j - k) k xs) ∙ ap (drop (j - k)) e ∙ drop-drop (j - k) k zs ∙ ap (λ (i : ℕ). drop i zs) (sym d)
 
 -- ---- the front of a render
 module _ (g : Settings) (s : List ℕ) (n : ℕ) where
@@ -62,118 +90,166 @@ module _ (g : Settings) (s : List ℕ) (n : ℕ) where
       ∙ ap (take (m * entryWords)) (shelf-append front back)
       ∙ take-at (shelfOf front) (shelfOf back) (m * entryWords) (shelf-length front ∙ ap (λ (i : ℕ). i * entryWords) (entries-length g s 0 (freshOf 0) m))
 
--- ---- one edit of a whole render
--- the output and the shelf hold what a render of s leaves, of n samples
-pub record Whole (g : Settings) (s : List ℕ) (n : ℕ) (o : Outcome Answer) : Type 0 where
-  pub heard-is : o .heard ≡ soundOf g s n
-  pub stored-is : o .stored ≡ shelvedOf g s n
+  pub sound-length : length (soundOf g s n) ≡ n
+  sound-length = samples-length g s 0 (freshOf 0) n
 
-module _ (g : Settings) (old new : List ℕ) (x : Edit g old new) (n : ℕ) (short : n ≤ 16777216) where
-  abbrev out : List Float
-  out = soundOf g old n
+  pub shelved-length : length (shelvedOf g s n) ≡ wordsFor n
+  shelved-length = shelf-length (entriesFrom g s 0 (freshOf 0) (entriesFor n)) ∙ ap (λ (i : ℕ). i * entryWords) (entries-length g s 0 (freshOf 0) (entriesFor n))
 
-  abbrev shelf : List ℕ
-  shelf = shelvedOf g old n
+-- ---- one edit
+-- from mark b on the output and the shelf hold what a render of s leaves, of n samples
+pub record Holds (g : Settings) (s : List ℕ) (n b : ℕ) (out : List Float) (shelf : List ℕ) : Type 0 where
+  pub long : length out ≡ n
+  pub fits : length shelf ≡ wordsFor n
+  pub sound : drop (b * mark) out ≡ drop (b * mark) (soundOf g s n)
+  pub shelved : drop (b * entryWords) shelf ≡ drop (b * entryWords) (shelvedOf g s n)
+
+module _ (g : Settings) (old new : List ℕ) (x : Edit g old new) (n : ℕ) (short : n ≤ most) (b : ℕ) (later-than : (p : ℕ) → differenceOf old new ≡ At p → p < n → b * mark ≤ p)
+    (out : List Float) (shelf : List ℕ) (h : Holds g old n b out shelf) where
+  abbrev call : Outcome Answer
+  call = rerenderOf g old new out shelf
 
   long : length out ≡ n
-  long = samples-length g old 0 (freshOf 0) n
+  long = h .long
 
   lent : Lent out shelf
-  lent =
-      record {
-        short = omega (arith, long);
-        fits = shelf-length (entriesFrom g old 0 (freshOf 0) (entriesFor n)) ∙ ap (λ (i : ℕ). i * entryWords) (entries-length g old 0 (freshOf 0) (entriesFor n)) ∙ ap wordsFor (sym long);
-      }
+  lent = record { short = omega (arith, long); fits = h .fits ∙ ap wordsFor (sym long) }
 
-  -- it is done with the samples of its plan, and holds what a render of the new score leaves
-  pub record Edited (o : Outcome Answer) : Type 0 where
-    pub whole : Whole g new n o
+  -- it is done with the samples of its plan, holds from b on what a render of the new score leaves, and before b what came
+  pub record OneEdit (o : Outcome Answer) : Type 0 where
     pub counted : o .result ≡ Done (countFor g old new (planOf old new n) n)
+    pub holds : Holds g new n b (o .heard) (o .stored)
+    pub samples-stay : take (b * mark) (o .heard) ≡ take (b * mark) out
+    pub entries-stay : take (b * entryWords) (o .stored) ≡ take (b * entryWords) shelf
 
   -- where nothing is made, nothing that is heard has changed
-  unchanged : Nothing ≡ planOf old new (length out) → soundOf g old n ≡ soundOf g new n → shelvedOf g old n ≡ shelvedOf g new n → Edited (rerenderOf g old new out shelf)
-  unchanged q a b = rw (checks-pass g old new out shelf (checked g old new x out shelf lent), ← q) (record { whole = record { heard-is = a; stored-is = b }; counted = rw (← ap (planOf old new) long, ← q) refl })
+  unchanged : Nothing ≡ planOf old new (length out) → soundOf g old n ≡ soundOf g new n → shelvedOf g old n ≡ shelvedOf g new n → OneEdit call
+  unchanged q s t =
+      rw (checks-pass g old new out shelf (checked g old new x out shelf lent), ← q)
+      (record {
+        counted = rw (← ap (planOf old new) long, ← q) refl;
+        holds = record { long = long; fits = h .fits; sound = h .sound ∙ ap (drop (b * mark)) s; shelved = h .shelved ∙ ap (drop (b * entryWords)) t };
+        samples-stay = refl;
+        entries-stay = refl;
+      })
 
   shared-to : (p q : ℕ) → differenceOf old new ≡ At p → q ≤ p → Shared old new q (countBelow old q)
-  shared-to p q e h = differing-shared old new (x .old-taken .records) (x .new-taken .records) p q (x .old-taken .accepted) (x .new-taken .accepted) e h
+  shared-to p q e l = differing-shared old new (x .old-taken .records) (x .new-taken .records) p q (x .old-taken .accepted) (x .new-taken .accepted) e l
 
-  late : (p : ℕ) → differenceOf old new ≡ At p → n ≤ p → Edited (rerenderOf g old new out shelf)
-  late p e h =
-      let s : Shared old new n (countBelow old n) = shared-to p n e h in
+  late : (p : ℕ) → differenceOf old new ≡ At p → n ≤ p → OneEdit call
+  late p e l =
+      let s : Shared old new n (countBelow old n) = shared-to p n e l in
       unchanged (plan-late old new (length out) p e (omega (arith, long)))
       (samples-shared old new n (countBelow old n) s g 0 (freshOf 0) n (omega arith))
-      (ap shelfOf (entries-shared old new n (countBelow old n) s g 0 (freshOf 0) (entriesFor n) (λ i l. omega arith)))
+      (ap shelfOf (entries-shared old new n (countBelow old n) s g 0 (freshOf 0) (entriesFor n) (λ i k. omega arith)))
 
-  early : (p : ℕ) → differenceOf old new ≡ At p → p < n → Edited (rerenderOf g old new out shelf)
-  early p e h =
+  early : (p : ℕ) → differenceOf old new ≡ At p → p < n → OneEdit call
+  early p e l =
       let m = p / mark in
-      let there : m < entriesFor n = start-there n p h in
+      let there : m < entriesFor n = start-there n p l in
+      let from-b : b * mark ≤ p = later-than p e l in
       let s : Shared old new (m * mark) (countBelow old (m * mark)) = shared-to p (m * mark) e (omega arith) in
-      let front : take (m * mark) out ≡ take (m * mark) (soundOf g new n) =
+      let same : take (m * mark) (soundOf g old n) ≡ take (m * mark) (soundOf g new n) =
       sound-front g old n (m * mark) (omega arith) ∙ samples-shared old new (m * mark) (countBelow old (m * mark)) s g 0 (freshOf 0) (m * mark) (omega arith) ∙ sym (sound-front g new n (m * mark) (omega arith)) in
-      let front-shelf : take (m * entryWords) shelf ≡ take (m * entryWords) (shelvedOf g new n) =
-      shelf-front g old n m (omega arith) ∙ ap shelfOf (entries-shared old new (m * mark) (countBelow old (m * mark)) s g 0 (freshOf 0) m (λ i l. omega arith)) ∙ sym (shelf-front g new n m (omega arith)) in
-      let d = demand-3 g old new x p e out shelf lent (omega (arith, long)) (entry-left g old n m there) in
-      record {
-        whole = record {
-          heard-is = ap (λ (o : Outcome Answer). o .heard) d ∙ rw (long, front) (take-append-drop (m * mark) (soundOf g new n));
-          stored-is = ap (λ (o : Outcome Answer). o .stored) d ∙ rw (long, front-shelf) (take-append-drop (m * entryWords) (shelvedOf g new n));
+      let same-shelf : take (m * entryWords) (shelvedOf g old n) ≡ take (m * entryWords) (shelvedOf g new n) =
+      shelf-front g old n m (omega arith) ∙ ap shelfOf (entries-shared old new (m * mark) (countBelow old (m * mark)) s g 0 (freshOf 0) m (λ i k. omega arith)) ∙ sym (shelf-front g new n m (omega arith)) in
+      let honestly : entryAt shelf m ≡ entryOf (atMark g old m) =
+      ap (take entryWords) (later (b * entryWords) (m * entryWords) shelf (shelvedOf g old n) (omega arith) (h .shelved)) ∙ entry-left g old n m there in
+      let d : call ≡ leaves (Done (n - m * mark)) (over (m * mark) out (soundOf g new n)) (over (m * entryWords) shelf (shelvedOf g new n)) =
+      rw long at (demand-3 g old new x p e out shelf lent (omega (arith, long)) honestly) in
+      let w = h .fits in
+      let in-old = sound-length g old n in
+      let in-new = sound-length g new n in
+      let on-old = shelved-length g old n in
+      let on-new = shelved-length g new n in
+      rw d
+      (record {
+        counted = rw (← plan-from old new n p e l) refl;
+        holds = record {
+          long = over-length (m * mark) out (soundOf g new n) (omega (arith, long)) (long ∙ sym in-new) ∙ in-new;
+          fits = over-length (m * entryWords) shelf (shelvedOf g new n) (omega (arith, w)) (w ∙ sym on-new) ∙ on-new;
+          sound = over-back (b * mark) (m * mark) out (soundOf g new n) (soundOf g old n) (omega arith) (omega (arith, long)) (omega (arith, in-new)) (omega (arith, in-old)) (h .sound) same;
+          shelved =
+              over-back (b * entryWords) (m * entryWords) shelf (shelvedOf g new n) (shelvedOf g old n) (omega arith) (omega (arith, w)) (omega (arith, on-new)) (omega (arith, on-old)) (h .shelved)
+              same-shelf;
         };
-        counted = ap (λ (o : Outcome Answer). o .result) d ∙ rw (long, ← plan-from old new n p e h) refl;
-      }
+        samples-stay = over-front (b * mark) (m * mark) out (soundOf g new n) (omega arith) (omega (arith, long));
+        entries-stay = over-front (b * entryWords) (m * entryWords) shelf (shelvedOf g new n) (omega arith) (omega (arith, w));
+      })
 
-  pub one-edit : Edited (rerenderOf g old new out shelf)
+  pub one-edit : OneEdit call
   one-edit = go (differenceOf old new) refl
     where
-      go : (d : Difference) → differenceOf old new ≡ d → Edited (rerenderOf g old new out shelf)
+      go : (d : Difference) → differenceOf old new ≡ d → OneEdit call
       go Equal e =
           let same : old ≡ new = equal-exactly old new (x .old-taken .records) (x .new-taken .records) (x .old-taken .accepted) (x .new-taken .accepted) .no-other e in
           unchanged (plan-equal old new (length out) e) (ap (λ (s : List ℕ). soundOf g s n) same) (ap (λ (s : List ℕ). shelvedOf g s n) same)
-      go (At p) e = ⊎-elim (λ l. early p e l) (λ h. late p e h) (lt-or-ge p n)
+      go (At p) e = ⊎-elim (λ l. early p e l) (λ l. late p e l) (lt-or-ge p n)
 
 -- ---- any number of edits
--- every score is accepted
-abbrev pub AllTaken : List (List ℕ) → Type 0
-AllTaken [] = Unit
-AllTaken (s ∷ rest) = Taken s × AllTaken rest
-
 pub last-taken : (old : List ℕ) (news : List (List ℕ)) → Taken old → AllTaken news → Taken (lastScore old news)
 unfolding lastScore
-last-taken old [] a b = a
-last-taken old (new ∷ rest) a b = last-taken new rest (b .0) (b .1)
+last-taken old [] a c = a
+last-taken old (new ∷ rest) a c = last-taken new rest (c .0) (c .1)
 
-module _ (g : Settings) (ok : settingsOk g ≡ true) (w : T (fits binary64 (g .adsr .sustain))) (n : ℕ) (short : n ≤ 16777216) where
-  pub all-edits : (old : List ℕ) (news : List (List ℕ)) → Taken old → AllTaken news → (o : Outcome Answer) → Whole g old n o → Whole g (lastScore old news) n (editsFrom g old news o)
-  unfolding editsFrom lastScore
-  all-edits old [] a b o h = h
-  all-edits old (new ∷ rest) a b o h =
-      let x : Edit g old new = record { settings = ok; sustain-fits = w; old-taken = a; new-taken = b .0 } in
-      let e : Whole g new n (rerenderOf g old new (o .heard) (o .stored)) = rw (h .heard-is, h .stored-is) (one-edit g old new x n short .whole) in
-      all-edits new rest (b .0) (b .1) (rerenderOf g old new (o .heard) (o .stored)) e
+module _ (g : Settings) (ok : settingsOk g ≡ true) (w : T (fits binary64 (g .adsr .sustain))) (n : ℕ) (short : n ≤ most) (b : ℕ) where
+  pub record ManyEdits (old : List ℕ) (news : List (List ℕ)) (out : List Float) (shelf : List ℕ) (o : Outcome (List Answer)) : Type 0 where
+    pub answered : o .result ≡ allCounted g old news n
+    pub holds : Holds g (lastScore old news) n b (o .heard) (o .stored)
+    pub samples-stay : take (b * mark) (o .heard) ≡ take (b * mark) out
+    pub entries-stay : take (b * entryWords) (o .stored) ≡ take (b * entryWords) shelf
 
-  -- every call is done, with the samples of its plan
-  pub all-answers : (old : List ℕ) (news : List (List ℕ)) → Taken old → AllTaken news → (o : Outcome Answer) → Whole g old n o → answersFrom g old news o ≡ allCounted g old news n
-  unfolding answersFrom allCounted
-  all-answers old [] a b o h = refl
-  all-answers old (new ∷ rest) a b o h =
-      let x : Edit g old new = record { settings = ok; sustain-fits = w; old-taken = a; new-taken = b .0 } in
-      let r = one-edit g old new x n short in
-      let next = rerenderOf g old new (soundOf g old n) (shelvedOf g old n) in
-      rw (h .heard-is, h .stored-is)
-      (ap (λ (q : Answer). q ∷ answersFrom g new rest next) (r .counted)
-      ∙ ap (λ (l : List Answer). Done (countFor g old new (planOf old new n) n) ∷ l) (all-answers new rest (b .0) (b .1) next (r .whole)))
+  pub all-edits : (old : List ℕ) (news : List (List ℕ)) → Taken old → AllTaken news → NoneBefore b n old news → (out : List Float) (shelf : List ℕ) → Holds g old n b out shelf
+      → ManyEdits old news out shelf (editsFrom g old news out shelf)
+  unfolding editsFrom lastScore allCounted
+  all-edits old [] a c f out shelf h = record { answered = refl; holds = h; samples-stay = refl; entries-stay = refl }
+  all-edits old (new ∷ rest) a c f out shelf h =
+      let x : Edit g old new = record { settings = ok; sustain-fits = w; old-taken = a; new-taken = c .0 } in
+      let one = one-edit g old new x n short b (f .0) out shelf h in
+      let r = rerenderOf g old new out shelf in
+      let more = all-edits new rest (c .0) (c .1) (f .1) (r .heard) (r .stored) (one .holds) in
+      record {
+        answered = ap (λ (q : Answer). q ∷ editsFrom g new rest (r .heard) (r .stored) .result) (one .counted) ∙ ap (λ (l : List Answer). Done (countFor g old new (planOf old new n) n) ∷ l) (more .answered);
+        holds = more .holds;
+        samples-stay = more .samples-stay ∙ one .samples-stay;
+        entries-stay = more .entries-stay ∙ one .entries-stay;
+      }
 
-  -- the same in terms of renders: one of the first score, then the edits, and one of the last score, each of n samples
-  module _ (out out′ : List Float) (shelf shelf′ : List ℕ) (z : Lent out shelf) (z′ : Lent out′ shelf′) (long : length out ≡ n) (long′ : length out′ ≡ n) where
-    pub five-edits : (old : List ℕ) (news : List (List ℕ)) → Taken old → AllTaken news →
-        (editsFrom g old news (leaves (Done 0) (renderOf g old out shelf .heard) (renderOf g old out shelf .stored)) .heard ≡ renderOf g (lastScore old news) out′ shelf′ .heard)
-        × (editsFrom g old news (leaves (Done 0) (renderOf g old out shelf .heard) (renderOf g old out shelf .stored)) .stored ≡ renderOf g (lastScore old news) out′ shelf′ .stored)
-    five-edits old news a b =
-        let first = rendered g ok old a out shelf z in
-        let last = rendered g ok (lastScore old news) (last-taken old news a b) out′ shelf′ z′ in
-        let start : Whole g old n (leaves (Done 0) (renderOf g old out shelf .heard) (renderOf g old out shelf .stored)) =
-        record { heard-is = ap (λ (o : Rendering). o .heard) first ∙ ap (soundOf g old) long; stored-is = ap (λ (o : Rendering). o .stored) first ∙ ap (shelvedOf g old) long } in
-        let end = all-edits old news a b (leaves (Done 0) (renderOf g old out shelf .heard) (renderOf g old out shelf .stored)) start in (
-          end .heard-is ∙ sym (ap (λ (o : Rendering). o .heard) last ∙ ap (soundOf g (lastScore old news)) long′),
-          end .stored-is ∙ sym (ap (λ (o : Rendering). o .stored) last ∙ ap (shelvedOf g (lastScore old news)) long′),
-        )
+-- ---- the claim
+edited : (g : Settings) (old : List ℕ) (news : List (List ℕ)) (b : ℕ) (out : List Float) (shelf : List ℕ) → Editing g old news b out shelf → Edited g old news b out shelf (editsFrom g old news out shelf)
+edited g old news b out shelf e =
+    let n = length out in
+    let r = e .honest .buffers in
+    let h : Holds g old n b out shelf =
+    record {
+      long = refl;
+      fits = e .lent .fits;
+      sound = e .honest .samples ∙ ap (drop (b * mark)) (heard-is g (e .settings) old (e .old-taken) n r);
+      shelved = e .honest .entries ∙ ap (drop (b * entryWords)) (stored-is g (e .settings) old (e .old-taken) n r);
+    } in
+    let m = all-edits g (e .settings) (e .sustain-fits) n (e .lent .short) b old news (e .old-taken) (e .news-taken) (e .none-before) out shelf h in
+    let o = editsFrom g old news out shelf in
+    record {
+      answered = m .answered;
+      left = from-mark g (e .settings) (lastScore old news) (last-taken old news (e .old-taken) (e .news-taken)) b out shelf (o .heard) (o .stored) (m .holds .sound) (m .holds .shelved) (m .samples-stay) (m .entries-stay);
+    }
+
+-- at or after mark 0 is every edit
+none-before-0 : (n : ℕ) (old : List ℕ) (news : List (List ℕ)) → NoneBefore 0 n old news
+none-before-0 n old [] = tt
+none-before-0 n old (new ∷ rest) = ((λ p e l. omega arith), none-before-0 n new rest)
+
+five-edits : (g : Settings) → settingsOk g ≡ true → T (fits binary64 (g .adsr .sustain)) → (old : List ℕ) (news : List (List ℕ)) → Taken old → AllTaken news → (n : ℕ) (a : Buffers n)
+    → EditedWhole g old news n (editsFrom g old news (leftIn g old a .heard) (leftIn g old a .stored))
+five-edits g ok w old news one c n a =
+    let s = lastScore old news in
+    let heard = heard-is g ok old one n a in
+    let stored = stored-is g ok old one n a in
+    let h : Holds g old n 0 (leftIn g old a .heard) (leftIn g old a .stored) = record { long = ap length heard ∙ sound-length g old n; fits = ap length stored ∙ shelved-length g old n; sound = heard; shelved = stored } in
+    let short : n ≤ most = omega (arith, a .lent .short, a .long) in
+    let m = all-edits g ok w n short 0 old news one c (none-before-0 n old news) (leftIn g old a .heard) (leftIn g old a .stored) h in
+    let last = last-taken old news one c in
+    record { answered = m .answered; samples-are = λ b. m .holds .sound ∙ sym (heard-is g ok s last n b); entries-are = λ b. m .holds .shelved ∙ sym (stored-is g ok s last n b) }
+
+pub any-edits : AnyEdits
+any-edits = record { over-rubbish = edited; from-a-render = five-edits }

@@ -17,10 +17,11 @@ use Rattle.score.specs.Score.{markRight, kindRight, fieldsRight, inOrder, fault
 use Rattle.score.specs.Apart.{sameTo, firstFrom, differenceOf}
 use Rattle.shelf.specs.Shelf.{entryWords, wordsFor, entryOf}
 use Rattle.shelf.proofs.There.{entry-length}
+use Rattle.demands.specs.Demand3.{Edit, Lent}
 use Rattle.demands.proofs.ChainExamples.{plain, plain-ok, begins, begins-accepted}
 use Rattle.sections.specs.Outcome.{leaves}
 use Rattle.rerender.specs.Rerender.{entryAt, rerenderOf}
-use Rattle.demands.proofs.Demand3.{soundOf, shelvedOf, atMark, Edit, Lent, demand-3}
+use Rattle.demands.proofs.Demand3.{soundOf, shelvedOf, atMark, demand-3}
 
 -- the off at 5,000
 abbrev pub edited : List ℕ

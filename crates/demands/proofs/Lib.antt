@@ -13,5 +13,5 @@ pub mod Alone
 pub mod Demand3
 -- an edit that meets demand 3's premises, over rubbish
 pub mod Example
--- any number of edits, each re-rendered, leave what one render of the last score leaves
+-- any number of edits, each re-rendered, leave what one render of the last score leaves, from a mark on where they are honest from there on
 pub mod Edits

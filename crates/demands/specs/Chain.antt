@@ -1,11 +1,14 @@
--- A chain of continuing calls. 01, "Making sample n": "So a render continued from the fresh state at 0 over consecutive parts of one output buffer, cut anywhere, under the same settings and one score or one that grows only at
+-- A chain of continuing calls, as a claim. 01, "Making sample n": "So a render continued from the fresh state at 0 over consecutive parts of one output buffer, cut anywhere, under the same settings and one score or one that grows only at
 -- its end and is accepted each time, gives the samples and end state of one render of the last score"; "What a call says", 10: "the score's records below its position differ in number from those acted". So the premise is that
--- every call answers 0: a record that is added below the position already reached leaves the score accepted, and the call is 10. Definitions only.
+-- every call answers 0: a record that is added below the position already reached leaves the score accepted, and the call is 10. That each score is accepted is in the answers 0; when every call answers 0 is said beside it. The
+-- argument is in proofs/Chain.antt. Definitions only.
 use mathlib.Core.Path.{_≡_}
+use mathlib.Core.Bool.{true}
 use mathlib.Core.List.{List, [], _∷_, _++_}
 use Prim.Native.Nat.{ℕ, _+_, _≤_, _<_}
+use lib.Dec.{T}
 use lib.ListN.{length}
-use lib.Ieee.{Float}
+use lib.Ieee.{Float, binary64, fits}
 use Rattle.answers.specs.declared.Answer.{Answer}
 use Rattle.answers.specs.declared.Answer.the-variants.{Done}
 use Rattle.score.specs.declared.Verdict.the-variants.{Accepted}
@@ -13,7 +16,11 @@ use Rattle.score.specs.Record.{countOf, positionAt}
 use Rattle.score.specs.Score.{verdictOf}
 use Rattle.state.specs.declared.Settings.{Settings}
 use Rattle.state.specs.declared.State.{State}
-use Rattle.render.specs.Calls.{PartOutcome, continueOf}
+use Rattle.state.specs.Settings.{settingsOk}
+use Rattle.state.specs.State.{freshOf}
+use Rattle.shelf.specs.Shelf.{wordsFor}
+use Rattle.judging.specs.Judging.{most}
+use Rattle.render.specs.Calls.{PartOutcome, renderOf, continueOf}
 
 -- a call: its score, and the part of the output that it is lent
 pub record Step : Type 0 where
@@ -77,3 +84,23 @@ NoneBelow s t p = (i : ℕ) → countOf s ≤ i → i < countOf t → p ≤ posi
 abbrev pub NoneAddedBelow : List ℕ → ℕ → List Step → Type 0
 NoneAddedBelow s p [] = Unit
 NoneAddedBelow s p (x ∷ xs) = NoneBelow s (x .score) p × NoneAddedBelow (x .score) (p + length (x .part)) xs
+
+-- ---- what is promised, of a chain from the fresh state at 0
+-- what one render of the last score leaves, which is done
+pub record OneRender (g : Settings) (xs : List Step) (out : List Float) (shelf : List ℕ) : Type 0 where
+  pub done : renderOf g (lastOf [] xs) out shelf .result .answer ≡ Done (samplesOf xs)
+  pub heard : chainFrom g (freshOf 0) 0 xs .heard ≡ renderOf g (lastOf [] xs) out shelf .heard
+  pub state : chainFrom g (freshOf 0) 0 xs .state ≡ renderOf g (lastOf [] xs) out shelf .result .state
+
+-- every call answers 0 exactly when no record was added below the position already reached
+pub record DoneExactly (g : Settings) (xs : List Step) : Type 0 where
+  pub done-only-if : AllDone g (freshOf 0) 0 xs → NoneAddedBelow [] 0 xs
+  pub done-if : NoneAddedBelow [] 0 xs → AllDone g (freshOf 0) 0 xs
+
+-- ---- the claim
+pub record PartsAreOne : Type 0 where
+  -- of one call or more, in any output of that length and any shelf that fits it
+  pub one-render : (g : Settings) (x : Step) (xs : List Step) → Grows [] (x ∷ xs) → AllDone g (freshOf 0) 0 (x ∷ xs)
+      → (out : List Float) (shelf : List ℕ) → length out ≡ samplesOf (x ∷ xs) → length shelf ≡ wordsFor (length out) → OneRender g (x ∷ xs) out shelf
+  -- under settings in their domain, of which the sustain is a value of an f64, as owning it tells
+  pub done-exactly : (g : Settings) → settingsOk g ≡ true → T (fits binary64 (g .adsr .sustain)) → (xs : List Step) → AllAccepted xs → Grows [] xs → samplesOf xs ≤ most → DoneExactly g xs

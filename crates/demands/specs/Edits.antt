@@ -1,29 +1,84 @@
--- Edits one after the other. Why the voice exists: "A slowly falling pad had lost eleven percent of its level after its fifth edit". A score is rendered once, and then each next one is re-rendered, after the one before
--- it, into the same output and shelf. Definitions only.
+-- Edits one after the other, as a claim. 00-demands.md, why it exists: "A slowly falling pad had lost eleven percent of its level after its fifth edit"; "every edit started from a state some milliseconds past the cut". A score is
+-- rendered, and then each next one is re-rendered, after the one before it, into the same output and shelf. However many edits there are: every call is done with its count, and output and shelf are those of one render of the last
+-- score. That holds from a mark b on where they were honest from b on and no edit lies before b; what stands before b stays as it came. The argument is in proofs/Edits.antt. Definitions only.
+use mathlib.Core.Path.{_≡_}
+use mathlib.Core.Bool.{true}
 use mathlib.Core.List.{List, [], _∷_}
-use Prim.Native.Nat.{ℕ}
-use Rattle.sections.specs.Outcome.{Outcome}
+use Prim.Native.Nat.{ℕ, _*_, _≤_, _<_}
+use lib.Dec.{T}
+use lib.ListN.{length, drop}
+use lib.Ieee.{Float, binary64, fits}
+use Rattle.sections.specs.Outcome.{Outcome, leaves}
 use Rattle.answers.specs.declared.Answer.{Answer}
 use Rattle.answers.specs.declared.Answer.the-variants.{Done}
+use Rattle.score.specs.declared.Difference.the-variants.{At}
+use Rattle.score.specs.Apart.{differenceOf}
+use Rattle.shelf.specs.Shelf.{mark, entryWords}
 use Rattle.state.specs.declared.Settings.{Settings}
+use Rattle.state.specs.Settings.{settingsOk}
 use Rattle.rerender.specs.Rerender.{planOf, countFor, rerenderOf}
+use Rattle.demands.specs.Demand3.{Taken, Lent, Buffers, leftIn, FromMark}
 
--- from what stands in the output and the shelf, and the score that it was made of
-unfoldable pub editsFrom : Settings → List ℕ → List (List ℕ) → Outcome Answer → Outcome Answer
-editsFrom g old [] o = o
-editsFrom g old (new ∷ rest) o = editsFrom g new rest (rerenderOf g old new (o .heard) (o .stored))
+-- ---- the calls
+-- a call, and the rest after it: what each answered, and what the rest leaves in the same output and shelf
+abbrev pub andOver : {A : Type 0} → Outcome A → Outcome (List A) → Outcome (List A)
+andOver c rest = leaves (c .result ∷ rest .result) (rest .heard) (rest .stored)
+
+-- from what stands in the output and the shelf, and the score that they were made of, into each next score
+unfoldable pub editsFrom : Settings → List ℕ → List (List ℕ) → List Float → List ℕ → Outcome (List Answer)
+editsFrom g old [] out shelf = leaves [] out shelf
+editsFrom g old (new ∷ rest) out shelf = let c = rerenderOf g old new out shelf in andOver c (editsFrom g new rest (c .heard) (c .stored))
 
 -- the last score of all
 unfoldable pub lastScore : List ℕ → List (List ℕ) → List ℕ
 lastScore old [] = old
 lastScore old (new ∷ rest) = lastScore new rest
 
--- what each call answers
-unfoldable pub answersFrom : Settings → List ℕ → List (List ℕ) → Outcome Answer → List Answer
-answersFrom g old [] o = []
-answersFrom g old (new ∷ rest) o = let r = rerenderOf g old new (o .heard) (o .stored) in r .result ∷ answersFrom g new rest r
-
 -- each done, with the samples of its plan, in an output of n
 unfoldable pub allCounted : Settings → List ℕ → List (List ℕ) → ℕ → List Answer
 allCounted g old [] n = []
 allCounted g old (new ∷ rest) n = Done (countFor g old new (planOf old new n) n) ∷ allCounted g new rest n
+
+-- ---- what is asked
+-- every score is accepted
+abbrev pub AllTaken : List (List ℕ) → Type 0
+AllTaken [] = Unit
+AllTaken (s ∷ rest) = Taken s × AllTaken rest
+
+-- no edit that is heard in n samples changes a record before mark b
+abbrev pub NoneBefore : ℕ → ℕ → List ℕ → List (List ℕ) → Type 0
+NoneBefore b n old [] = Unit
+NoneBefore b n old (new ∷ rest) = ((p : ℕ) → differenceOf old new ≡ At p → p < n → b * mark ≤ p) × NoneBefore b n new rest
+
+-- from mark b on output and shelf hold what a render of s left there, with the same settings and length; before it anything at all
+pub record HonestFrom (g : Settings) (s : List ℕ) (b : ℕ) (out : List Float) (shelf : List ℕ) : Type 0 where
+  pub buffers : Buffers (length out)
+  pub samples : drop (b * mark) out ≡ drop (b * mark) (leftIn g s buffers .heard)
+  pub entries : drop (b * entryWords) shelf ≡ drop (b * entryWords) (leftIn g s buffers .stored)
+
+pub record Editing (g : Settings) (old : List ℕ) (news : List (List ℕ)) (b : ℕ) (out : List Float) (shelf : List ℕ) : Type 0 where
+  pub settings : settingsOk g ≡ true
+  pub sustain-fits : T (fits binary64 (g .adsr .sustain))
+  pub old-taken : Taken old
+  pub news-taken : AllTaken news
+  pub lent : Lent out shelf
+  pub honest : HonestFrom g old b out shelf
+  pub none-before : NoneBefore b (length out) old news
+
+-- ---- what is promised
+-- every call done with its count; from mark b on one render of the last score, before it what came
+pub record Edited (g : Settings) (old : List ℕ) (news : List (List ℕ)) (b : ℕ) (out : List Float) (shelf : List ℕ) (o : Outcome (List Answer)) : Type 0 where
+  pub answered : o .result ≡ allCounted g old news (length out)
+  pub left : FromMark g (lastScore old news) b out shelf (o .heard) (o .stored)
+
+-- after a render of the old score: the whole output and shelf of any render of the last score
+pub record EditedWhole (g : Settings) (old : List ℕ) (news : List (List ℕ)) (n : ℕ) (o : Outcome (List Answer)) : Type 0 where
+  pub answered : o .result ≡ allCounted g old news n
+  pub samples-are : (b : Buffers n) → o .heard ≡ leftIn g (lastScore old news) b .heard
+  pub entries-are : (b : Buffers n) → o .stored ≡ leftIn g (lastScore old news) b .stored
+
+-- ---- the claim
+pub record AnyEdits : Type 0 where
+  pub over-rubbish : (g : Settings) (old : List ℕ) (news : List (List ℕ)) (b : ℕ) (out : List Float) (shelf : List ℕ) → Editing g old news b out shelf → Edited g old news b out shelf (editsFrom g old news out shelf)
+  pub from-a-render : (g : Settings) → settingsOk g ≡ true → T (fits binary64 (g .adsr .sustain)) → (old : List ℕ) (news : List (List ℕ)) → Taken old → AllTaken news → (n : ℕ) (a : Buffers n)
+      → EditedWhole g old news n (editsFrom g old news (leftIn g old a .heard) (leftIn g old a .stored))

@@ -1,2 +1,3 @@
 pub mod Chain
+pub mod Demand3
 pub mod Edits

@@ -1,0 +1,82 @@
+-- Demand 3, as a claim. 00-demands.md: "A re-render of an accepted old score into an accepted new one starts at the last shelf mark at or before the first changed record. If that mark's entry is what a render of the old score left,
+-- with the same settings and length, every sample and entry from the mark on equals a render of the new score from sample zero. Those before it stay as they came, even if they hold rubbish. The count is the samples from the mark to
+-- the end. Where the scores are equal, or the first change lies at or past the end, nothing is written and the count is nought." 01, "What a call says": "Where count is 0 for equal scores or a late P, no entry is read and 8 is not
+-- given". The position of the first changed record is `differenceOf` of `score`'s specs/Apart.antt. The argument is in proofs/Demand3.antt. Definitions only.
+use mathlib.Core.Path.{_≡_}
+use mathlib.Core.Bool.{true}
+use mathlib.Core.List.{List}
+use Prim.Native.Nat.{ℕ, _-_, _*_, _/_, _≤_, _<_}
+use lib.Dec.{T}
+use lib.ListN.{length, take, drop}
+use lib.Ieee.{Float, binary64, fits}
+use Rattle.sections.specs.Outcome.{Outcome, leaves}
+use Rattle.answers.specs.declared.Answer.{Answer}
+use Rattle.answers.specs.declared.Answer.the-variants.{Done, Refused}
+use Rattle.answers.specs.declared.Refusal.the-variants.{StartEntry}
+use Rattle.score.specs.declared.Difference.the-variants.{At}
+use Rattle.score.specs.declared.Verdict.the-variants.{Accepted}
+use Rattle.score.specs.Score.{verdictOf}
+use Rattle.score.specs.Apart.{differenceOf}
+use Rattle.shelf.specs.Shelf.{mark, entryWords, wordsFor}
+use Rattle.state.specs.declared.Settings.{Settings}
+use Rattle.state.specs.Settings.{settingsOk}
+use Rattle.judging.specs.Judging.{most}
+use Rattle.render.specs.declared.Rendered.{Rendered}
+use Rattle.render.specs.Calls.{renderOf}
+use Rattle.rerender.specs.Rerender.{entryAt, rerenderOf}
+
+-- ---- what is asked
+-- an accepted score
+pub record Taken (s : List ℕ) : Type 0 where
+  pub records : ℕ
+  pub accepted : verdictOf s ≡ Accepted records
+
+-- two of them, under settings in their domain; that the sustain is a value of an f64 is what owning it tells
+pub record Edit (g : Settings) (old new : List ℕ) : Type 0 where
+  pub settings : settingsOk g ≡ true
+  pub sustain-fits : T (fits binary64 (g .adsr .sustain))
+  pub old-taken : Taken old
+  pub new-taken : Taken new
+
+-- an output and a shelf of sizes that go together, whatever they hold
+pub record Lent (out : List Float) (shelf : List ℕ) : Type 0 where
+  pub short : length out ≤ most
+  pub fits : length shelf ≡ wordsFor (length out)
+
+-- any such output and shelf, of n samples, that a render is lent
+pub record Buffers (n : ℕ) : Type 0 where
+  pub out : List Float
+  pub shelf : List ℕ
+  pub lent : Lent out shelf
+  pub long : length out ≡ n
+
+-- what a render of s from sample zero leaves in them
+abbrev pub leftIn : {n : ℕ} → Settings → List ℕ → Buffers n → Outcome Rendered
+leftIn g s b = renderOf g s (b .out) (b .shelf)
+
+-- ---- what is promised
+-- ys and ws are left in the place of out and shelf: from mark m on those of any render of s of as many samples, before it those that came
+pub record FromMark (g : Settings) (s : List ℕ) (m : ℕ) (out : List Float) (shelf : List ℕ) (ys : List Float) (ws : List ℕ) : Type 0 where
+  pub samples-are : (b : Buffers (length out)) → drop (m * mark) ys ≡ drop (m * mark) (leftIn g s b .heard)
+  pub entries-are : (b : Buffers (length out)) → drop (m * entryWords) ws ≡ drop (m * entryWords) (leftIn g s b .stored)
+  pub samples-stay : take (m * mark) ys ≡ take (m * mark) out
+  pub entries-stay : take (m * entryWords) ws ≡ take (m * entryWords) shelf
+
+-- a call that has started at mark m: done, with the samples from the mark to the end, and so not 8
+pub record Remade (g : Settings) (new : List ℕ) (m : ℕ) (out : List Float) (shelf : List ℕ) (o : Outcome Answer) : Type 0 where
+  pub counted : o .result ≡ Done (length out - m * mark)
+  pub never-8 : o .result ≡ Refused StartEntry → ⊥
+  pub left : FromMark g new m out shelf (o .heard) (o .stored)
+
+-- ---- the claim
+pub record Demand3 : Type 0 where
+  -- the first changed record is at p, before the end, and the entry at the last mark at or before p is what a render of the old score left there
+  pub re-rendered : (g : Settings) (old new : List ℕ) → Edit g old new → (out : List Float) (shelf : List ℕ) → Lent out shelf → (p : ℕ) → differenceOf old new ≡ At p → p < length out
+      → (b : Buffers (length out)) → entryAt shelf (p / mark) ≡ entryAt (leftIn g old b .stored) (p / mark) → Remade g new (p / mark) out shelf (rerenderOf g old new out shelf)
+  -- the scores are equal, whatever stands in the shelf
+  pub equal : (g : Settings) (s : List ℕ) → Edit g s s → (out : List Float) (shelf : List ℕ) → Lent out shelf → rerenderOf g s s out shelf ≡ leaves (Done 0) out shelf
+  -- the first change lies at or past the end, whatever stands in the shelf
+  pub late : (g : Settings) (old new : List ℕ) → Edit g old new → (out : List Float) (shelf : List ℕ) → Lent out shelf → (p : ℕ) → differenceOf old new ≡ At p → length out ≤ p
+      → rerenderOf g old new out shelf ≡ leaves (Done 0) out shelf
+  -- there is no other case: accepted scores that are not equal have a first changed record
+  pub changed : (old new : List ℕ) → Taken old → Taken new → (old ≡ new → ⊥) → (p : ℕ) × (differenceOf old new ≡ At p)
