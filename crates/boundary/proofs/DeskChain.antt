@@ -1,7 +1,4 @@
--- The theorem of the chain, of the calls that C makes. Cut an output anywhere into consecutive parts and gav_continue over them from the words that gav_fresh leaves, under the same settings, with a score that grows only at its
--- end: if the number in every word is 0, each call has counted its part, the parts hold the samples of one gav_render of the last score, and the words left last are those of its end state. The lemma beside it: where the settings
--- are in their domain, each score is accepted and the output is no longer than one may be, every number is 0 exactly when no record was added below the position already reached. The sustain setting is a value of an f64, which is
--- what owning it tells. Assumes nothing.
+-- The claim of specs/WordsChain.antt. The words tell what the chain on states leaves (proofs/Tells.antt), and that is one render (`demands`). Assumes nothing.
 use mathlib.Core.Path.{_≡_, refl, sym, ap, subst, _∙_}
 use mathlib.Core.Bool.{true}
 use mathlib.Core.List.{List, [], _∷_, map}
@@ -22,14 +19,14 @@ use Rattle.state.specs.State.{freshOf}
 use Rattle.judging.specs.Judging.{most}
 use Rattle.judging.proofs.Refusals.{roomy}
 use Rattle.render.specs.Calls.{renderOf}
-use Rattle.demands.specs.Chain.{Step, samplesOf, lastOf, doneAll, Grows, AllAccepted, NoneAddedBelow}
+use Rattle.demands.specs.Chain.{Step, samplesOf, lastOf, doneAll, Grows, AllAccepted}
 use Rattle.demands.proofs.Honest.{render-passed}
 use Rattle.demands.proofs.Chain.{chain, chain-done}
 use Rattle.desk.specs.declared.Choice.{Choice}
 use Rattle.desk.specs.declared.Choice.the-variants.{Known}
 use Rattle.desk.specs.Packed.{packedOf}
 use Rattle.desk.specs.Desk.{Continued, Asked, choiceOf, renderFor, continueFor, freshFor}
-use Rattle.boundary.specs.WordsChain.{wordsChainFrom, endWords, AllZero}
+use Rattle.boundary.specs.WordsChain.{wordsChainFrom, wordsChain, AllZero, OneDeskRender, ZeroExactly, WordsPartsAreOne}
 use Rattle.boundary.proofs.Zero.{refused-not-zero, zero-done, done-zero}
 use Rattle.boundary.proofs.Codes.{IsKnown, is-known, sustain-fits}
 use Rattle.boundary.proofs.Tells.{zero-all, tells, stands-fresh}
@@ -44,17 +41,9 @@ done-zeros [] = tt
 done-zeros (x ∷ xs) = (done-zero (length (x .part)), done-zeros xs)
 
 -- ---- the theorem
--- each call counts its part, and together they leave what one render of the last score leaves, which is done
-pub record OneDeskRender (a : Asked) (xs : List Step) (out : List Float) (shelf : List ℕ) (o : Continued (List ℕ)) : Type 0 where
-  pub result : o .result ≡ map packedOf (doneAll xs)
-  pub done : renderFor (choiceOf a) (lastOf [] xs) out shelf .result ≡ packedOf (Done (samplesOf xs))
-  pub heard : o .heard ≡ renderFor (choiceOf a) (lastOf [] xs) out shelf .heard
-  pub words : o .words ≡ endWords (choiceOf a) (lastOf [] xs) out shelf
-
 module _ (a : Asked) (sus : T (fits binary64 (a .sustain))) (room : List ℕ) (twelve : length room ≡ entryWords) where
-  -- the calls of a chain, from what gav_fresh leaves
-  abbrev pub calls : List Step → Continued (List ℕ)
-  calls xs = wordsChainFrom a (freshFor room .left) 0 xs
+  abbrev calls : List Step → Continued (List ℕ)
+  calls xs = wordsChain a room xs
 
   from-fresh : (xs : List Step) → calls xs ≡ wordsChainFrom a (entryOf (freshOf 0)) 0 xs
   from-fresh xs = ap (λ (ws : List ℕ). wordsChainFrom a ws 0 xs) (fresh-left room twelve)
@@ -85,12 +74,7 @@ module _ (a : Asked) (sus : T (fits binary64 (a .sustain))) (room : List ℕ) (t
       })
 
   -- ---- the lemma
-  -- every number is 0 exactly when no record was added below the position already reached
-  pub record ZeroExactly (xs : List Step) : Type 0 where
-    pub zero-only-if : AllZero (calls xs .result) → NoneAddedBelow [] 0 xs
-    pub zero-if : NoneAddedBelow [] 0 xs → AllZero (calls xs .result)
-
-  pub desk-chain-done : (g : Settings) → choiceOf a ≡ Known g → settingsOk g ≡ true → (xs : List Step) → AllAccepted xs → Grows [] xs → samplesOf xs ≤ most → ZeroExactly xs
+  pub desk-chain-done : (g : Settings) → choiceOf a ≡ Known g → settingsOk g ≡ true → (xs : List Step) → AllAccepted xs → Grows [] xs → samplesOf xs ≤ most → ZeroExactly a room xs
   desk-chain-done g is ok xs b grow l =
       let fit = sustain-fits a sus g is in
       let h = stands-fresh a g is fit in
@@ -101,7 +85,6 @@ module _ (a : Asked) (sus : T (fits binary64 (a .sustain))) (room : List ℕ) (t
       }
 
   -- ---- one call
-  -- gav_render tells no end state: the words left last are those that one gav_continue of the last score over the whole output leaves
   pub one-call : (x : Step) (xs : List Step) → Grows [] (x ∷ xs) → AllZero (calls (x ∷ xs) .result) → (out : List Float) → length out ≡ samplesOf (x ∷ xs)
       → calls (x ∷ xs) .words ≡ continueFor (choiceOf a) (lastOf [] (x ∷ xs)) (freshFor room .left) 0 out .words
   unfolding wordsChainFrom
@@ -121,3 +104,7 @@ module _ (a : Asked) (sus : T (fits binary64 (a .sustain))) (room : List ℕ) (t
       let grows : Grows [] (whole ∷ []) = (record { added = s; grown = refl }, tt) in
       let zeros = desk-chain-done g (q .known) (p .settings) (whole ∷ []) ((countOf s, p .accepted), tt) grows (omega arith) .zero-if ((λ i a b. omega arith), tt) in
       many .words ∙ sym (desk-chain whole [] grows zeros out shelf (omega arith) fit .words)
+
+-- ---- the claim
+pub words-parts-are-one : WordsPartsAreOne
+words-parts-are-one = record { one-render = desk-chain; one-call = one-call; zero-exactly = desk-chain-done }

@@ -1,40 +1,48 @@
--- Any number of edits that lose nothing, of the calls that C makes. After one gav_render, and then any edits of the score, each re-rendered by gav_rerender into the same output and shelf: if the number in every word is 0, each
--- call has counted the samples of its plan, and output and shelf hold what one gav_render of the last score leaves. The lemma beside it: every number is 0 where the settings are in their domain, the sizes go together and the scores
--- are accepted. The sustain setting is a value of an f64, which is what owning it tells. Assumes nothing.
+-- The claim of specs/WordsEdits.antt: the edits in words are the edits of `demands`, each answer packed; number 0 in every word tells that the settings are known and in their domain and every score accepted. Assumes nothing.
 use mathlib.Core.Path.{_≡_, refl, sym, ap, subst, _∙_}
 use mathlib.Core.Bool.{true}
 use mathlib.Core.List.{List, [], _∷_, map}
-use Prim.Native.Nat.{ℕ}
+use Prim.Native.Nat.{ℕ, _*_}
 use lib.Dec.{T}
-use lib.ListN.{length}
+use lib.ListN.{length, drop}
 use lib.Ieee.{Float, binary64, fits}
 use Rattle.sections.specs.Outcome.{Outcome, leaves}
 use Rattle.render.specs.declared.Rendered.{Rendered}
 use Rattle.answers.specs.declared.Answer.{Answer}
 use Rattle.answers.specs.declared.Answer.the-variants.{Done}
-use Rattle.answers.specs.declared.Refusal.the-variants.{Setting}
 use Rattle.answers.proofs.Order.{none-both}
 use Rattle.score.specs.Record.{countOf}
-use Rattle.shelf.specs.Shelf.{wordsFor}
+use Rattle.shelf.specs.Shelf.{mark, entryWords, wordsFor}
 use Rattle.state.specs.declared.Settings.{Settings}
 use Rattle.state.specs.Settings.{settingsOk}
-use Rattle.judging.proofs.Refusals.{roomy}
 use Rattle.render.specs.Calls.{renderOf}
 use Rattle.rerender.specs.Rerender.{planOf, countFor, startRefusals, rerenderOf}
 use Rattle.rerender.proofs.Cases.{checks, all-checked, rerender-decided}
-use Rattle.demands.specs.Edits.{editsFrom, lastScore, answersFrom, allCounted}
-use Rattle.demands.proofs.Honest.{render-passed}
-use Rattle.demands.proofs.Demand3.{soundOf, shelvedOf, Taken, Lent, rendered}
-use Rattle.demands.proofs.Edits.{Whole, AllTaken, last-taken, all-edits, all-answers}
+use Rattle.demands.specs.Demand3.{Taken, Lent, Buffers}
+use Rattle.demands.specs.Edits.{andOver, editsFrom, lastScore, allCounted, AllTaken, Editing}
+use Rattle.demands.proofs.Demand3.{rendered}
+use Rattle.demands.proofs.Edits.{last-taken, any-edits}
 use Rattle.desk.specs.declared.Choice.{Choice}
 use Rattle.desk.specs.declared.Choice.the-variants.{Known}
 use Rattle.desk.specs.Packed.{packedOf}
 use Rattle.desk.specs.Desk as desk
 use Rattle.desk.specs.Desk.{Asked, choiceOf, renderFor, rerendered}
 use Rattle.boundary.specs.WordsChain.{AllZero}
-use Rattle.boundary.specs.WordsEdits.{andOver, wordsEditsFrom, wordsEdits}
-use Rattle.boundary.proofs.Zero.{refused-not-zero, zero-done, done-zero}
-use Rattle.boundary.proofs.Codes.{IsKnown, is-known, sustain-fits}
+use Rattle.boundary.specs.WordsEdits.{wordsEditsFrom, wordsEdits, DeskEditing, DeskEdited, LastDeskRender, WordsAnyEdits}
+use Rattle.boundary.proofs.Zero.{zero-done, done-zero}
+use Rattle.boundary.proofs.Codes.{sustain-fits}
+use Rattle.boundary.proofs.DeskDemand3.{zero-good, desk-heard, desk-stored, desk-from}
+
+-- ---- the edits of `demands`, each answer packed
+abbrev packedAll : Outcome (List Answer) → Outcome (List ℕ)
+packedAll o = leaves (map packedOf (o .result)) (o .heard) (o .stored)
+
+edits-are : (a : Asked) (g : Settings) → choiceOf a ≡ Known g → (news : List (List ℕ)) (old : List ℕ) (out : List Float) (shelf : List ℕ) → wordsEditsFrom a old news out shelf ≡ packedAll (editsFrom g old news out shelf)
+unfolding wordsEditsFrom editsFrom
+edits-are a g is [] old out shelf = refl
+edits-are a g is (new ∷ rest) old out shelf =
+    let r = rerenderOf g old new out shelf in
+    rw is (ap (andOver (rerendered r)) (edits-are a g is rest new (r .heard) (r .stored)))
 
 -- a re-render that is done had a new score that is accepted
 done-taken : (g : Settings) (old new : List ℕ) (out : List Float) (shelf : List ℕ) (n : ℕ) → rerenderOf g old new out shelf .result ≡ Done n → Taken new
@@ -43,100 +51,105 @@ done-taken g old new out shelf n d =
     let c = all-checked g old new (length out) (length shelf) (none-both (checks g old new (length out) (length shelf)) (startRefusals new (planOf old new (length out)) shelf) none .0) in
     record { records = countOf new; accepted = c .new-accepted }
 
-zero-taken : (g : Settings) (news : List (List ℕ)) (old : List ℕ) (o : Outcome Answer) → AllZero (map packedOf (answersFrom g old news o)) → AllTaken news
-unfolding answersFrom
-zero-taken g [] old o z = tt
-zero-taken g (new ∷ rest) old o z =
-    let r = rerenderOf g old new (o .heard) (o .stored) in
+zero-taken : (g : Settings) (news : List (List ℕ)) (old : List ℕ) (out : List Float) (shelf : List ℕ) → AllZero (map packedOf (editsFrom g old news out shelf .result)) → AllTaken news
+unfolding editsFrom
+zero-taken g [] old out shelf z = tt
+zero-taken g (new ∷ rest) old out shelf z =
+    let r = rerenderOf g old new out shelf in
     let d = zero-done (r .result) (z .0) in
-    (done-taken g old new (o .heard) (o .stored) (d .0) (d .1), zero-taken g rest new r (z .1))
+    (done-taken g old new out shelf (d .0) (d .1), zero-taken g rest new (r .heard) (r .stored) (z .1))
 
--- what the edits of `demands` leave, each answer packed
-abbrev packedEdits : Settings → List ℕ → List (List ℕ) → Outcome Answer → Outcome (List ℕ)
-packedEdits g old news o = leaves (map packedOf (answersFrom g old news o)) (editsFrom g old news o .heard) (editsFrom g old news o .stored)
-
--- is what the calls leave
-edits-are : (a : Asked) (g : Settings) → choiceOf a ≡ Known g → (news : List (List ℕ)) (old : List ℕ) (o : Outcome Answer) → wordsEditsFrom a old news (o .heard) (o .stored) ≡ packedEdits g old news o
-unfolding wordsEditsFrom editsFrom answersFrom
-edits-are a g is [] old o = refl
-edits-are a g is (new ∷ rest) old o =
-    let r = rerenderOf g old new (o .heard) (o .stored) in
-    rw is (ap (andOver (rerendered r)) (edits-are a g is rest new r))
+words-taken : (a : Asked) (g : Settings) → choiceOf a ≡ Known g → (news : List (List ℕ)) (old : List ℕ) (out : List Float) (shelf : List ℕ) → AllZero (wordsEditsFrom a old news out shelf .result) → AllTaken news
+words-taken a g is news old out shelf z = zero-taken g news old out shelf (subst (λ (o : Outcome (List ℕ)). AllZero (o .result)) (edits-are a g is news old out shelf) z)
 
 counted-zeros : (g : Settings) (n : ℕ) (news : List (List ℕ)) (old : List ℕ) → AllZero (map packedOf (allCounted g old news n))
 unfolding allCounted
 counted-zeros g n [] old = tt
 counted-zeros g n (new ∷ rest) old = (done-zero (countFor g old new (planOf old new n) n), counted-zeros g n rest new)
 
--- ---- the theorem
--- each call counts the samples of its plan, of n, and together they leave what one render of the last score leaves, which is done
-pub record LastDeskRender (a : Asked) (first : List ℕ) (news : List (List ℕ)) (n : ℕ) (out : List Float) (shelf : List ℕ) (o : Outcome (List ℕ)) : Type 0 where
-  pub settings : Settings
-  pub known : choiceOf a ≡ Known settings
-  pub result : o .result ≡ packedOf (Done n) ∷ map packedOf (allCounted settings first news n)
-  pub done : renderFor (choiceOf a) (lastScore first news) out shelf .result ≡ packedOf (Done n)
-  pub heard : o .heard ≡ renderFor (choiceOf a) (lastScore first news) out shelf .heard
-  pub stored : o .stored ≡ renderFor (choiceOf a) (lastScore first news) out shelf .stored
+-- ---- over rubbish
+module _ (a : Asked) (old : List ℕ) (news : List (List ℕ)) (b : ℕ) (out : List Float) (shelf : List ℕ) (e : DeskEditing a old news b out shelf) where
+  abbrev calls : Outcome (List ℕ)
+  calls = wordsEditsFrom a old news out shelf
 
+  edited : AllTaken news → DeskEdited a old news b out shelf calls
+  edited c =
+      let r = e .honest .buffers in
+      let q = zero-good a old (r .out) (r .shelf) (e .zero) in
+      let g = q .settings in
+      let is = q .known in
+      let h : Editing g old news b out shelf =
+      record {
+        settings = q .in-domain;
+        sustain-fits = sustain-fits a (e .sustain-fits) g is;
+        old-taken = q .taken;
+        news-taken = c;
+        lent = e .lent;
+        honest = record {
+          buffers = r;
+          samples = e .honest .samples ∙ ap (drop (b * mark)) (desk-heard a g is old r);
+          entries = e .honest .entries ∙ ap (drop (b * entryWords)) (desk-stored a g is old r);
+        };
+        none-before = e .none-before;
+      } in
+      let d = any-edits .over-rubbish g old news b out shelf h in
+      let o = editsFrom g old news out shelf in
+      rw (edits-are a g is news old out shelf)
+      (record { settings = g; known = is; result = ap (map packedOf) (d .answered); left = desk-from a g is (lastScore old news) b out shelf (o .heard) (o .stored) (d .left) })
+
+  zeros : AllTaken news → AllZero (calls .result)
+  zeros c = let d = edited c in subst AllZero (sym (d .result)) (counted-zeros (d .settings) (length out) news old)
+
+  edited-zero : AllZero (calls .result) → DeskEdited a old news b out shelf calls
+  edited-zero z =
+      let r = e .honest .buffers in
+      let q = zero-good a old (r .out) (r .shelf) (e .zero) in
+      edited (words-taken a (q .settings) (q .known) news old out shelf z)
+
+-- ---- after a gav_render
 module _ (a : Asked) (sus : T (fits binary64 (a .sustain))) (first : List ℕ) (news : List (List ℕ)) (out : List Float) (shelf : List ℕ) where
-  abbrev pub edits : Outcome (List ℕ)
+  abbrev edits : Outcome (List ℕ)
   edits = wordsEdits a first news out shelf
 
   abbrev n : ℕ
   n = length out
 
-  -- what the edits begin with
-  abbrev begun : Settings → Outcome Answer
-  begun g = leaves (Done 0) (renderOf g first out shelf .heard) (renderOf g first out shelf .stored)
+  module _ (g : Settings) (is : choiceOf a ≡ Known g) (ok : settingsOk g ≡ true) (fit : Lent out shelf) (one : Taken first) (c : AllTaken news) where
+    abbrev begun : Outcome Rendered
+    begun = renderOf g first out shelf
 
-  all-packed : (g : Settings) → choiceOf a ≡ Known g → edits ≡ andOver (desk.rendered (renderOf g first out shelf)) (packedEdits g first news (begun g))
-  all-packed g is = rw is (ap (andOver (desk.rendered (renderOf g first out shelf))) (edits-are a g is news first (begun g)))
-
-  -- where the settings, the sizes and the scores are good
-  module _ (g : Settings) (is : choiceOf a ≡ Known g) (ok : settingsOk g ≡ true) (fit : Lent out shelf) (one : Taken first) (b : AllTaken news) where
-    own : T (fits binary64 (g .adsr .sustain))
-    own = sustain-fits a sus g is
-
-    whole : Whole g first n (begun g)
-    whole = let r = rendered g ok first one out shelf fit in record { heard-is = ap (λ (o : Outcome Rendered). o .heard) r; stored-is = ap (λ (o : Outcome Rendered). o .stored) r }
-
-    counted : edits .result ≡ packedOf (Done n) ∷ map packedOf (allCounted g first news n)
-    counted =
-        ap (λ (o : Outcome (List ℕ)). o .result) (all-packed g is)
-        ∙ ap (λ (o : Outcome Rendered). packedOf (o .result .answer) ∷ map packedOf (answersFrom g first news (begun g))) (rendered g ok first one out shelf fit)
-        ∙ ap (λ (l : List Answer). packedOf (Done n) ∷ map packedOf l) (all-answers g ok own n (fit .short) first news one b (begun g) whole)
+    all-packed : edits ≡ andOver (desk.rendered begun) (packedAll (editsFrom g first news (begun .heard) (begun .stored)))
+    all-packed = rw is (ap (andOver (desk.rendered begun)) (edits-are a g is news first (begun .heard) (begun .stored)))
 
     left : (out′ : List Float) (shelf′ : List ℕ) → length out′ ≡ n → length shelf′ ≡ length shelf → LastDeskRender a first news n out′ shelf′ edits
     left out′ shelf′ e l =
         let s = lastScore first news in
-        let f = all-packed g is in
-        let end = all-edits g ok own n (fit .short) first news one b (begun g) whole in
+        let own = sustain-fits a sus g is in
+        let d = any-edits .from-a-render g ok own first news one c n (record { out = out; shelf = shelf; lent = fit; long = refl }) in
         let fit′ : Lent out′ shelf′ = record { short = rw e (fit .short); fits = l ∙ fit .fits ∙ ap wordsFor (sym e) } in
-        let last = ap (λ (c : Choice). renderFor c s out′ shelf′) is ∙ ap desk.rendered (rendered g ok s (last-taken first news one b) out′ shelf′ fit′) in
+        let b : Buffers n = record { out = out′; shelf = shelf′; lent = fit′; long = e } in
+        let last = ap (λ (x : Choice). renderFor x s out′ shelf′) is ∙ ap desk.rendered (rendered g ok s (last-taken first news one c) out′ shelf′ fit′) in
         record {
           settings = g;
           known = is;
-          result = counted;
+          result =
+              ap (λ (o : Outcome (List ℕ)). o .result) all-packed
+              ∙ ap (λ (o : Outcome Rendered). packedOf (o .result .answer) ∷ map packedOf (editsFrom g first news (begun .heard) (begun .stored) .result)) (rendered g ok first one out shelf fit)
+              ∙ ap (λ (q : List Answer). packedOf (Done n) ∷ map packedOf q) (d .answered);
           done = ap (λ (o : Outcome ℕ). o .result) last ∙ ap (λ (i : ℕ). packedOf (Done i)) e;
-          heard = ap (λ (o : Outcome (List ℕ)). o .heard) f ∙ end .heard-is ∙ ap (soundOf g s) (sym e) ∙ sym (ap (λ (o : Outcome ℕ). o .heard) last);
-          stored = ap (λ (o : Outcome (List ℕ)). o .stored) f ∙ end .stored-is ∙ ap (shelvedOf g s) (sym e) ∙ sym (ap (λ (o : Outcome ℕ). o .stored) last);
+          heard = ap (λ (o : Outcome (List ℕ)). o .heard) all-packed ∙ d .samples-are b ∙ sym (desk-heard a g is s b);
+          stored = ap (λ (o : Outcome (List ℕ)). o .stored) all-packed ∙ d .entries-are b ∙ sym (desk-stored a g is s b);
         }
 
-  -- unknown settings are refused at once
-  settings-known : AllZero (edits .result) → IsKnown a
-  settings-known z = is-known a (λ e. refused-not-zero Setting (rw e at (z .0)))
-
   pub desk-edits : AllZero (edits .result) → (out′ : List Float) (shelf′ : List ℕ) → length out′ ≡ length out → length shelf′ ≡ length shelf → LastDeskRender a first news (length out) out′ shelf′ edits
-  desk-edits z out′ shelf′ e l =
-      let q = settings-known z in
-      let g = q .settings in
-      let is = q .known in
-      let y = subst (λ (o : Outcome (List ℕ)). AllZero (o .result)) (all-packed g is) z in
-      let d = zero-done (renderOf g first out shelf .result .answer) (y .0) in
-      let p = render-passed g first out shelf (d .0) (d .1) in
-      let r = roomy n (length shelf) (p .sized) in
-      left g is (p .settings) (record { short = r .short; fits = r .fits }) (record { records = countOf first; accepted = p .accepted }) (zero-taken g news first (begun g) (y .1)) out′ shelf′ e l
+  desk-edits z =
+      let q = zero-good a first out shelf (z .0) in
+      let c = renderFor (choiceOf a) first out shelf in
+      left (q .settings) (q .known) (q .in-domain) (q .lent) (q .taken) (words-taken a (q .settings) (q .known) news first (c .heard) (c .stored) (z .1))
 
-  -- ---- the lemma: under settings in their domain, for an output and a shelf of sizes that go together and accepted scores, every number is 0
   pub desk-edits-done : (g : Settings) → choiceOf a ≡ Known g → settingsOk g ≡ true → Lent out shelf → Taken first → AllTaken news → AllZero (edits .result)
-  desk-edits-done g is ok fit one b = subst AllZero (sym (counted g is ok fit one b)) (done-zero n, counted-zeros g n news first)
+  desk-edits-done g is ok fit one c = let d = left g is ok fit one c out shelf refl refl in subst AllZero (sym (d .result)) (done-zero n, counted-zeros (d .settings) n news first)
+
+-- ---- the claim
+pub words-any-edits : WordsAnyEdits
+words-any-edits = record { over-rubbish = edited-zero; over-rubbish-zero = zeros; from-a-render = desk-edits; from-a-render-zero = desk-edits-done }

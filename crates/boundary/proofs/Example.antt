@@ -13,13 +13,13 @@ use Rattle.sections.specs.Outcome.{Outcome}
 use Rattle.shelf.specs.Shelf.{entryWords}
 use Rattle.floats.specs.Double.{half}
 use Rattle.demands.proofs.ChainExamples.{plain, plain-ok, begins, begins-accepted, endsAt, played, on-time}
-use Rattle.demands.proofs.Demand3.{Taken}
+use Rattle.demands.specs.Demand3.{Taken}
 use Rattle.desk.specs.declared.Choice.the-variants.{Known}
-use Rattle.desk.specs.Desk.{Continued, Asked, asks, shapeOf, choiceOf, freshFor}
-use Rattle.boundary.specs.WordsChain.{wordsChainFrom, AllZero}
-use Rattle.boundary.specs.WordsEdits.{wordsEdits}
-use Rattle.boundary.proofs.DeskChain.{OneDeskRender, desk-chain, desk-chain-done}
-use Rattle.boundary.proofs.DeskEdits.{LastDeskRender, desk-edits, desk-edits-done}
+use Rattle.desk.specs.Desk.{Continued, Asked, asks, shapeOf, choiceOf}
+use Rattle.boundary.specs.WordsChain.{wordsChain, AllZero, OneDeskRender}
+use Rattle.boundary.specs.WordsEdits.{wordsEdits, LastDeskRender}
+use Rattle.boundary.proofs.DeskChain.{desk-chain, desk-chain-done}
+use Rattle.boundary.proofs.DeskEdits.{desk-edits, desk-edits-done}
 
 -- code 1 is a square wave, which reads no duty
 abbrev pub square : Asked
@@ -35,7 +35,7 @@ abbrev pub rubbish : List ℕ
 rubbish = replicate entryWords 7
 
 abbrev pub played-in-words : Continued (List ℕ)
-played-in-words = wordsChainFrom square (freshFor rubbish .left) 0 (played 100)
+played-in-words = wordsChain square rubbish (played 100)
 
 pub record OnTimeInWords : Type 0 where
   pub zeros : AllZero (played-in-words .result)

@@ -9,6 +9,8 @@ pub mod Call
 pub mod Tells
 -- parts continued in words one after the other are one render
 pub mod DeskChain
+-- demand 3: from the mark on, gav_rerender is gav_render of the new score
+pub mod DeskDemand3
 -- any number of edits leave what one render of the last score leaves
 pub mod DeskEdits
 -- a chain and edits that meet the premises

@@ -1,2 +1,3 @@
 pub mod WordsChain
+pub mod WordsDemand3
 pub mod WordsEdits

@@ -6,19 +6,15 @@ use Prim.Native.Nat.{ℕ, _+_, _-_, _*_, _/_, _≤_, _<_}
 use native.Mathlib.Nat.{zero-add}
 use native.Mathlib.Omega.{arith}
 use borrow.Author.Tests.{le-leb, eq-eqb}
-use lib.Dec.{T}
 use lib.ListN.{length, take, drop}
 use lib.Seq.{drop-append-seam}
-use lib.Ieee.{Float, binary64, fits}
+use lib.Ieee.{Float}
 use Rattle.sections.specs.Outcome.{Outcome, leaves}
 use Rattle.render.specs.declared.Rendered.{Rendered}
 use Rattle.answers.specs.declared.Answer.{Answer}
 use Rattle.answers.specs.declared.Answer.the-variants.{Done, Refused}
 use Rattle.answers.specs.declared.Refusal.the-variants.{StartEntry}
-use Rattle.score.specs.declared.Difference.{Difference}
-use Rattle.score.specs.declared.Difference.the-variants.{Equal, At}
-use Rattle.score.specs.declared.Verdict.the-variants.{Accepted}
-use Rattle.score.specs.Score.{verdictOf}
+use Rattle.score.specs.declared.Difference.the-variants.{At}
 use Rattle.score.specs.Below.{countBelow}
 use Rattle.score.specs.Apart.{differenceOf}
 use Rattle.score.proofs.Agree.{equal-exactly}
@@ -41,6 +37,7 @@ use Rattle.judging.specs.Judging.{most, isRoom}
 use Rattle.judging.proofs.Refusals.{none-refused, none-newly}
 use Rattle.render.specs.Calls.{says, renderOf}
 use Rattle.demands.specs.Demand3.{Taken, Edit, Lent, Buffers, leftIn, FromMark, Remade, Demand3}
+use Rattle.demands.proofs.First.{first-change, differ}
 use Rattle.demands.proofs.Honest.{honest}
 use Rattle.demands.proofs.Alone.{front, back}
 use Rattle.rerender.specs.declared.Plan.the-variants.{Nothing}
@@ -186,7 +183,7 @@ module _ (g : Settings) (ok : settingsOk g ≡ true) (s : List ℕ) (a : Taken s
 -- so what is left before mark m and made from it on are those of any render
 pub from-mark : (g : Settings) → settingsOk g ≡ true → (s : List ℕ) → Taken s → (m : ℕ) (out : List Float) (shelf : List ℕ) (ys : List Float) (ws : List ℕ)
     → drop (m * mark) ys ≡ drop (m * mark) (soundOf g s (length out)) → drop (m * entryWords) ws ≡ drop (m * entryWords) (shelvedOf g s (length out))
-    → take (m * mark) ys ≡ take (m * mark) out → take (m * entryWords) ws ≡ take (m * entryWords) shelf → FromMark g s m out shelf ys ws
+    → take (m * mark) ys ≡ take (m * mark) out → take (m * entryWords) ws ≡ take (m * entryWords) shelf → FromMark out shelf (leftIn g s) m ys ws
 from-mark g ok s a m out shelf ys ws h k h′ k′ =
     record {
       samples-are = λ b. h ∙ sym (ap (drop (m * mark)) (heard-is g ok s a (length out) b));
@@ -217,12 +214,5 @@ remade g old new x out shelf z p e heard b left =
           (ap (λ (o : Outcome Answer). take (m * entryWords) (o .stored)) d ∙ front (m * entryWords) shelf ws in-shelf);
     }
 
-differ : (old new : List ℕ) → Taken old → Taken new → (old ≡ new → ⊥) → (p : ℕ) × (differenceOf old new ≡ At p)
-differ old new a b apart = go (differenceOf old new) refl
-  where
-    go : (d : Difference) → differenceOf old new ≡ d → (p : ℕ) × (differenceOf old new ≡ At p)
-    go Equal e = absurd (apart (equal-exactly old new (a .records) (b .records) (a .accepted) (b .accepted) .no-other e))
-    go (At p) e = (p, e)
-
 pub demand-3-holds : Demand3
-demand-3-holds = record { re-rendered = remade; equal = λ g s x out shelf z. nothing-equal g s s x out shelf z refl; late = nothing-late; changed = differ }
+demand-3-holds = record { re-rendered = remade; equal = λ g s x out shelf z. nothing-equal g s s x out shelf z refl; late = nothing-late; parted = differ; first-change = first-change }

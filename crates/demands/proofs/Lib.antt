@@ -9,6 +9,8 @@ pub mod Chain
 pub mod ChainExamples
 -- what stays as it came, and what a re-render's outcome depends on alone
 pub mod Alone
+-- where two scores part is the first changed record
+pub mod First
 -- demand 3: from the mark on, a re-render is a render of the new score
 pub mod Demand3
 -- an edit that meets demand 3's premises, over rubbish

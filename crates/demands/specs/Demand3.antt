@@ -1,11 +1,11 @@
 -- Demand 3, as a claim. 00-demands.md: "A re-render of an accepted old score into an accepted new one starts at the last shelf mark at or before the first changed record. If that mark's entry is what a render of the old score left,
 -- with the same settings and length, every sample and entry from the mark on equals a render of the new score from sample zero. Those before it stay as they came, even if they hold rubbish. The count is the samples from the mark to
 -- the end. Where the scores are equal, or the first change lies at or past the end, nothing is written and the count is nought." 01, "What a call says": "Where count is 0 for equal scores or a late P, no entry is read and 8 is not
--- given". The position of the first changed record is `differenceOf` of `score`'s specs/Apart.antt. The argument is in proofs/Demand3.antt. Definitions only.
+-- given". The argument is in proofs/Demand3.antt, that of its last two fields in proofs/First.antt. Definitions only.
 use mathlib.Core.Path.{_≡_}
 use mathlib.Core.Bool.{true}
 use mathlib.Core.List.{List}
-use Prim.Native.Nat.{ℕ, _-_, _*_, _/_, _≤_, _<_}
+use Prim.Native.Nat.{ℕ, suc, _-_, _*_, _/_, _≤_, _<_}
 use lib.Dec.{T}
 use lib.ListN.{length, take, drop}
 use lib.Ieee.{Float, binary64, fits}
@@ -16,6 +16,7 @@ use Rattle.answers.specs.declared.Refusal.the-variants.{StartEntry}
 use Rattle.score.specs.declared.Difference.the-variants.{At}
 use Rattle.score.specs.declared.Verdict.the-variants.{Accepted}
 use Rattle.score.specs.Score.{verdictOf}
+use Rattle.score.specs.Below.{countBelow}
 use Rattle.score.specs.Apart.{differenceOf}
 use Rattle.shelf.specs.Shelf.{mark, entryWords, wordsFor}
 use Rattle.state.specs.declared.Settings.{Settings}
@@ -54,11 +55,20 @@ pub record Buffers (n : ℕ) : Type 0 where
 abbrev pub leftIn : {n : ℕ} → Settings → List ℕ → Buffers n → Outcome Rendered
 leftIn g s b = renderOf g s (b .out) (b .shelf)
 
+-- the bytes of the records of an accepted score that lie below position q
+abbrev pub recordsBelow : List ℕ → ℕ → List ℕ
+recordsBelow s q = take (countBelow s q * 10) s
+
+-- the first changed record is at p: below p the scores have the same records, up to p they do not
+pub record FirstChange (old new : List ℕ) (p : ℕ) : Type 0 where
+  pub same-below : recordsBelow old p ≡ recordsBelow new p
+  pub apart-at : recordsBelow old (suc p) ≡ recordsBelow new (suc p) → ⊥
+
 -- ---- what is promised
--- ys and ws are left in the place of out and shelf: from mark m on those of any render of s of as many samples, before it those that came
-pub record FromMark (g : Settings) (s : List ℕ) (m : ℕ) (out : List Float) (shelf : List ℕ) (ys : List Float) (ws : List ℕ) : Type 0 where
-  pub samples-are : (b : Buffers (length out)) → drop (m * mark) ys ≡ drop (m * mark) (leftIn g s b .heard)
-  pub entries-are : (b : Buffers (length out)) → drop (m * entryWords) ws ≡ drop (m * entryWords) (leftIn g s b .stored)
+-- ys and ws are left in the place of out and shelf: from mark m on those that the render leaves in any buffers of as many samples, before it those that came
+pub record FromMark {R : Type 0} (out : List Float) (shelf : List ℕ) (render : Buffers (length out) → Outcome R) (m : ℕ) (ys : List Float) (ws : List ℕ) : Type 0 where
+  pub samples-are : (b : Buffers (length out)) → drop (m * mark) ys ≡ drop (m * mark) (render b .heard)
+  pub entries-are : (b : Buffers (length out)) → drop (m * entryWords) ws ≡ drop (m * entryWords) (render b .stored)
   pub samples-stay : take (m * mark) ys ≡ take (m * mark) out
   pub entries-stay : take (m * entryWords) ws ≡ take (m * entryWords) shelf
 
@@ -66,7 +76,7 @@ pub record FromMark (g : Settings) (s : List ℕ) (m : ℕ) (out : List Float) (
 pub record Remade (g : Settings) (new : List ℕ) (m : ℕ) (out : List Float) (shelf : List ℕ) (o : Outcome Answer) : Type 0 where
   pub counted : o .result ≡ Done (length out - m * mark)
   pub never-8 : o .result ≡ Refused StartEntry → ⊥
-  pub left : FromMark g new m out shelf (o .heard) (o .stored)
+  pub left : FromMark out shelf (leftIn g new) m (o .heard) (o .stored)
 
 -- ---- the claim
 pub record Demand3 : Type 0 where
@@ -78,5 +88,6 @@ pub record Demand3 : Type 0 where
   -- the first change lies at or past the end, whatever stands in the shelf
   pub late : (g : Settings) (old new : List ℕ) → Edit g old new → (out : List Float) (shelf : List ℕ) → Lent out shelf → (p : ℕ) → differenceOf old new ≡ At p → length out ≤ p
       → rerenderOf g old new out shelf ≡ leaves (Done 0) out shelf
-  -- there is no other case: accepted scores that are not equal have a first changed record
-  pub changed : (old new : List ℕ) → Taken old → Taken new → (old ≡ new → ⊥) → (p : ℕ) × (differenceOf old new ≡ At p)
+  -- there is no other case: accepted scores that are not equal part at a position, and it is that of the first changed record
+  pub parted : (old new : List ℕ) → Taken old → Taken new → (old ≡ new → ⊥) → (p : ℕ) × (differenceOf old new ≡ At p)
+  pub first-change : (old new : List ℕ) → Taken old → Taken new → (p : ℕ) → differenceOf old new ≡ At p → FirstChange old new p

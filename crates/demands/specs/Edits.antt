@@ -50,11 +50,11 @@ abbrev pub NoneBefore : ℕ → ℕ → List ℕ → List (List ℕ) → Type 0
 NoneBefore b n old [] = Unit
 NoneBefore b n old (new ∷ rest) = ((p : ℕ) → differenceOf old new ≡ At p → p < n → b * mark ≤ p) × NoneBefore b n new rest
 
--- from mark b on output and shelf hold what a render of s left there, with the same settings and length; before it anything at all
-pub record HonestFrom (g : Settings) (s : List ℕ) (b : ℕ) (out : List Float) (shelf : List ℕ) : Type 0 where
+-- from mark b on output and shelf hold what the render left there in some buffers of the same length; before it anything at all
+pub record HonestFrom {R : Type 0} (out : List Float) (shelf : List ℕ) (render : Buffers (length out) → Outcome R) (b : ℕ) : Type 0 where
   pub buffers : Buffers (length out)
-  pub samples : drop (b * mark) out ≡ drop (b * mark) (leftIn g s buffers .heard)
-  pub entries : drop (b * entryWords) shelf ≡ drop (b * entryWords) (leftIn g s buffers .stored)
+  pub samples : drop (b * mark) out ≡ drop (b * mark) (render buffers .heard)
+  pub entries : drop (b * entryWords) shelf ≡ drop (b * entryWords) (render buffers .stored)
 
 pub record Editing (g : Settings) (old : List ℕ) (news : List (List ℕ)) (b : ℕ) (out : List Float) (shelf : List ℕ) : Type 0 where
   pub settings : settingsOk g ≡ true
@@ -62,14 +62,14 @@ pub record Editing (g : Settings) (old : List ℕ) (news : List (List ℕ)) (b :
   pub old-taken : Taken old
   pub news-taken : AllTaken news
   pub lent : Lent out shelf
-  pub honest : HonestFrom g old b out shelf
+  pub honest : HonestFrom out shelf (leftIn g old) b
   pub none-before : NoneBefore b (length out) old news
 
 -- ---- what is promised
 -- every call done with its count; from mark b on one render of the last score, before it what came
 pub record Edited (g : Settings) (old : List ℕ) (news : List (List ℕ)) (b : ℕ) (out : List Float) (shelf : List ℕ) (o : Outcome (List Answer)) : Type 0 where
   pub answered : o .result ≡ allCounted g old news (length out)
-  pub left : FromMark g (lastScore old news) b out shelf (o .heard) (o .stored)
+  pub left : FromMark out shelf (leftIn g (lastScore old news)) b (o .heard) (o .stored)
 
 -- after a render of the old score: the whole output and shelf of any render of the last score
 pub record EditedWhole (g : Settings) (old : List ℕ) (news : List (List ℕ)) (n : ℕ) (o : Outcome (List Answer)) : Type 0 where

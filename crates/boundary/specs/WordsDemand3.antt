@@ -1,0 +1,43 @@
+-- Demand 3 of the calls that C makes, as a claim. 00-demands.md, demand 3, which stands whole in `demands`' specs/Demand3.antt; include/gavberin.h, of gav_rerender: "old, old_len: the score that out and shelf were rendered of".
+-- A gav_render of the old score, in any output and shelf of as many samples, said 0; its entry at the mark is the one in the shelf, and anything at all may stand elsewhere. That it said 0 tells that the settings are known and in
+-- their domain and the old score accepted. The argument is in proofs/DeskDemand3.antt. Definitions only.
+use mathlib.Core.Path.{_≡_}
+use mathlib.Core.List.{List}
+use Prim.Native.Nat.{ℕ, _-_, _*_, _/_, _≤_, _<_}
+use lib.Dec.{T}
+use lib.ListN.{length}
+use lib.Ieee.{Float, binary64, fits}
+use Rattle.sections.specs.Outcome.{Outcome, leaves}
+use Rattle.answers.specs.declared.Answer.the-variants.{Done}
+use Rattle.answers.specs.Numbers.{numbersOf}
+use Rattle.score.specs.declared.Difference.the-variants.{At}
+use Rattle.score.specs.Apart.{differenceOf}
+use Rattle.shelf.specs.Shelf.{mark}
+use Rattle.rerender.specs.Rerender.{entryAt}
+use Rattle.demands.specs.Demand3.{Taken, Lent, Buffers, FromMark}
+use Rattle.desk.specs.Packed.{packedOf, numbersIn}
+use Rattle.desk.specs.Desk.{Asked, choiceOf, renderFor, rerenderFor}
+
+-- what a gav_render of s leaves
+abbrev pub deskLeft : {n : ℕ} → Asked → List ℕ → Buffers n → Outcome ℕ
+deskLeft a s b = renderFor (choiceOf a) s (b .out) (b .shelf)
+
+-- the number in a word is 0
+abbrev pub Zero : ℕ → Type 0
+Zero word = numbersIn word .number ≡ 0
+
+-- a gav_rerender that has started at mark m: its word, and what a host reads in it; what it leaves
+pub record DeskRemade (a : Asked) (new : List ℕ) (m : ℕ) (out : List Float) (shelf : List ℕ) (o : Outcome ℕ) : Type 0 where
+  pub counted : o .result ≡ packedOf (Done (length out - m * mark))
+  pub reads : numbersIn (o .result) ≡ numbersOf (Done (length out - m * mark))
+  pub left : FromMark out shelf (deskLeft a new) m (o .heard) (o .stored)
+
+-- ---- the claim: for any settings of which the sustain is a value of an f64, as owning it tells
+pub record WordsDemand3 : Type 0 where
+  pub re-rendered : (a : Asked) → T (fits binary64 (a .sustain)) → (old new : List ℕ) → Taken new → (out : List Float) (shelf : List ℕ) → Lent out shelf → (p : ℕ) → differenceOf old new ≡ At p → p < length out
+      → (b : Buffers (length out)) → Zero (deskLeft a old b .result) → entryAt shelf (p / mark) ≡ entryAt (deskLeft a old b .stored) (p / mark)
+      → DeskRemade a new (p / mark) out shelf (rerenderFor (choiceOf a) old new out shelf)
+  pub equal : (a : Asked) → T (fits binary64 (a .sustain)) → (s : List ℕ) (out : List Float) (shelf : List ℕ) → Lent out shelf
+      → (b : Buffers (length out)) → Zero (deskLeft a s b .result) → rerenderFor (choiceOf a) s s out shelf ≡ leaves (packedOf (Done 0)) out shelf
+  pub late : (a : Asked) → T (fits binary64 (a .sustain)) → (old new : List ℕ) → Taken new → (out : List Float) (shelf : List ℕ) → Lent out shelf → (p : ℕ) → differenceOf old new ≡ At p → length out ≤ p
+      → (b : Buffers (length out)) → Zero (deskLeft a old b .result) → rerenderFor (choiceOf a) old new out shelf ≡ leaves (packedOf (Done 0)) out shelf
