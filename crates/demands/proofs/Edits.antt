@@ -43,7 +43,7 @@ module _ {A : Type 0} where
   abbrev over : ℕ → List A → List A → List A
   over j xs ys = take j xs ++ drop j ys
 
-  over-length : (j : ℕ) (xs ys : List A) → j ≤ length xs → length xs ≡ length ys → length (over j xs ys) ≡ length ys
+  pub over-length : (j : ℕ) (xs ys : List A) → j ≤ length xs → length xs ≡ length ys → length (over j xs ys) ≡ length ys
   over-length j xs ys h e = length-front ys (take j xs) j (length-take-le j xs h ∙ sym (length-take-le j ys (omega arith)))
 
   -- before k it stands as it is

@@ -1,8 +1,8 @@
--- Demand 3 met by an edit: a note at 0, and an off added at 5,000, in an output of 6,000 samples that holds rubbish throughout, with rubbish in entry 0; entry 1 is what a render of the old score left. The re-render starts at
+-- Demand 3 met by an edit, and edits met over rubbish: a note at 0, and an off added at 5,000, in an output of 6,000 samples that holds rubbish throughout, with rubbish in entry 0; entry 1 is what a render of the old score left. The re-render starts at
 -- mark 1, writes 1,904 samples, and leaves what stands before sample 4,096 as it is. Assumes nothing.
 use mathlib.Core.Path.{_≡_, refl, sym, ap, _∙_}
 use mathlib.Core.List.{List, [], _∷_, _++_}
-use Prim.Native.Nat.{ℕ, _+_}
+use Prim.Native.Nat.{ℕ, _+_, _*_, _≤_}
 use native.Mathlib.Omega.{arith}
 use lib.ListN.{length, take, drop, replicate, length-append, length-replicate}
 use lib.Seq.{take-all}
@@ -17,11 +17,15 @@ use Rattle.score.specs.Score.{markRight, kindRight, fieldsRight, inOrder, fault
 use Rattle.score.specs.Apart.{sameTo, firstFrom, differenceOf}
 use Rattle.shelf.specs.Shelf.{entryWords, wordsFor, entryOf}
 use Rattle.shelf.proofs.There.{entry-length}
-use Rattle.demands.specs.Demand3.{Edit, Lent}
+use Rattle.demands.specs.Demand3.{Taken, Edit, Lent, Buffers}
+use Rattle.demands.specs.Edits.{editsFrom, Editing, Edited}
 use Rattle.demands.proofs.ChainExamples.{plain, plain-ok, begins, begins-accepted}
 use Rattle.sections.specs.Outcome.{leaves}
 use Rattle.rerender.specs.Rerender.{entryAt, rerenderOf}
-use Rattle.demands.proofs.Demand3.{soundOf, shelvedOf, atMark, demand-3}
+use Rattle.demands.proofs.Demand3.{soundOf, shelvedOf, atMark, demand-3, heard-is, stored-is}
+use Rattle.demands.proofs.Edits.{over-length, sound-length, shelved-length, any-edits}
+use Rattle.demands.proofs.Alone.{back}
+use Rattle.score.proofs.Parted.{at-inj}
 
 -- the off at 5,000
 abbrev pub edited : List ℕ
@@ -67,3 +71,61 @@ kept = take-all entryWords (entryOf (atMark plain begins 1)) (omega (arith, entr
 pub an-edit-over-rubbish : rerenderOf plain begins edited out shelf
     ≡ leaves (Done 1904) (take 4096 out ++ drop 4096 (soundOf plain edited 6000)) (take entryWords shelf ++ drop entryWords (shelvedOf plain edited 6000))
 an-edit-over-rubbish = rw long at (demand-3 plain begins edited an-edit 5000 differs out shelf lent (omega (arith, long)) kept)
+
+-- ---- and taken away again, twice over rubbish: mark 0 holds rubbish in output and shelf, from mark 1 on stands what a render of the note alone left
+abbrev pub spoilt : List Float
+spoilt = take 4096 out ++ drop 4096 (soundOf plain begins 6000)
+
+abbrev sevens : List ℕ
+sevens = replicate (2 * entryWords) 7
+
+abbrev pub spoiltShelf : List ℕ
+spoiltShelf = take entryWords sevens ++ drop entryWords (shelvedOf plain begins 6000)
+
+spoilt-long : length spoilt ≡ 6000
+spoilt-long = over-length 4096 out (soundOf plain begins 6000) (omega (arith, long)) (long ∙ sym (sound-length plain begins 6000)) ∙ sound-length plain begins 6000
+
+sevens-long : length sevens ≡ 2 * entryWords
+sevens-long = length-replicate {A = ℕ} (2 * entryWords) 7
+
+spoilt-fits : length spoiltShelf ≡ wordsFor 6000
+spoilt-fits =
+    over-length entryWords sevens (shelvedOf plain begins 6000) (omega (arith, sevens-long)) (sevens-long ∙ sym (shelved-length plain begins 6000)) ∙ shelved-length plain begins 6000
+
+-- some buffers that the note alone was rendered in
+some : (n : ℕ) → 6000 ≡ n → Buffers n
+some n e = record { out = out; shelf = sevens; lent = record { short = omega (arith, long); fits = sevens-long ∙ sym (ap wordsFor long) }; long = long ∙ e }
+
+back-again : differenceOf edited begins ≡ At 5000
+unfolding positionAt sameTo firstFrom
+back-again = refl
+
+heard-from : (p q : ℕ) → At p ≡ At q → p ≡ 5000 → 1 * 4096 ≤ q
+heard-from p q e f = omega (arith, at-inj e)
+
+note-taken : Taken begins
+note-taken = an-edit .old-taken
+
+pub over-rubbish : Editing plain begins (edited ∷ begins ∷ []) 1 spoilt spoiltShelf
+over-rubbish =
+    let n = length spoilt in
+    let r : Buffers n = some n (sym spoilt-long) in
+    record {
+      settings = plain-ok;
+      sustain-fits = an-edit .sustain-fits;
+      old-taken = note-taken;
+      news-taken = (an-edit .new-taken, (note-taken, tt));
+      lent = record { short = omega (arith, spoilt-long); fits = spoilt-fits ∙ ap wordsFor (sym spoilt-long) };
+      honest = record {
+        buffers = r;
+        samples = back 4096 out (drop 4096 (soundOf plain begins 6000)) (omega (arith, long)) ∙ ap (λ (k : ℕ). drop 4096 (soundOf plain begins k)) (sym spoilt-long) ∙ sym (ap (drop 4096) (heard-is plain plain-ok begins note-taken n r));
+        entries =
+            back entryWords sevens (drop entryWords (shelvedOf plain begins 6000)) (omega (arith, sevens-long)) ∙ ap (λ (k : ℕ). drop entryWords (shelvedOf plain begins k)) (sym spoilt-long)
+            ∙ sym (ap (drop entryWords) (stored-is plain plain-ok begins note-taken n r));
+      };
+      none-before = ((λ p e l. heard-from 5000 p (sym differs ∙ e) refl), ((λ p e l. heard-from 5000 p (sym back-again ∙ e) refl), tt));
+    }
+
+-- both calls are done, and the output and the shelf are those of the note alone again from mark 1 on, rubbish before it
+pub edits-over-rubbish : Edited plain begins (edited ∷ begins ∷ []) 1 spoilt spoiltShelf (editsFrom plain begins (edited ∷ begins ∷ []) spoilt spoiltShelf)
+edits-over-rubbish = any-edits .over-rubbish plain begins (edited ∷ begins ∷ []) 1 spoilt spoiltShelf over-rubbish

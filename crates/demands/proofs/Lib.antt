@@ -13,7 +13,7 @@ pub mod Alone
 pub mod First
 -- demand 3: from the mark on, a re-render is a render of the new score
 pub mod Demand3
--- an edit that meets demand 3's premises, over rubbish
-pub mod Example
 -- any number of edits, each re-rendered, leave what one render of the last score leaves, from a mark on where they are honest from there on
 pub mod Edits
+-- an edit that meets demand 3's premises, and two that meet those of many, over rubbish
+pub mod Example
