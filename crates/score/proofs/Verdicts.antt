@@ -17,7 +17,8 @@ use Rattle.answers.specs.declared.ScoreFault.the-variants.{Length, Mark, Kind, 
 use Rattle.answers.proofs.Order.{first-map, Leads, leads-first, passed, none-both}
 use Rattle.score.specs.declared.Verdict.the-variants.{Accepted, Faulty}
 use Rattle.score.specs.Record.{countOf}
-use Rattle.score.specs.Score.{markRight, kindRight, fieldsRight, allRight, inOrder, faultsAt, faultsFrom, faultsOf, verdictOf, answerOf}
+use Rattle.score.specs.Score.{markRight, kindRight, fieldsRight, inOrder, faultsAt, faultsFrom, faultsOf, verdictOf, answerOf}
+use Rattle.score.specs.Inner.{allRight}
 use Rattle.score.proofs.Codec.{both, Right, tests-right, right-mark, right-kind, right-fields}
 
 clash : _≡_ {A = ℕ} 0 1 → ⊥

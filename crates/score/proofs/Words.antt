@@ -8,8 +8,9 @@ use native.Mathlib.Omega.{arith}
 use lib.Bits.{bitAnd, and-block, and-mask, and-high}
 use lib.Dec.{leb, eqb, lit<}
 use borrow.Author.Tests.{leb-true, eq-eqb, ne-eqb, eqb-true}
-use Rattle.score.specs.Record.{byteAt, wordOf, wordAt, markAt, restAt}
-use Rattle.score.specs.Score.{mostOf, allRight}
+use Rattle.score.specs.Record.{byteAt, wordOf, wordAt}
+use Rattle.score.specs.Inner.{markAt, restAt, allRight}
+use Rattle.score.specs.Score.{mostOf}
 use Rattle.score.specs.Apart.{sameTo, sameAt}
 use Rattle.score.proofs.Parted.{same-bytes}
 use Rattle.score.proofs.Codec.{both, either, Right, right-mark, right-kind, right-fields}

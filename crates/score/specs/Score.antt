@@ -31,10 +31,6 @@ mostOf kind = cond (eqb kind 3) 0 127
 unfoldable pub fieldsRight : List ℕ → ℕ → Bool
 fieldsRight s i = leb (byteAt s i 7) (mostOf (byteAt s i 6)) && leb (byteAt s i 8) (mostOf (byteAt s i 6)) && eqb (byteAt s i 9) 0
 
--- what is right about the record alone. It serves a private function; no public statement cites it
-abbrev pub allRight : List ℕ → ℕ → Bool
-allRight s i = markRight s i && kindRight s i && fieldsRight s i
-
 -- the position is not below that of the record before
 unfoldable pub inOrder : List ℕ → ℕ → Bool
 inOrder s zero = true
