@@ -14,10 +14,10 @@ use Rattle.envelope.specs.declared.Adsr.{Adsr}
 use Rattle.envelope.specs.declared.Envelope.{Envelope}
 use Rattle.envelope.specs.declared.EnvelopeStage.{EnvelopeStage}
 use Rattle.envelope.specs.declared.EnvelopeStage.the-variants.{Idle, Attack, Decay, Sustain, Release}
-use Rattle.envelope.specs.Stages.{levelOf, endsAt, ruleOf, grows, grownOf, stepOf, nextIn, endedIn}
+use Rattle.envelope.specs.Stages.{ruleOf, grows, grownOf, stepOf}
+use Rattle.envelope.specs.Inner.{levelOf, endsAt, nextIn, endedIn, scaledTwo, Reached}
 use Rattle.envelope.specs.Running.{envelopeFrom}
 use Rattle.envelope.specs.Scaled.{scaledTo, Scaled}
-use Rattle.envelope.specs.Reached.{scaledTwo, Reached}
 
 -- of two tests that neither pass, none does
 pub neither : (a b : Bool) → (a || b) ≡ false → (a ≡ false) × (b ≡ false)

@@ -2,5 +2,5 @@ pub mod Limits
 pub mod Stages
 pub mod Running
 pub mod Scaled
-pub mod Reached
 pub mod Calls
+pub mod Inner

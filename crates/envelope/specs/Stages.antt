@@ -30,22 +30,6 @@ decayLevel decay sustain e = one ⊖ (one ⊖ sustain) ⊗ (e .«stage_time» �
 abbrev pub releaseLevel : Float → Envelope → Float
 releaseLevel release e = e .«release_level» ⊗ (one ⊖ e .«stage_time» ⊘ release)
 
--- of any stage, before its end is looked at. This and the next serve private functions, which make the rules below of them; no public statement cites the two
-abbrev pub levelOf : EnvelopeStage → Adsr → Envelope → Float
-levelOf Idle k e = naught
-levelOf Attack k e = attackLevel (k .attack) e
-levelOf Decay k e = decayLevel (k .decay) (k .sustain) e
-levelOf Sustain k e = k .sustain
-levelOf Release k e = releaseLevel (k .release) e
-
--- whether a run of the stage ends at that level; a stage that stands has none
-abbrev pub endsAt : EnvelopeStage → Adsr → Float → Bool
-endsAt Idle k x = true
-endsAt Attack k x = le one x
-endsAt Decay k x = le x (k .sustain)
-endsAt Sustain k x = true
-endsAt Release k x = le x silent
-
 -- ---- the rules
 abbrev pub attackRule : Float → Envelope → Envelope
 attackRule attack e =
@@ -83,17 +67,6 @@ grownOf t e = cond (grows (e .stage)) (movedOf e (e .stage) (e .level) (e .«sta
 -- one sample: its level is the level of the envelope after it
 unfoldable pub stepOf : Adsr → Float → Envelope → Envelope
 stepOf k t e = grownOf t (ruleOf (e .stage) k e)
-
--- the same in two parts, for a private function: a sample that does not end its stage, and one that does or whose stage stands
-abbrev pub nextIn : EnvelopeStage → Adsr → Float → Envelope → Envelope
-nextIn s k t e = movedOf e s (levelOf s k e) (e .«stage_time» ⊕ t)
-
-abbrev pub endedIn : EnvelopeStage → Adsr → Float → Envelope → Envelope
-endedIn Idle k t e = movedOf e Idle naught (e .«stage_time»)
-endedIn Attack k t e = movedOf e Decay one (naught ⊕ t)
-endedIn Decay k t e = movedOf e Sustain (k .sustain) naught
-endedIn Sustain k t e = movedOf e Sustain (k .sustain) (e .«stage_time»)
-endedIn Release k t e = movedOf e Idle naught naught
 
 -- ---- notes
 abbrev pub freshOf : Envelope

@@ -6,7 +6,7 @@ ghost use Prim.Native.Nat.{_+_, _<_, _≤_};
 ghost use lib.ListN.{length};
 ghost use Rattle.envelope.specs.Stages.{grows};
 ghost use Rattle.envelope.specs.Scaled.{Scaled};
-ghost use Rattle.envelope.specs.Reached.{scaledTwo, Onward, Finished};
+ghost use Rattle.envelope.specs.Inner.{scaledTwo, Onward, Finished};
 use crate::Adsr;
 use crate::Envelope;
 use crate::EnvelopeStage;

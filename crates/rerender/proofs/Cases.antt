@@ -38,7 +38,8 @@ use Rattle.judging.specs.Judging.{refusalsOf, newRefusalsOf, isRoom}
 use Rattle.judging.proofs.Refusals.{all-passed, new-passed, Roomy, roomy}
 use Rattle.rerender.specs.declared.Plan.{Plan}
 use Rattle.rerender.specs.declared.Plan.the-variants.{Nothing, From}
-use Rattle.rerender.specs.Rerender.{planFor, planOf, entryAt, startOf, isStart, between, madeFrom, runOf, startRefusals, rerenderRefusals, keptOf, rerenderOf, fromOf, countFor}
+use Rattle.rerender.specs.Rerender.{planFor, planOf, entryAt, startOf, isStart, between, madeFrom, runOf, startRefusals, rerenderRefusals, keptOf, rerenderOf, countFor}
+use Rattle.rerender.specs.Inner.{fromOf}
 
 -- ---- the plan
 module _ (old new : List ℕ) (n : ℕ) where

@@ -1,1 +1,2 @@
 pub mod Rerender
+pub mod Inner

@@ -86,10 +86,6 @@ keptOf out shelf why = leaves (Refused why) out shelf
 unfoldable pub rerenderOf : Settings → List ℕ → List ℕ → List Float → List ℕ → Outcome Answer
 rerenderOf g old new out shelf = firstOf (rerenderRefusals g old new (length out) shelf) (keptOf out shelf) (runOf g old new (planOf old new (length out)) out shelf)
 
--- what is left of the call at a mark where 6, 7 and the scores' numbers are not given. It serves a private function; no public statement cites it
-unfoldable pub fromOf : Settings → List ℕ → List ℕ → ℕ → List Float → List ℕ → Outcome Answer
-fromOf g old new m out shelf = firstOf (unless (isStart new m shelf) StartEntry) (keptOf out shelf) (madeFrom g old new m out shelf)
-
 -- how many samples a plan makes, of an output of n
 abbrev pub countFor : Settings → List ℕ → List ℕ → Plan → ℕ → ℕ
 countFor g old new Nothing n = 0

@@ -9,7 +9,8 @@ use lib.Bits.{bitAnd, and-block, and-mask, and-high}
 use lib.Dec.{leb, eqb, lit<}
 use borrow.Author.Tests.{leb-true, eq-eqb, ne-eqb, eqb-true}
 use Rattle.words.specs.Words.{wordOf}
-use Rattle.score.specs.Record.{byteAt, wordAt, markAt, restAt}
+use Rattle.score.specs.Record.{byteAt, wordAt}
+use Rattle.score.specs.Inner.{markAt, restAt}
 use Rattle.score.specs.Score.{mostOf, allRight}
 use Rattle.score.specs.Apart.{sameTo, sameAt}
 use Rattle.score.proofs.Parted.{same-bytes}

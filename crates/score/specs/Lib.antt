@@ -2,3 +2,4 @@ pub mod Record
 pub mod Score
 pub mod Below
 pub mod Apart
+pub mod Inner

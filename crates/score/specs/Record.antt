@@ -22,13 +22,6 @@ byteAt s i j = getD s (i * 10 + j) 0
 abbrev pub wordAt : List ℕ → ℕ → ℕ → ℕ
 wordAt s i j = wordOf (byteAt s i j) (byteAt s i (j + 1)) (byteAt s i (j + 2)) (byteAt s i (j + 3))
 
--- the two of its mark, and the eight after it. These two serve private functions; no public statement cites them
-abbrev pub markAt : List ℕ → ℕ → ℕ
-markAt s i = wordOf (byteAt s i 0) (byteAt s i 1) 0 0
-
-abbrev pub restAt : List ℕ → ℕ → ℕ
-restAt s i = wordAt s i 2 + wordAt s i 6 * 4294967296
-
 -- ---- a record
 -- the position of record i, low byte first
 unfoldable pub positionAt : List ℕ → ℕ → ℕ

@@ -31,7 +31,7 @@ mostOf kind = cond (eqb kind 3) 0 127
 unfoldable pub fieldsRight : List ℕ → ℕ → Bool
 fieldsRight s i = leb (byteAt s i 7) (mostOf (byteAt s i 6)) && leb (byteAt s i 8) (mostOf (byteAt s i 6)) && eqb (byteAt s i 9) 0
 
--- what is right about the record alone. It serves a private function; no public statement cites it
+-- what is right about the record alone
 abbrev pub allRight : List ℕ → ℕ → Bool
 allRight s i = markRight s i && kindRight s i && fieldsRight s i
 

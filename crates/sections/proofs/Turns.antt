@@ -19,7 +19,8 @@ use Rattle.spans.specs.Walk.{placeFrom, playedFrom, Played}
 use Rattle.spans.proofs.Turns.{take-mid}
 use Rattle.spans.proofs.GoesOn.{played-length, place-on, played-on}
 use Rattle.sections.specs.Outcome.{leaves}
-use Rattle.sections.specs.Sections.{keptFrom, played, playOnOf, SectionEnd}
+use Rattle.sections.specs.Sections.{keptFrom, played, playOnOf}
+use Rattle.sections.specs.Inner.{SectionEnd}
 
 -- what the loop keeps: the samples as far as start are played, and the entries below k are kept
 pub record Walked (g : Settings) (s : List ℕ) (m : ℕ) (p : Place) (out₀ : List Float) (shelf₀ : List ℕ) (out : List Float) (shelf : List ℕ) (at : Place) (k start : ℕ) : Type 0 where

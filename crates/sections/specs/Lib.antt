@@ -1,2 +1,3 @@
 pub mod Outcome
 pub mod Sections
+pub mod Inner

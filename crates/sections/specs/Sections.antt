@@ -1,9 +1,8 @@
 -- From a mark to the end of the output, section by section: the entry of a mark, and then its samples, 4,096 or as many as are left. 01, "The shelf": "Entry k holds the state before sample 4096k is begun, for every
 -- 4096k below N, the output's length". It is a walk (the crate spans) from a place at any mark; where the shelf has not the words that the output asks for, nothing is played and nothing stored. Definitions only.
 use mathlib.Core.Bool.{Bool, true, false}
-use mathlib.Core.Path.{_≡_}
 use mathlib.Core.List.{List, _++_}
-use Prim.Native.Nat.{ℕ, _+_, _-_, _*_, _<_, _≤_}
+use Prim.Native.Nat.{ℕ, _+_, _-_, _*_}
 use lib.Dec.{eqb}
 use lib.ListN.{length, take}
 use lib.Ieee.{Float}
@@ -33,10 +32,3 @@ playedIf false g s m p out shelf = leaves p out shelf
 
 unfoldable pub playOnOf : Settings → List ℕ → ℕ → Place → List Float → List ℕ → Outcome Place
 playOnOf g s m p out shelf = playedIf (eqb (length shelf) (wordsFor (length out))) g s m p out shelf
-
--- r is 4,096 samples after a, or the end k
-pub record SectionEnd (a k r : ℕ) : Type 0 where
-  pub after : a < r
-  pub within : r ≤ k
-  pub near : r ≤ a + mark
-  pub whole : r < k → r ≡ a + mark

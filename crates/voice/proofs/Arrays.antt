@@ -9,7 +9,8 @@ use lib.Dec.{leb}
 use borrow.Author.Tests.{le-leb, lt-leb}
 use lib.ListN.{length, take, drop, getD, set, replicate, length-append, length-drop, take-append-drop, drop-of-length-le}
 use lib.Seq.{take-suc, take-nil, drop-nil, drop-cons, drop-append-le, append-snoc, set-at, take-at, getD-append-add, getD-drop, take-all, length-take-le}
-use Rattle.voice.specs.Keys.{padded, closedUp, atMost, isFilled}
+use Rattle.voice.specs.Keys.{padded, atMost, isFilled}
+use Rattle.voice.specs.Inner.{closedUp}
 
 -- ---- clearing
 -- nothing is cleared yet

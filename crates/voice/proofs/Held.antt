@@ -9,7 +9,8 @@ use lib.Dec.{leb}
 use borrow.Author.Tests.{leb-true, leb-false, lt-ltb, le-ltb}
 use lib.ListN.{length, take, drop, getD, set, length-take}
 use lib.Seq.{take-all, take-take, length-take-le, take-suc-set, getD-take}
-use Rattle.voice.specs.Keys.{Pair, pairs, heldOf, padded, keysOf, closedUp, pushed, lastOf, fallBackTo, released, fellBackTo}
+use Rattle.voice.specs.Keys.{Pair, pairs, heldOf, padded, keysOf, pushed, lastOf, fallBackTo, released, fellBackTo}
+use Rattle.voice.specs.Inner.{closedUp}
 use Rattle.voice.specs.declared.keys.ActiveNote.{ActiveNote}
 use Rattle.voice.specs.declared.keys.Keys.{Keys}
 use Rattle.voice.proofs.Arrays.{closed-up-front}

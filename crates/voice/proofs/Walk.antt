@@ -6,7 +6,8 @@ use native.Mathlib.Numerals.{add-one}
 use native.Mathlib.Omega.{arith}
 use lib.ListN.{length, take, getD}
 use lib.Seq.{getD-take}
-use Rattle.voice.specs.Keys.{Pair, noteOf, pairs, others, closedUp}
+use Rattle.voice.specs.Keys.{Pair, noteOf, pairs, others}
+use Rattle.voice.specs.Inner.{closedUp}
 use Rattle.voice.proofs.Arrays.{closed-up-length}
 use Rattle.voice.proofs.Pairs.{unused, pairs-at}
 use Rattle.voice.proofs.Removal.{omit, walked, walked-drops, walked-keeps, walked-ends}

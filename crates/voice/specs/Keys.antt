@@ -5,7 +5,7 @@
 -- pairs 0, whatever stood there. Stricter than 01's bool: lifting a key says which of three things it did. Definitions only.
 use mathlib.Core.Bool.{Bool, true, false, not, cond, _&&_}
 use mathlib.Core.List.{List, [], _∷_, _++_, map}
-use Prim.Native.Nat.{ℕ, suc, _+_, _-_}
+use Prim.Native.Nat.{ℕ, _+_, _-_}
 use lib.Dec.{ltb, leb, eqb}
 use lib.ListN.{length, take, drop, replicate}
 use Rattle.voice.specs.declared.keys.ActiveNote.{ActiveNote}
@@ -112,7 +112,3 @@ isFilled c xs = atMost 127 (take c xs) && atMost 0 (drop c xs)
 
 unfoldable pub isKeys : Keys → Bool
 isKeys k = isSound (k .active) (k .gate) && leb (k .count) 16 && isFilled (k .count) (k .notes) && isFilled (k .count) (k .velocities)
-
--- ---- the inner loop of a removal, on one array: what stands at i is dropped, and what follows, to m, moves one down; from m on it stays
-unfoldable pub closedUp : ℕ → ℕ → List ℕ → List ℕ
-closedUp i m xs = take i xs ++ drop (suc i) (take (suc m) xs) ++ drop m xs

@@ -1,2 +1,3 @@
 pub mod Keys
 pub mod Voice
+pub mod Inner

@@ -3,7 +3,8 @@
 ghost use mathlib.Core.Path.{_≡_};
 ghost use Prim.Native.Nat.{_≤_, _<_};
 ghost use lib.ListN.{length, take};
-ghost use Rattle.voice.specs.Keys.{pairs, heldOf, padded, closedUp, keysOf, freshKeys, pressedOf, withoutOf, isSounding, fallBackOf, liftedOf, isSound, isFilled, isKeys};
+ghost use Rattle.voice.specs.Keys.{pairs, heldOf, padded, keysOf, freshKeys, pressedOf, withoutOf, isSounding, fallBackOf, liftedOf, isSound, isFilled, isKeys};
+ghost use Rattle.voice.specs.Inner.{closedUp};
 
 // The note that sounds.
 pub enum ActiveNote {

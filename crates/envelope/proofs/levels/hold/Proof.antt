@@ -8,7 +8,7 @@ use Rattle.runs.specs.Runs.{run}
 use Rattle.envelope.specs.Running.{envelopeFrom}
 use Rattle.envelope.specs.declared.Adsr.{Adsr}
 use Rattle.envelope.specs.declared.Envelope.{Envelope}
-use Rattle.envelope.specs.Reached.{Onward}
+use Rattle.envelope.specs.Inner.{Onward}
 use Rattle.envelope.proofs.Scaling.{reached-more, scaled-all, stands}
 use Rattle.envelope.proofs.levels.hold.Statement.{statement}
 use Rattle.envelope.proofs.levels.hold.Tie as tie

@@ -5,7 +5,7 @@ use Prim.Native.Nat.{_≤_, _-_}
 use native.Mathlib.Omega.{arith}
 use lib.ListN.{length, length-set}
 use Rattle.envelope.specs.declared.Envelope.{Envelope}
-use Rattle.envelope.specs.Reached.{Onward}
+use Rattle.envelope.specs.Inner.{Onward}
 use Rattle.envelope.proofs.Scaling.{reached-more, runs}
 use Rattle.envelope.proofs.levels.run.Statement.{statement}
 use Rattle.envelope.proofs.levels.run.Tie as tie

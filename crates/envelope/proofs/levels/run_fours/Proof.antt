@@ -8,7 +8,7 @@ use mir.Val.{Fits}
 use lib.ListN.{length}
 use Rattle.envelope.specs.declared.Envelope.{Envelope}
 use Rattle.envelope.specs.declared.EnvelopeStage.{EnvelopeStage}
-use Rattle.envelope.specs.Reached.{Onward}
+use Rattle.envelope.specs.Inner.{Onward}
 use Rattle.envelope.proofs.Scaling.{reached-four, runs, neither, two-long}
 use Rattle.envelope.proofs.levels.run_fours.Statement.{statement}
 use Rattle.envelope.proofs.levels.run_fours.Tie as tie

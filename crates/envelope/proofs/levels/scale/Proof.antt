@@ -5,7 +5,7 @@ use mathlib.Core.Path.{refl, sym, _∙_}
 use Prim.Native.Nat.{_<_, _-_}
 use native.Mathlib.Omega.{arith}
 use lib.ListN.{length}
-use Rattle.envelope.specs.Reached.{Reached}
+use Rattle.envelope.specs.Inner.{Reached}
 use Rattle.envelope.proofs.Scaling.{reached-none, reached-more, scaled-all}
 use Rattle.envelope.proofs.levels.scale.Statement.{statement}
 use Rattle.envelope.proofs.levels.scale.Tie as tie

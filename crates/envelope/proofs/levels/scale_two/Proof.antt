@@ -3,7 +3,7 @@ use borrow.Author.Needs.{needs}
 use native.Mathlib.Omega.{arith}
 use lib.ListN.{length-set}
 use lib.Ieee.{mul}
-use Rattle.envelope.specs.Reached.{scaledTwo}
+use Rattle.envelope.specs.Inner.{scaledTwo}
 use Rattle.envelope.proofs.levels.scale_two.Statement.{statement}
 use Rattle.envelope.proofs.levels.scale_two.Tie as tie
 

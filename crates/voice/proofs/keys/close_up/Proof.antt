@@ -4,7 +4,7 @@ use mathlib.Core.Path.{_≡_, refl}
 use Prim.Native.Nat.{_≤_, _-_}
 use native.Mathlib.Omega.{arith}
 use lib.ListN.{length}
-use Rattle.voice.specs.Keys.{closedUp}
+use Rattle.voice.specs.Inner.{closedUp}
 use Rattle.voice.proofs.Arrays.{closed-up-starts, closed-up-moves}
 use Rattle.voice.proofs.keys.close_up.Statement.{statement}
 use Rattle.voice.proofs.keys.close_up.Tie as tie

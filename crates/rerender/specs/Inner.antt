@@ -1,0 +1,14 @@
+-- What a private function is held to: the part of a re-render that starts at a mark. No public statement cites it. Definitions only.
+use mathlib.Core.List.{List}
+use Prim.Native.Nat.{ℕ}
+use lib.Ieee.{Float}
+use Rattle.sections.specs.Outcome.{Outcome}
+use Rattle.answers.specs.Order.{unless, firstOf}
+use Rattle.answers.specs.declared.Answer.{Answer}
+use Rattle.answers.specs.declared.Refusal.the-variants.{StartEntry}
+use Rattle.state.specs.declared.Settings.{Settings}
+use Rattle.rerender.specs.Rerender.{isStart, madeFrom, keptOf}
+
+-- what is left of the call at a mark where 6, 7 and the scores' numbers are not given.
+unfoldable pub fromOf : Settings → List ℕ → List ℕ → ℕ → List Float → List ℕ → Outcome Answer
+fromOf g old new m out shelf = firstOf (unless (isStart new m shelf) StartEntry) (keptOf out shelf) (madeFrom g old new m out shelf)

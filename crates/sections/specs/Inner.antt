@@ -1,0 +1,11 @@
+-- What a private function is held to: where a section ends. No public statement cites it. Definitions only.
+use mathlib.Core.Path.{_≡_}
+use Prim.Native.Nat.{ℕ, _+_, _<_, _≤_}
+use Rattle.shelf.specs.Shelf.{mark}
+
+-- r is 4,096 samples after a, or the end k
+pub record SectionEnd (a k r : ℕ) : Type 0 where
+  pub after : a < r
+  pub within : r ≤ k
+  pub near : r ≤ a + mark
+  pub whole : r < k → r ≡ a + mark
