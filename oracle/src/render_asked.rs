@@ -148,7 +148,7 @@ impl Asked {
         self.op == CONTINUE && !(is_state(&self.state) && self.state[5] >> 16 == below as u64)
     }
 
-    /// Answer, state after; samples, of a sine their scales, shelf.
+    /// Answer, state after; of a sine the samples' scales; samples, shelf.
     pub fn answer(&self) -> Vec<u64> {
         match self.refusal() {
             Some(refusal) => self.refused(refusal),
@@ -190,8 +190,8 @@ impl Asked {
         let mut words = vec![says(0, 0, self.samples - from)];
         // A re-render hands back no state.
         words.extend(if self.op == RERENDER { self.state } else { player.words() });
-        words.extend(played.samples);
         words.extend(played.scales.into_iter().take(self.scales() as usize));
+        words.extend(played.samples);
         words.extend(played.shelf.into_iter().take(self.shelf as usize));
         words
     }

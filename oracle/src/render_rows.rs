@@ -1,7 +1,7 @@
 //! Rows of the render: op, how many words follow the row's first 38, rate, waveform (0 Sine to 4 Pulse, in the
 //! original's order), duty, the four settings, samples asked for, bytes of the score, words of the shelf, position, the
-//! given state; then answer, the state after. Then the score's bytes, with zeros up to a whole word, every
-//! sample, of a sine that was played also level times velocity at every sample, and every word of the shelf.
+//! given state; then answer, the state after. Then the score's bytes, with zeros up to a whole word, of a
+//! sine that was played level times velocity at every sample, every sample, and every word of the shelf.
 //! All are u64, every float as its bits; a state is the twelve words of a shelf entry.
 //!
 //! `continue` takes a position and a state and has no shelf; only Pulse has a duty. The samples are 42 each before

@@ -138,9 +138,10 @@ static void read_asked(struct rows *rows, struct asked *a) {
     a->score = take_bytes(&here, a->len);
     a->old = take_bytes(&here, a->old_len);
     a->found = here;
-    a->samples = is_edit ? here + a->n + a->words : here;
-    a->scales = is_sine ? a->samples + a->n : NULL;
-    a->shelf = a->samples + (is_sine ? 2 : 1) * a->n;
+    if (is_edit) here += a->n + a->words;
+    a->scales = is_sine ? here : NULL;
+    a->samples = is_sine ? here + a->n : here;
+    a->shelf = a->samples + a->n;
     a->records = (struct records){a->score, a->len / RECORD};
 }
 

@@ -2,7 +2,6 @@
 // phase after the call and every sample are compared bit for bit; but the samples of a sine, which is ours, must lie within
 // 0.000001 of the original's, times the depth.
 use crate::fields;
-use crate::tally;
 use crate::tally::Finding;
 use answers::Answer;
 use lfo::LfoBlock;
@@ -26,9 +25,11 @@ pub fn compared(row: &[u8]) -> Finding {
     judged(row, &mut out[0..lent])
 }
 
+// The depth is the scale of all samples.
 fn judged(row: &[u8], out: &mut [f64]) -> Finding {
     let told = is_called(row, out);
-    let found = compared_samples(row, out);
+    let shape = words::u64_at(row, 8);
+    let found = fields::compared(row, shape, words::u64_at(row, 64), ROW, 40, 0, out);
     Finding {
         equal: told & found.equal & (out.len() as u64 == words::u64_at(row, MORE)),
         farthest: found.farthest,
@@ -104,12 +105,4 @@ fn lfo_of(row: &[u8]) -> LfoBlock {
 
 fn is_outcome(row: &[u8], answer: Answer, phase: f64) -> bool {
     fields::says(answer, words::u64_at(row, 64)) & fields::is_word(row, 72, phase)
-}
-
-// A sine is measured where the original was asked; a refusal has left every number as it was. The depth is the scale of all.
-fn compared_samples(row: &[u8], samples: &[f64]) -> Finding {
-    if (words::u64_at(row, 8) == 0) & (words::u64_at(row, 64) % 256 == 0) {
-        return fields::measured(row, ROW, 40, 0, samples);
-    }
-    tally::exactly(fields::are_floats(row, ROW, samples))
 }

@@ -111,21 +111,39 @@ pub fn are_slots(row: &[u8], first: usize, slots: &[f64; 8]) -> bool {
     are_floats(row, first, slots)
 }
 
-// How far a sine's samples are off those from a byte of the row on. Each has a scale, which says how far it may be off: the
-// first one's stands at `scales`, the next one's so many bytes on.
-pub fn measured(row: &[u8], first: usize, scales: usize, step: usize, samples: &[f64]) -> Finding {
-    let mut found = Finding {
-        equal: true,
+// Whether the samples are those from a byte of the row on. Where the row has a sine and its call was done, they are measured; a
+// refusal has left every number as it was. A sine's samples have scales: the first one's stands at `scales`, the next one's
+// so many bytes on.
+pub fn compared(
+    row: &[u8],
+    shape: u64,
+    answer: u64,
+    first: usize,
+    scales: usize,
+    step: usize,
+    samples: &[f64],
+) -> Finding {
+    if (shape == 0) & (answer % 256 == 0) {
+        return measured(row, first, scales, step, samples);
+    }
+    Finding {
+        equal: are_floats(row, first, samples),
         farthest: 0.0,
-    };
+    }
+}
+
+// How far a sine's samples are off, and whether each is no farther off than its scale lets it be.
+fn measured(row: &[u8], first: usize, scales: usize, step: usize, samples: &[f64]) -> Finding {
+    let mut equal = true;
+    let mut farthest = 0.0;
     let mut scale = scales;
     let mut i = 0;
     while i < samples.len() {
         let off = nearness::apart(samples[i], float_at(row, after(first, i)));
-        found.equal = found.equal & (off <= nearness::NEAR * float_at(row, scale));
-        found.farthest = nearness::larger(off, found.farthest);
+        equal = equal & (off <= nearness::NEAR * float_at(row, scale));
+        farthest = nearness::larger(off, farthest);
         scale = std::num::wrapping_add_usize(scale, step);
         i += 1;
     }
-    found
+    Finding { equal, farthest }
 }

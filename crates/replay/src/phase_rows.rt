@@ -4,7 +4,6 @@ use answers::Answer;
 use phase::Changed;
 use phase::Cycles;
 use phase::PhaseAccumulator;
-use phase::Shown;
 
 pub const ROW: usize = 36;
 
@@ -49,16 +48,13 @@ fn set(row: &[u8], given: PhaseAccumulator) -> Changed {
 
 // A getter hands back no state: the one that was given.
 fn is_shown(row: &[u8]) -> bool {
-    let got = shown(row, given(row));
+    let got = if words::u32_at(row, 0) == 2 {
+        given(row).increment()
+    } else {
+        given(row).phase()
+    };
     let answer = got.answer;
     is_outcome(row, answer, got.cycles.0, given(row))
-}
-
-fn shown(row: &[u8], given: PhaseAccumulator) -> Shown {
-    match words::u32_at(row, 0) {
-        2 => given.increment(),
-        _ => given.phase(),
-    }
 }
 
 fn is_stepped(row: &[u8]) -> bool {

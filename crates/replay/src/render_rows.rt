@@ -3,7 +3,6 @@
 // 0.000001 times level times velocity. A re-render's row has, before the samples that it must leave, its old score and the
 // samples and the shelf that it finds.
 use crate::fields;
-use crate::tally;
 use crate::tally::Finding;
 use envelope::Adsr;
 use render::Rendered;
@@ -28,24 +27,19 @@ pub fn compared(row: &[u8]) -> Finding {
     judged(row, &mut out[0..samples], &mut shelf[0..kept])
 }
 
-// The shelf is the last that a row has; before it stand the samples, of a sine the scales between.
+// The shelf is the last that a row has; before it stand the samples, and before those of a sine their scales.
 fn judged(row: &[u8], out: &mut [f64], shelf: &mut [u64]) -> Finding {
     let told = is_called(row, out, shelf);
     let end = fields::after(ROW, words::u64_at(row, MORE) as usize);
     let first = fields::before(end, shelf.len());
-    let found = compared_samples(row, fields::before(first, out.len()), out);
+    let samples = fields::before(first, out.len());
+    let scales = fields::before(samples, out.len());
+    let shape = words::u64_at(row, 24);
+    let found = fields::compared(row, shape, words::u64_at(row, 200), samples, scales, 8, out);
     Finding {
         equal: told & found.equal & fields::are_words(row, first, shelf),
         farthest: found.farthest,
     }
-}
-
-// A sine is measured where the original was asked; a refusal has left every number as it was.
-fn compared_samples(row: &[u8], last: usize, samples: &[f64]) -> Finding {
-    if (words::u64_at(row, 24) == 0) & (words::u64_at(row, 200) % 256 == 0) {
-        return fields::measured(row, fields::before(last, samples.len()), last, 8, samples);
-    }
-    tally::exactly(fields::are_floats(row, last, samples))
 }
 
 // Whether the call answers what it must, and the state after it is the one that it must be.

@@ -2,7 +2,6 @@
 // state after with its held keys, which are 0 beyond their count.
 use crate::fields;
 use answers::Answer;
-use voice::Changed;
 use voice::VoiceState;
 use voice::keys::ActiveNote;
 use voice::keys::Keys;
@@ -25,17 +24,14 @@ pub fn is_equal(row: &[u8]) -> bool {
 }
 
 fn is_changed(row: &[u8]) -> bool {
-    let got = changed(row, given(row));
+    let got = if words::u32_at(row, 0) == 0 {
+        given(row).note_on(byte_at(row, 56), byte_at(row, 60))
+    } else {
+        given(row).reset()
+    };
     let answer = got.answer;
     let after = got.voice;
     is_outcome(row, answer, 0, after)
-}
-
-fn changed(row: &[u8], given: VoiceState) -> Changed {
-    if words::u32_at(row, 0) == 0 {
-        return given.note_on(byte_at(row, 56), byte_at(row, 60));
-    }
-    given.reset()
 }
 
 fn is_lifted(row: &[u8]) -> bool {

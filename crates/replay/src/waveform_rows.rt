@@ -10,7 +10,14 @@ pub const ROW: usize = 136;
 pub fn is_equal(row: &[u8]) -> bool {
     match words::u64_at(row, 0) {
         0 | 1 => is_block(row),
-        2 => is_alone(row, sampled(row)),
+        2 => is_alone(
+            row,
+            waveform::sample(
+                fields::waveform_of(row, 8),
+                fields::float_at(row, 24),
+                fields::float_at(row, 32),
+            ),
+        ),
         3 => is_alone(row, sine::sine(fields::float_at(row, 24))),
         _ => false,
     }
@@ -30,14 +37,6 @@ fn is_alone(row: &[u8], got: Value) -> bool {
     fields::is_value(row, 56, 72, got)
         & fields::is_word(row, 64, 0.0)
         & fields::are_floats(row, 80, &[fields::UNWRITTEN; 7])
-}
-
-fn sampled(row: &[u8]) -> Value {
-    waveform::sample(
-        fields::waveform_of(row, 8),
-        fields::float_at(row, 24),
-        fields::float_at(row, 32),
-    )
 }
 
 // Only a block reduces the phase.

@@ -6,10 +6,10 @@ use Rattle.replay.proofs.fields.measured.Statement.{statement}
 use Rattle.replay.proofs.fields.measured.Tie as tie
 
 abbrev Inv-loop : tie.InvT-loop
-Inv-loop row first scales step samples found₀ scale₀ i₀ found scale i = Unit
+Inv-loop row first scales step samples equal₀ farthest₀ scale₀ i₀ equal farthest scale i = Unit
 
 abbrev μ-loop : tie.MeasureT-loop
-μ-loop row first scales step samples found₀ scale₀ i₀ found scale i = length samples - i
+μ-loop row first scales step samples equal₀ farthest₀ scale₀ i₀ equal farthest scale i = length samples - i
 
 loop-holds : tie.Need-loop-holds Inv-loop μ-loop
 loop-holds c = search needs
