@@ -10,7 +10,6 @@ use borrow.Author.Tests.{lt-ltb, le-ltb, eq-eqb, ne-eqb, eqb-true, eqb-false, lt
 use Rattle.score.specs.Record.{countOf, positionAt}
 use Rattle.score.proofs.Codec.{both, either}
 use Rattle.score.proofs.Parted.{clash}
-use Rattle.spans.specs.declared.Place.{Place}
 use Rattle.spans.specs.declared.Walker.{Walker}
 use Rattle.spans.specs.Walk.{standsAt, beginsAt}
 use Rattle.spans.specs.Walker.{standsIn, isMark, beginsIn, Sees, FirstAfter}

@@ -1,9 +1,8 @@
 -- `spans::play_short` meets its contract. Assumes nothing.
 use borrow.Author.Needs.{needs}
-use mathlib.Core.Path.{_≡_, sym}
+use mathlib.Core.Path.{sym}
 use mathlib.Core.List.{[]}
 use native.Mathlib.Omega.{arith}
-use lib.ListN.{length}
 use Rattle.waveform.proofs.Lent.{table-unread}
 use Rattle.spans.proofs.play_short.Statement.{statement}
 use Rattle.spans.proofs.play_short.Tie as tie
