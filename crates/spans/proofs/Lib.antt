@@ -5,7 +5,7 @@ pub mod Offsets
 pub mod Acting
 -- a span: the waveform's inner loop and the envelope's pass over it give its samples
 pub mod Sounding
--- a turn of a loop over the spans, and what the two loops share
+-- a turn of the loop over the spans, and how far the loop has come
 pub mod Turns
 pub mod Loops
 -- cut anywhere: a walk of j samples and then one of k are one of j + k

@@ -18,6 +18,9 @@ const BLOCK: u64 = 64;
 // How many samples of a sine pay for the whole wave.
 const LONG: usize = 1024;
 
+// How many samples a call makes at most.
+const MOST: usize = 16777216;
+
 // The state before a sample is begun, and the first record that has not acted.
 pub struct Place {
     pub state: State,
@@ -49,6 +52,9 @@ pub fn play(
         if LONG <= part.len() {
             return play_long(settings, score, place, position, part);
         }
+    }
+    if MOST < part.len() {
+        return play_long(settings, score, place, position, part);
     }
     play_short(settings, score, place, position, part)
 }

@@ -16,20 +16,19 @@ use Rattle.waveform.proofs.Steps.{samples-same}
 pub filled-as : (value other : Float → Float) (p step scale : Float) (before after : List Float) (r : Radians) → ((q : Float) → value q ≡ other q) → FilledBy value p step scale before after r → FilledBy other p step scale before after r
 filled-as value other p step scale before after r e f = record { samples = f .samples ∙ samples-same value other step scale p e (length before); phase = f .phase }
 
-module _ (W : List Float) where
-  -- a sine reads a table that is as long as the whole wave
-  pub table-read : (step q : Float) → length W ≡ 4097 → wholeReading W (normalOf q) ≡ valueIn W Sine step q
-  unfolding valueIn
-  table-read step q l = rw l refl
+-- a sine reads a table that is as long as the whole wave
+pub table-read : (W : List Float) (step q : Float) → length W ≡ 4097 → wholeReading W (normalOf q) ≡ valueIn W Sine step q
+unfolding valueIn
+table-read W step q l = rw l refl
 
-  -- no other waveform does, and no other table is read
-  pub table-unread : (w : Waveform) (step q : Float) → (w ≡ Sine → length W ≡ 4097 → ⊥) → valueAt w step q ≡ valueIn W w step q
-  unfolding valueIn
-  table-unread Sine step q n = rw (ne-eqb (length W) 4097 (n refl)) refl
-  table-unread Square step q n = refl
-  table-unread Sawtooth step q n = refl
-  table-unread Triangle step q n = refl
-  table-unread (Pulse duty) step q n = refl
+-- no other waveform does, and no other table is read
+pub table-unread : (W : List Float) (w : Waveform) (step q : Float) → (w ≡ Sine → length W ≡ 4097 → ⊥) → valueAt w step q ≡ valueIn W w step q
+unfolding valueIn
+table-unread W Sine step q n = rw (ne-eqb (length W) 4097 (n refl)) refl
+table-unread W Square step q n = refl
+table-unread W Sawtooth step q n = refl
+table-unread W Triangle step q n = refl
+table-unread W (Pulse duty) step q n = refl
 
 -- of the whole wave the value is the waveform's own
 pub whole-value : (w : Waveform) (step q : Float) → valueIn wholeWave w step q ≡ valueAt w step q

@@ -198,10 +198,11 @@ pub fn fill_in(
 ) -> Radians
     ensures { λ r. ⌜ FilledBy (valueIn (now (wave .entry)) waveform (step .0)) (start .0) (step .0) scale (now (out .entry)) (now (out .exit)) r ⌝ }
 {
+    if wave.len() != 4097 {
+        return fill(out, waveform, start, step, scale);
+    }
     if let Waveform::Sine = waveform {
-        if wave.len() == 4097 {
-            return fill_wave(wave, out, start, step, scale);
-        }
+        return fill_wave(wave, out, start, step, scale);
     }
     fill(out, waveform, start, step, scale)
 }
