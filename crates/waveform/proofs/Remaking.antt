@@ -26,8 +26,8 @@ use Rattle.polyblep.specs.declared.Side.the-variants.{After, Before, Away}
 use Rattle.waveform.specs.declared.Radians.{Radians}
 use Rattle.waveform.specs.declared.Waveform.{Waveform}
 use Rattle.waveform.specs.Waveform.{valueOf, turnedOf, normalOf, invTau, radians}
-use Rattle.waveform.specs.Filled.{phaseFrom, samplesBy, Filled}
-use Rattle.waveform.specs.Parts.{least, most, AllParts, madeOf, Remade}
+use Rattle.waveform.specs.Filled.{phaseFrom, samplesBy, FilledBy, Filled}
+use Rattle.waveform.specs.Parts.{least, most, AllParts, madeOf, leftOf, Remade}
 use Rattle.waveform.proofs.Steps.{phase-more}
 
 -- ---- a list made anew
@@ -94,17 +94,28 @@ module _ (step p : Float) where
       let e : i ≡ length ys = omega (arith, u .within) in
       (rw (← u .size, ← e) (sym (take-all i ys h) ∙ u .phases), rw (← u .size, ← e) (ap radians (u .phase)))
 
-  -- values of what is left of the phases are the samples of a waveform
-  pub combined : (w : Waveform) (dt scale : Float) (xs ys zs vs : List Float) (r : Radians) → dt ≡ step ⊗ invTau → (ys ≡ listed (phaseFrom step p) (length xs)) × (r ≡ radians (phaseFrom step p (length xs))) → zs ≡ madeOf turnedOf ys (length ys)
-      → vs ≡ madeOf (λ (x : Float). valueOf w (x ⊗ invTau) dt ⊗ scale) zs (length zs) → Filled w p step scale xs vs r
+  -- what is left of them
+  pub left-is : (n : ℕ) (ys zs : List Float) → ys ≡ listed (phaseFrom step p) n → zs ≡ madeOf turnedOf ys (length ys) → zs ≡ leftOf step p n
+  left-is n ys zs e h = h ∙ rw (e, listed-length (phaseFrom step p) n) refl
+
+  -- values of what is left are the samples of a block
+  pub made-block : (value : Float → Float) (scale : Float) (xs zs vs : List Float) (r : Radians) → zs ≡ leftOf step p (length xs) → r ≡ radians (phaseFrom step p (length xs))
+      → vs ≡ madeOf (λ (x : Float). value (x ⊗ invTau) ⊗ scale) zs (length zs) → FilledBy (λ (q : Float). value (normalOf q)) p step scale xs vs r
   unfolding madeOf samplesBy
-  combined w dt scale xs ys zs vs r d (phases, end) e m =
-      let long : length ys ≡ length xs = ap length phases ∙ listed-length _ (length xs) in
+  made-block value scale xs zs vs r e end m =
+      let n = length xs in
+      let ys = listed (phaseFrom step p) n in
+      let long : length zs ≡ n = ap length e ∙ made-length turnedOf ys n in
       record {
-        samples = made-twice turnedOf (λ (x : Float). valueOf w (x ⊗ invTau) dt ⊗ scale) (λ (q : Float). valueOf w (normalOf q) dt ⊗ scale) ys zs vs e m (λ i l. refl)
-            ∙ rw (long, d) (listed-same _ _ (length xs) (λ i l. ap (λ (q : Float). valueOf w (normalOf q) (step ⊗ invTau) ⊗ scale) (ap (λ (l : List Float). getD l i nan) phases ∙ listed-at _ (length xs) i nan l)));
+        samples = m ∙ rw long (listed-same _ _ n (λ i l. ap (λ (x : Float). value (x ⊗ invTau) ⊗ scale) (ap (λ (l : List Float). getD l i nan) e ∙ made-at turnedOf ys n i l ∙ ap turnedOf (listed-at (phaseFrom step p) n i nan l))));
         phase = end;
       }
+
+  -- of a waveform
+  pub combined : (w : Waveform) (dt scale : Float) (xs ys zs vs : List Float) (r : Radians) → dt ≡ step ⊗ invTau → (ys ≡ listed (phaseFrom step p) (length xs)) × (r ≡ radians (phaseFrom step p (length xs))) → zs ≡ madeOf turnedOf ys (length ys)
+      → vs ≡ madeOf (λ (x : Float). valueOf w (x ⊗ invTau) dt ⊗ scale) zs (length zs) → Filled w p step scale xs vs r
+  combined w dt scale xs ys zs vs r d (phases, end) e m =
+      made-block (λ (u : Float). valueOf w u (step ⊗ invTau)) scale xs zs vs r (left-is (length xs) ys zs phases e) end (subst (λ (t : Float). vs ≡ madeOf (λ (x : Float). valueOf w (x ⊗ invTau) t ⊗ scale) zs (length zs)) d m)
 
 -- ---- both sides of an edge worked out, and one taken
 abbrev flatX : Float → Float → Float

@@ -3,12 +3,14 @@ use mathlib.Core.Path.{_≡_, sym, _∙_}
 use mathlib.Core.Bool.{Bool}
 use mathlib.Core.List.{List}
 use Prim.Native.Nat.{ℕ}
+use lib.ListN.{length}
 use lib.Ieee.{Float}
 use Rattle.answers.specs.declared.Value.{Value}
 use Rattle.waveform.specs.declared.Radians.{Radians}
 use Rattle.waveform.specs.declared.Waveform.{Waveform}
 use Rattle.waveform.specs.Waveform.{isWaveform, valueOf, sampleOf, normalOf, reduceOf, incrementOf, radians}
-use Rattle.waveform.specs.Filled.{Filled, FilledBy, valueAt, valueIn}
+use Rattle.waveform.specs.Filled.{phaseFrom, Filled, FilledBy, valueAt, valueIn}
+use Rattle.waveform.specs.Parts.{leftOf}
 
 pub sample-unique : (w : Waveform) (phase dt : Float) (r t : Value) → r ≡ sampleOf w phase dt → t ≡ sampleOf w phase dt → r ≡ t
 sample-unique w phase dt r t p q = p ∙ sym q
@@ -38,3 +40,7 @@ fill-unique w start step scale before a b r t p q = (p .samples ∙ sym (q .samp
 pub fill-in-unique : (wave : List Float) (w : Waveform) (start step scale : Float) (before a b : List Float) (r t : Radians) → FilledBy (valueIn wave w step) start step scale before a r
     → FilledBy (valueIn wave w step) start step scale before b t → (a ≡ b) × (r ≡ t)
 fill-in-unique wave w start step scale before a b r t p q = (p .samples ∙ sym (q .samples), p .phase ∙ sym (q .phase))
+
+pub fill-left-unique : (start step : Float) (before a b : List Float) (r t : Radians) → (a ≡ leftOf step start (length before)) × (r ≡ radians (phaseFrom step start (length before)))
+    → (b ≡ leftOf step start (length before)) × (t ≡ radians (phaseFrom step start (length before))) → (a ≡ b) × (r ≡ t)
+fill-left-unique start step before a b r t p q = (p .0 ∙ sym (q .0), p .1 ∙ sym (q .1))

@@ -9,7 +9,8 @@ use lib.Ieee.{Float, nan, binary64, ofBits, lt, fits}
 use Rattle.runs.specs.Runs.{listed}
 use Rattle.floats.specs.Range.{nonneg, within}
 use Rattle.floats.specs.Double.{_⊖_, _⊗_, naught, one}
-use Rattle.waveform.specs.Waveform.{invTau}
+use Rattle.waveform.specs.Waveform.{invTau, turnedOf}
+use Rattle.waveform.specs.Filled.{phaseFrom}
 
 -- 2^-10 and 1 - 2^-10
 abbrev pub least : Float
@@ -58,6 +59,10 @@ AllParts xs = (i : ℕ) → i < length xs → T (within naught one (getD xs i na
 -- what is made of the first k numbers
 unfoldable pub madeOf : (Float → Float) → List Float → ℕ → List Float
 madeOf value xs k = listed (λ (i : ℕ). value (getD xs i nan)) k
+
+-- what is left over TAU of the phases before the first n samples
+abbrev pub leftOf : Float → Float → ℕ → List Float
+leftOf step p n = madeOf turnedOf (listed (phaseFrom step p) n) n
 
 -- of a list that held xs the first i numbers are made so, and the others are as they were
 pub record Remade (value : Float → Float) (xs ys : List Float) (i : ℕ) : Type 0 where

@@ -4,10 +4,12 @@
 ghost use mathlib.Core.Path.{_≡_};
 ghost use Prim.Native.Nat.{_*_, _^_};
 ghost use lib.Dec.{T};
+ghost use lib.ListN.{length};
 ghost use lib.Ieee.{Float, binary64, ofBits, lt, le};
 ghost use lib.Ieee.Positive.{num, den};
 ghost use Rattle.waveform.specs.Waveform.{isWaveform, valueOf, sampleOf, turnedOf, normalOf, reduceOf, incrementOf, radians, tau, invTau};
 ghost use Rattle.waveform.specs.Filled.{Filled, FilledBy, valueAt, valueIn};
+ghost use Rattle.waveform.specs.Parts.{madeOf};
 ghost use Rattle.waveform.specs.declared.Waveform.the-variants.{Sine};
 ghost use Rattle.floats.specs.Double.{_⊗_};
 ghost use Rattle.sine.specs.Whole.{wholeReading};
@@ -207,16 +209,24 @@ pub fn fill_in(
     fill(out, waveform, start, step, scale)
 }
 
+// What is left of the phases over TAU stands in the output first, as in a note of few samples a cycle.
 fn fill_wave(wave: &[f64], out: &mut [f64], start: Radians, step: Radians, scale: f64) -> Radians
     ensures { λ r. ⌜ FilledBy (λ (p : Float). wholeReading (now (wave .entry)) (normalOf p)) (start .0) (step .0) scale (now (out .entry)) (now (out .exit)) r ⌝ }
 {
-    let mut angle = start.0;
+    let end = steep::fill_left(out, start, step);
+    read_wave(wave, out, scale);
+    end
+}
+
+// The readings of what is left of phases.
+fn read_wave(wave: &[f64], out: &mut [f64], scale: f64)
+    ensures { λ r. ⌜ now (out .exit) ≡ madeOf (λ (x : Float). wholeReading (now (wave .entry)) (x ⊗ invTau) ⊗ scale) (now (out .entry)) (length (now (out .entry))) ⌝ }
+{
     let mut i = 0;
     while i < out.len() {
-        let t = normalised(Radians(angle));
-        out[i] = sine::whole_reading(wave, t) * scale;
-        angle = angle + step.0;
+        let x = out[i];
+        let u = in_cycles(Radians(x));
+        out[i] = sine::whole_reading(wave, u) * scale;
         i += 1;
     }
-    Radians(angle)
 }

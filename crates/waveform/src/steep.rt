@@ -12,7 +12,7 @@ ghost use Rattle.floats.specs.Double.{_⊗_, naught, one, two};
 ghost use Rattle.polyblep.specs.Polyblep.{fractOf, blepOf, blampOf, sawOf, squareOf, pulseOf, triangleOf};
 ghost use Rattle.waveform.specs.Waveform.{valueOf, turnedOf, invTau, radians};
 ghost use Rattle.waveform.specs.Filled.{phaseFrom, Filled};
-ghost use Rattle.waveform.specs.Parts.{fourTau, eightTau, manyTau, farthest, sixteen, foldOf, AllBelow, AllParts, madeOf};
+ghost use Rattle.waveform.specs.Parts.{fourTau, eightTau, manyTau, farthest, sixteen, foldOf, AllBelow, AllParts, madeOf, leftOf};
 use crate::Radians;
 use crate::TAU;
 use crate::TWO_TAU;
@@ -51,6 +51,19 @@ pub fn fill(
     end
 }
 
+// What is left over TAU of the phases before the samples, and the phase after them.
+pub fn fill_left(out: &mut [f64], start: Radians, step: Radians) -> Radians
+    ensures { λ r. ⌜ (now (out .exit) ≡ leftOf (step .0) (start .0) (length (now (out .entry)))) × (r ≡ radians (phaseFrom (step .0) (start .0) (length (now (out .entry))))) ⌝ }
+{
+    let end = fill_phases(out, start, step);
+    if is_steady(start, step) {
+        turn(out, end);
+        return end;
+    }
+    turn_any(out);
+    end
+}
+
 // The phases before the samples, and the one after them.
 fn fill_phases(out: &mut [f64], start: Radians, step: Radians) -> Radians
     ensures { λ r. ⌜ (now (out .exit) ≡ listed (phaseFrom (step .0) (start .0)) (length (now (out .entry)))) × (r ≡ radians (phaseFrom (step .0) (start .0) (length (now (out .entry))))) ⌝ }
@@ -78,6 +91,10 @@ fn turn(out: &mut [f64], end: Radians)
     requires { ⌜ ((bound : Float) → T (finite bound) → T (lt (end .0) bound) → AllBelow bound (now out)) ⌝ }
     ensures { λ r. ⌜ now (out .exit) ≡ madeOf turnedOf (now (out .entry)) (length (now (out .entry))) ⌝ }
 {
+    if end.0 < TWO_TAU {
+        fold(out, Radians(TAU));
+        return;
+    }
     if end.0 < FOUR_TAU {
         turn_four(out);
         return;
