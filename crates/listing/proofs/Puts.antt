@@ -20,7 +20,8 @@ use Rattle.score.specs.Score.{verdictOf}
 use Rattle.score.proofs.Verdicts.{accepted-first, faulty-first}
 use Rattle.score.proofs.Cuts.{accepted-count}
 use Rattle.listing.specs.Listing.{space, newline, refusedWord, decimalOf, lineOf, linesTo, acceptedText, refusedText, listingOf}
-use Rattle.listing.specs.Outcome.{Put, Listed}
+use Rattle.listing.specs.Outcome.{Listed}
+use Rattle.listing.specs.Inner.{Put}
 
 -- no text
 pub put-none : (x : List ℕ) (at : ℕ) → at ≤ length x → Put [] x at x at

@@ -1,18 +1,11 @@
--- What a buffer holds after a text was put into it. Definitions only.
+-- What the call leaves in a buffer. Definitions only.
 use mathlib.Core.Path.{_≡_}
 use mathlib.Core.Bool.{cond}
 use mathlib.Core.List.{List, _++_}
-use Prim.Native.Nat.{ℕ, _+_, _≤_}
+use Prim.Native.Nat.{ℕ, _≤_}
 use lib.Dec.{ltb}
-use lib.ListN.{length, take, drop}
+use lib.ListN.{length, drop}
 use Rattle.listing.specs.Listing.{listingOf}
-
--- the text stands from `at` on, the rest is as it came, and `next` is the index after the text
-pub record Put (text before : List ℕ) (at : ℕ) (after : List ℕ) (next : ℕ) : Type 0 where
-  pub room : at + length text ≤ length before
-  pub same-length : length after ≡ length before
-  pub moved : next ≡ at + length text
-  pub bytes : after ≡ take at before ++ text ++ drop (at + length text) before
 
 -- the call's outcome: the listing at the front and its length, the rest as it came; nothing and 0 where the buffer has fewer than 102,413 bytes, more than any listing has
 pub record Listed (score before after : List ℕ) (count : ℕ) : Type 0 where

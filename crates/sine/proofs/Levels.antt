@@ -22,7 +22,8 @@ use Rattle.runs.proofs.Listed.{listed-more, listed-at}
 use Rattle.floats.specs.Double.{_⊖_, naught}
 use Rattle.sine.specs.Table.{quarter, entryOf}
 use Rattle.sine.specs.Sine.{float, startOf}
-use Rattle.sine.specs.Whole.{levelOf, levels, wholeWave, Unfolded}
+use Rattle.sine.specs.Whole.{levelOf, levels, wholeWave}
+use Rattle.sine.specs.Inner.{Unfolded}
 use Rattle.sine.proofs.Wholes.{Sized, sized-more}
 use Rattle.sine.proofs.Bounds.{start-sized}
 

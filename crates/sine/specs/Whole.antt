@@ -2,11 +2,10 @@
 -- is read as i = 0, f = 0 .. The answer is (a + (b - a)*f)/2^30". Of the wave it is the reading of the quarter (proofs/Whole.antt). Definitions only.
 use mathlib.Core.Bool.{cond, _&&_}
 use mathlib.Core.List.{List}
-use mathlib.Core.Path.{_≡_}
 use Prim.Native.Nat.{ℕ, _+_, _/_, _%_}
 use lib.IntN.{pos}
 use lib.Dec.{eqb}
-use lib.ListN.{length, getD, take}
+use lib.ListN.{length, getD}
 use lib.Ieee.{Float, nan}
 use Rattle.runs.specs.Runs.{listed}
 use Rattle.floats.specs.Range.{within}
@@ -25,11 +24,6 @@ levels k = listed levelOf k
 -- from point 0 to point 4096, where the wave begins again
 abbrev pub wholeWave : List Float
 wholeWave = levels 4097
-
--- the first n are written in a table that has room for all. This serves the private functions that write them; no public statement cites it
-pub record Unfolded (n : ℕ) (wave : List Float) : Type 0 where
-  pub size : length wave ≡ 4097
-  pub points : take n wave ≡ levels n
 
 -- ---- the reading of a table W
 abbrev pub wholeLine : List Float → ℕ → Float → Float

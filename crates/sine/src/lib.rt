@@ -8,7 +8,8 @@ ghost use Rattle.floats.specs.Range.{within};
 ghost use Rattle.floats.specs.Double.{naught};
 ghost use Rattle.sine.specs.Table.{quarter};
 ghost use Rattle.sine.specs.Sine.{steps, wholePart, float, signedOf, lineOf, betweenOf, pointOf, readingIn, readingOf, sineOf};
-ghost use Rattle.sine.specs.Whole.{wholeWave, Unfolded, wholePointOf, wholeReading};
+ghost use Rattle.sine.specs.Whole.{wholeWave, wholePointOf, wholeReading};
+ghost use Rattle.sine.specs.Inner.{Unfolded};
 use answers::Refusal;
 use answers::Value;
 

@@ -26,9 +26,8 @@ use Rattle.floats.proofs.Ranges.{rem-ge0, rem-le, ge0-positive, add-grows, with
 use Rattle.floats.proofs.Remainder.{mod-scale, rem-value, rem-lt}
 use Rattle.floats.proofs.Units.{rem-below, rem-once}
 use Rattle.waveform.specs.Waveform.{tau, turnedOf}
-use Rattle.waveform.specs.Lines.{twoTau}
 use Rattle.waveform.specs.Filled.{phaseFrom}
-use Rattle.waveform.specs.Parts.{fourTau, eightTau, halfManyTau, manyTau, farthest, sixteen, foldOf, Below, AllBelow, AllParts, madeOf}
+use Rattle.waveform.specs.Inner.{twoTau, fourTau, eightTau, halfManyTau, manyTau, farthest, sixteen, foldOf, Below, AllBelow, AllParts, madeOf}
 use Rattle.waveform.proofs.Normal.{tau-positive, normal-in}
 use Rattle.waveform.proofs.Steps.{phase-more}
 use Rattle.waveform.proofs.Values.{Near, phase-near}

@@ -16,7 +16,7 @@ use Rattle.floats.specs.Double.{_⊕_, _⊗_}
 use Rattle.waveform.specs.Waveform.{radians}
 use Rattle.waveform.specs.Filled.{phaseFrom, samplesBy, FilledBy}
 use Rattle.waveform.specs.declared.lines.Stretch.{Stretch}
-use Rattle.waveform.specs.Lines.{lineOf, partOf, lies, Straight, Upto, Onward}
+use Rattle.waveform.specs.Inner.{lineOf, partOf, lies, Straight, Upto, Onward}
 use Rattle.waveform.proofs.Steps.{phase-more, samples-more}
 
 module _ (value : Float → Float) (step scale p₀ : Float) (before : List Float) where

@@ -27,7 +27,7 @@ use Rattle.waveform.specs.declared.Radians.{Radians}
 use Rattle.waveform.specs.declared.Waveform.{Waveform}
 use Rattle.waveform.specs.Waveform.{valueOf, turnedOf, normalOf, invTau, radians}
 use Rattle.waveform.specs.Filled.{phaseFrom, samplesBy, FilledBy, Filled}
-use Rattle.waveform.specs.Parts.{least, most, AllParts, madeOf, leftOf, Remade}
+use Rattle.waveform.specs.Inner.{least, most, AllParts, madeOf, leftOf, Remade}
 use Rattle.waveform.proofs.Steps.{phase-more}
 
 -- ---- a list made anew

@@ -25,7 +25,7 @@ use Rattle.waveform.specs.declared.lines.Line.the-variants.{High, Low, C
 use Rattle.waveform.specs.declared.lines.Stretch.{Stretch}
 use Rattle.waveform.specs.declared.lines.Guess.{Guess}
 use Rattle.waveform.specs.declared.Radians.{Radians}
-use Rattle.waveform.specs.Lines.{lineOf, baseOf, isOneCycle, isClear, partOf, twoTau, goesUp, lies, Inside, Straight, TwoLines, stretchOf}
+use Rattle.waveform.specs.Inner.{lineOf, baseOf, isOneCycle, isClear, partOf, twoTau, goesUp, lies, Inside, Straight, TwoLines, stretchOf}
 use Rattle.waveform.proofs.Normal.{tau-positive, rem-nonneg, inv-nonneg}
 use Rattle.waveform.proofs.Turns.{far, next-cycle}
 

@@ -20,7 +20,7 @@ use Rattle.floats.proofs.Pattern.{fieldsOf}
 use Rattle.floats.proofs.Fields.{crossed, field-ge, field-lt}
 use Rattle.floats.proofs.Units.{rem-below, rem-once, rem-units}
 use Rattle.waveform.specs.Waveform.{tau}
-use Rattle.waveform.specs.Lines.{twoTau}
+use Rattle.waveform.specs.Inner.{twoTau}
 use Rattle.waveform.proofs.Normal.{tau-positive, tau-nonneg}
 
 -- 2^14, and 2^50

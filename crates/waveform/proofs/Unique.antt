@@ -10,7 +10,7 @@ use Rattle.waveform.specs.declared.Radians.{Radians}
 use Rattle.waveform.specs.declared.Waveform.{Waveform}
 use Rattle.waveform.specs.Waveform.{isWaveform, valueOf, sampleOf, normalOf, reduceOf, incrementOf, radians}
 use Rattle.waveform.specs.Filled.{phaseFrom, Filled, FilledBy, valueAt, valueIn}
-use Rattle.waveform.specs.Parts.{leftOf}
+use Rattle.waveform.specs.Inner.{leftOf}
 
 pub sample-unique : (w : Waveform) (phase dt : Float) (r t : Value) → r ≡ sampleOf w phase dt → t ≡ sampleOf w phase dt → r ≡ t
 sample-unique w phase dt r t p q = p ∙ sym q

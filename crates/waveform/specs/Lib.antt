@@ -1,4 +1,3 @@
 pub mod Waveform
 pub mod Filled
-pub mod Lines
-pub mod Parts
+pub mod Inner

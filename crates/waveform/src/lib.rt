@@ -9,7 +9,7 @@ ghost use lib.Ieee.{Float, binary64, ofBits, lt, le};
 ghost use lib.Ieee.Positive.{num, den};
 ghost use Rattle.waveform.specs.Waveform.{isWaveform, valueOf, sampleOf, turnedOf, normalOf, reduceOf, incrementOf, radians, tau, invTau};
 ghost use Rattle.waveform.specs.Filled.{Filled, FilledBy, valueAt, valueIn};
-ghost use Rattle.waveform.specs.Parts.{madeOf};
+ghost use Rattle.waveform.specs.Inner.{madeOf};
 ghost use Rattle.waveform.specs.declared.Waveform.the-variants.{Sine};
 ghost use Rattle.floats.specs.Double.{_⊗_};
 ghost use Rattle.sine.specs.Whole.{wholeReading};

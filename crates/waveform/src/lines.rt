@@ -11,7 +11,7 @@ ghost use Rattle.polyblep.specs.declared.Side.the-variants.{Away};
 ghost use Rattle.polyblep.specs.Polyblep.{sideOf, fractOf, sawOf, pulseOf};
 ghost use Rattle.waveform.specs.Waveform.{valueOf, normalOf, radians};
 ghost use Rattle.waveform.specs.Filled.{Filled};
-ghost use Rattle.waveform.specs.Lines.{lineOf, partOf, baseOf, isOneCycle, isClear, goesUp, lies, Inside, Straight, TwoLines, stretchOf, Guessed, TwoSides, Onward, Further};
+ghost use Rattle.waveform.specs.Inner.{lineOf, partOf, baseOf, isOneCycle, isClear, goesUp, lies, Inside, Straight, TwoLines, stretchOf, Guessed, TwoSides, Onward, Further};
 use crate::Radians;
 use crate::TAU;
 use crate::TWO_TAU;

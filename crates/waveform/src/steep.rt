@@ -12,7 +12,7 @@ ghost use Rattle.floats.specs.Double.{_⊗_, naught, one, two};
 ghost use Rattle.polyblep.specs.Polyblep.{fractOf, blepOf, blampOf, sawOf, squareOf, pulseOf, triangleOf};
 ghost use Rattle.waveform.specs.Waveform.{valueOf, turnedOf, invTau, radians};
 ghost use Rattle.waveform.specs.Filled.{phaseFrom, Filled};
-ghost use Rattle.waveform.specs.Parts.{fourTau, eightTau, manyTau, farthest, sixteen, foldOf, AllBelow, AllParts, madeOf, leftOf};
+ghost use Rattle.waveform.specs.Inner.{fourTau, eightTau, manyTau, farthest, sixteen, foldOf, AllBelow, AllParts, madeOf, leftOf};
 use crate::Radians;
 use crate::TAU;
 use crate::TWO_TAU;

@@ -5,7 +5,7 @@ use native.Mathlib.Omega.{arith}
 use borrow.Author.Needs.{needs}
 use Rattle.listing.proofs.Puts.{put-next}
 use Rattle.listing.proofs.Puts.{put-none}
-use Rattle.listing.specs.Outcome.{Put}
+use Rattle.listing.specs.Inner.{Put}
 use Rattle.listing.specs.Listing.{linesTo}
 use Rattle.listing.proofs.put_lines.Statement.{statement}
 use Rattle.listing.proofs.put_lines.Tie as tie

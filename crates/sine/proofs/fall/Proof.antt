@@ -4,7 +4,7 @@ use mathlib.Core.Path.{_≡_, sym, _∙_}
 use Prim.Native.Nat.{_+_, _-_, _≤_}
 use native.Mathlib.Nat.{add-assoc}
 use native.Mathlib.Omega.{arith}
-use Rattle.sine.specs.Whole.{Unfolded}
+use Rattle.sine.specs.Inner.{Unfolded}
 use Rattle.sine.proofs.Levels.{level-fall, read, written}
 use Rattle.sine.proofs.fall.Statement.{statement}
 use Rattle.sine.proofs.fall.Tie as tie

@@ -4,7 +4,7 @@ use mathlib.Core.Path.{_≡_, sym}
 use Prim.Native.Nat.{_+_, _-_, _≤_}
 use native.Mathlib.Nat.{add-assoc}
 use native.Mathlib.Omega.{arith}
-use Rattle.sine.specs.Whole.{Unfolded}
+use Rattle.sine.specs.Inner.{Unfolded}
 use Rattle.sine.proofs.Levels.{level-negate, read, written}
 use Rattle.sine.proofs.negate.Statement.{statement}
 use Rattle.sine.proofs.negate.Tie as tie

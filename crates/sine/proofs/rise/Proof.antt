@@ -3,7 +3,7 @@ use borrow.Author.Needs.{needs}
 use mathlib.Core.Path.{_≡_, sym}
 use Prim.Native.Nat.{_-_, _≤_}
 use native.Mathlib.Omega.{arith}
-use Rattle.sine.specs.Whole.{Unfolded}
+use Rattle.sine.specs.Inner.{Unfolded}
 use Rattle.sine.proofs.Levels.{level-rise, written}
 use Rattle.sine.proofs.rise.Statement.{statement}
 use Rattle.sine.proofs.rise.Tie as tie

@@ -8,7 +8,7 @@ use Rattle.sine.specs.Table.{quarter}
 use Rattle.waveform.specs.declared.Waveform.the-variants.{Sine}
 use Rattle.waveform.specs.Waveform.{valueOf}
 use Rattle.waveform.specs.Filled.{valueAt}
-use Rattle.waveform.specs.Lines.{Upto}
+use Rattle.waveform.specs.Inner.{Upto}
 use Rattle.waveform.proofs.Loops.{begins, goes-on, ends}
 use Rattle.waveform.proofs.fill_sine.Statement.{statement}
 use Rattle.waveform.proofs.fill_sine.Tie as tie

@@ -8,7 +8,7 @@ use lib.Ieee.{Float}
 use Rattle.floats.specs.Double.{_⊗_}
 use Rattle.sine.specs.Whole.{wholeReading}
 use Rattle.waveform.specs.Waveform.{invTau}
-use Rattle.waveform.specs.Parts.{Remade}
+use Rattle.waveform.specs.Inner.{Remade}
 use Rattle.waveform.proofs.Remaking.{remade-none, remade-more, remade-all}
 use Rattle.waveform.proofs.read_wave.Statement.{statement}
 use Rattle.waveform.proofs.read_wave.Tie as tie

@@ -1,11 +1,11 @@
--- `waveform::lines::fill` meets its contract. The loop's invariant is `Upto` of specs/Lines.antt. Assumes nothing.
+-- `waveform::lines::fill` meets its contract. The loop's invariant is `Upto` of specs/Inner.antt. Assumes nothing.
 use borrow.Author.Needs.{needs}
 use mathlib.Core.Path.{refl}
 use Prim.Native.Nat.{_-_, _<_}
 use native.Mathlib.Omega.{arith}
 use lib.ListN.{length}
 use Rattle.waveform.specs.Filled.{valueAt}
-use Rattle.waveform.specs.Lines.{Upto}
+use Rattle.waveform.specs.Inner.{Upto}
 use Rattle.waveform.proofs.Loops.{begins, goes-on, ends}
 use Rattle.waveform.proofs.lines.fill.Statement.{statement}
 use Rattle.waveform.proofs.lines.fill.Tie as tie

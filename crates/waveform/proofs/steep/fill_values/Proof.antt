@@ -7,7 +7,7 @@ use lib.ListN.{length}
 use lib.Ieee.{Float}
 use Rattle.floats.specs.Double.{_⊗_}
 use Rattle.waveform.specs.Waveform.{valueOf, invTau}
-use Rattle.waveform.specs.Parts.{Remade}
+use Rattle.waveform.specs.Inner.{Remade}
 use Rattle.waveform.proofs.Remaking.{remade-none, remade-more, remade-all, still-part}
 use Rattle.waveform.proofs.steep.fill_values.Statement.{statement}
 use Rattle.waveform.proofs.steep.fill_values.Tie as tie

@@ -4,7 +4,7 @@ use mathlib.Core.Path.{refl}
 use Prim.Native.Nat.{_-_}
 use native.Mathlib.Omega.{arith}
 use lib.ListN.{length}
-use Rattle.waveform.specs.Parts.{foldOf, Remade}
+use Rattle.waveform.specs.Inner.{foldOf, Remade}
 use Rattle.waveform.proofs.Remaking.{remade-none, remade-more, remade-all}
 use Rattle.waveform.proofs.steep.fold.Statement.{statement}
 use Rattle.waveform.proofs.steep.fold.Tie as tie

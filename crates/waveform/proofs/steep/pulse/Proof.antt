@@ -6,7 +6,7 @@ use mathlib.Core.Bool.{true}
 use lib.Dec.{T}
 use Rattle.floats.specs.Range.{within}
 use Rattle.polyblep.specs.Polyblep.{pulseOf}
-use Rattle.waveform.specs.Parts.{least, most}
+use Rattle.waveform.specs.Inner.{least, most}
 use Rattle.waveform.proofs.Remaking.{duty-low}
 use Rattle.waveform.proofs.steep.pulse.Statement.{statement}
 use Rattle.waveform.proofs.steep.pulse.Tie as tie

@@ -4,8 +4,7 @@ use mathlib.Core.Path.{sym, subst}
 use lib.Dec.{T}
 use lib.Ieee.{ofBits}
 use Rattle.waveform.specs.Waveform.{tau}
-use Rattle.waveform.specs.Lines.{twoTau}
-use Rattle.waveform.specs.Parts.{fourTau, eightTau, manyTau}
+use Rattle.waveform.specs.Inner.{twoTau, fourTau, eightTau, manyTau}
 use Rattle.waveform.proofs.Folds.{one-two, folded}
 use Rattle.waveform.proofs.steep.turn.Statement.{statement}
 use Rattle.waveform.proofs.steep.turn.Tie as tie

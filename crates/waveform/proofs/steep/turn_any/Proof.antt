@@ -5,7 +5,7 @@ use Prim.Native.Nat.{_-_}
 use native.Mathlib.Omega.{arith}
 use lib.ListN.{length}
 use Rattle.waveform.specs.Waveform.{turnedOf}
-use Rattle.waveform.specs.Parts.{Remade}
+use Rattle.waveform.specs.Inner.{Remade}
 use Rattle.waveform.proofs.Remaking.{remade-none, remade-more, remade-all}
 use Rattle.waveform.proofs.steep.turn_any.Statement.{statement}
 use Rattle.waveform.proofs.steep.turn_any.Tie as tie

@@ -2,7 +2,7 @@
 use borrow.Author.Needs.{needs}
 use mathlib.Core.Path.{refl}
 use lib.Ieee.{ofBits}
-use Rattle.waveform.specs.Parts.{fourTau, eightTau}
+use Rattle.waveform.specs.Inner.{fourTau, eightTau}
 use Rattle.waveform.proofs.Folds.{four-eight, all-left, left-on}
 use Rattle.waveform.proofs.steep.turn_eight.Statement.{statement}
 use Rattle.waveform.proofs.steep.turn_eight.Tie as tie

@@ -3,8 +3,7 @@ use borrow.Author.Needs.{needs}
 use mathlib.Core.Path.{refl}
 use lib.Ieee.{ofBits}
 use Rattle.waveform.specs.Waveform.{tau}
-use Rattle.waveform.specs.Lines.{twoTau}
-use Rattle.waveform.specs.Parts.{fourTau}
+use Rattle.waveform.specs.Inner.{twoTau, fourTau}
 use Rattle.waveform.proofs.Folds.{one-two, two-four, folded, all-left, left-on}
 use Rattle.waveform.proofs.steep.turn_four.Statement.{statement}
 use Rattle.waveform.proofs.steep.turn_four.Tie as tie

@@ -2,7 +2,7 @@
 use borrow.Author.Needs.{needs}
 use mathlib.Core.Path.{refl}
 use lib.Ieee.{ofBits}
-use Rattle.waveform.specs.Parts.{eightTau, halfManyTau, manyTau}
+use Rattle.waveform.specs.Inner.{eightTau, halfManyTau, manyTau}
 use Rattle.waveform.proofs.Folds.{eight-half, half-many, all-left, left-on}
 use Rattle.waveform.proofs.steep.turn_many.Statement.{statement}
 use Rattle.waveform.proofs.steep.turn_many.Tie as tie

@@ -1,23 +1,25 @@
--- A waveform between two corrections: the lines that it is made of, the phases on which it is one, and how far an inner loop has come. These serve private functions; no public statement cites them. Definitions only.
+-- What private functions are held to: a waveform between two corrections (the lines that it is made of, the phases on which it is one, how far an inner loop has come), and phases, what is left of them, parts of a cycle and
+-- their values in a lent list. No statement that is public outside this crate cites these. Definitions only.
 use mathlib.Core.Bool.{Bool, true, cond, _&&_}
 use mathlib.Core.List.{List}
 use mathlib.Core.Path.{_≡_}
-use Prim.Native.Nat.{ℕ, _≤_}
+use Prim.Native.Nat.{ℕ, _≤_, _<_}
 use lib.Dec.{T}
-use lib.ListN.{length, take}
-use lib.Ieee.{Float, binary64, ofBits, neg, lt, le, fits}
-use Rattle.floats.specs.Range.{within}
+use lib.ListN.{length, take, getD}
+use lib.Ieee.{Float, binary64, ofBits, neg, lt, le, fits, nan}
+use Rattle.floats.specs.Range.{within, nonneg}
 use Rattle.floats.specs.Double.{_⊕_, _⊖_, _⊗_, naught, half, one}
 use Rattle.polyblep.specs.declared.Side.the-variants.{Away}
 use Rattle.polyblep.specs.Polyblep.{sideOf, fractOf, climbOf, riseOf, fallOf}
 use Rattle.polyblep.proofs.Clear.{Lies}
+use Rattle.runs.specs.Runs.{listed}
 use Rattle.waveform.specs.declared.lines.Line.{Line}
 use Rattle.waveform.specs.declared.lines.Line.the-variants.{High, Low, Climb, Rise, Fall}
 use Rattle.waveform.specs.declared.lines.Stretch.{Stretch}
 use Rattle.waveform.specs.declared.lines.Guess.{Guess}
 use Rattle.waveform.specs.declared.lines.Reach.{Reach}
 use Rattle.waveform.specs.declared.Waveform.{Waveform}
-use Rattle.waveform.specs.Waveform.{tau, invTau, normalOf}
+use Rattle.waveform.specs.Waveform.{tau, invTau, normalOf, turnedOf}
 use Rattle.waveform.specs.Filled.{phaseFrom, valueAt, samplesBy}
 
 -- the value on a line at the part t of a cycle
@@ -91,3 +93,62 @@ Onward s step scale ys a zs b = (value : Float → Float) → Straight value s �
 -- the same of a waveform's own values, wherever they lie
 abbrev pub Further : Waveform → Float → Float → List Float → Reach → List Float → Reach → Type 0
 Further w step scale ys a zs b = (p₀ : Float) (xs : List Float) → Upto (valueAt w step) step scale p₀ xs ys (a .phase .0) (a .count) → Upto (valueAt w step) step scale p₀ xs zs (b .phase .0) (b .count)
+
+-- 2^-10 and 1 - 2^-10
+abbrev pub least : Float
+least = ofBits binary64 0x3f50_0000_0000_0000
+
+abbrev pub most : Float
+most = ofBits binary64 0x3fef_f800_0000_0000
+
+-- 4, 8, 16 and 32 TAU
+abbrev pub fourTau : Float
+fourTau = ofBits binary64 0x4039_21fb_5444_2d18
+
+abbrev pub eightTau : Float
+eightTau = ofBits binary64 0x4049_21fb_5444_2d18
+
+abbrev pub halfManyTau : Float
+halfManyTau = ofBits binary64 0x4059_21fb_5444_2d18
+
+abbrev pub manyTau : Float
+manyTau = ofBits binary64 0x4069_21fb_5444_2d18
+
+-- 2^60, and 16: a phase and a step that are steady
+abbrev pub farthest : Float
+farthest = ofBits binary64 0x43b0_0000_0000_0000
+
+abbrev pub sixteen : Float
+sixteen = ofBits binary64 0x4030_0000_0000_0000
+
+-- x less y, where it is not below y
+abbrev pub foldOf : Float → Float → Float
+foldOf y x = x ⊖ cond (lt x y) naught y
+
+-- every number of a list is a float from 0 up to, not including, a bound
+pub record Below (bound x : Float) : Type 0 where
+  pub fit : T (fits binary64 x)
+  pub sign : T (nonneg x)
+  pub under : T (lt x bound)
+
+abbrev pub AllBelow : Float → List Float → Type 0
+AllBelow bound xs = (i : ℕ) → i < length xs → Below bound (getD xs i nan)
+
+-- as a part of a cycle, from 0 to 1
+abbrev pub AllParts : List Float → Type 0
+AllParts xs = (i : ℕ) → i < length xs → T (within naught one (getD xs i nan ⊗ invTau))
+
+-- what is made of the first k numbers
+unfoldable pub madeOf : (Float → Float) → List Float → ℕ → List Float
+madeOf value xs k = listed (λ (i : ℕ). value (getD xs i nan)) k
+
+-- what is left over TAU of the phases before the first n samples
+abbrev pub leftOf : Float → Float → ℕ → List Float
+leftOf step p n = madeOf turnedOf (listed (phaseFrom step p) n) n
+
+-- of a list that held xs the first i numbers are made so, and the others are as they were
+pub record Remade (value : Float → Float) (xs ys : List Float) (i : ℕ) : Type 0 where
+  pub long : length ys ≡ length xs
+  pub within : i ≤ length xs
+  pub first : take i ys ≡ madeOf value xs i
+  pub others : (j : ℕ) → i ≤ j → getD ys j nan ≡ getD xs j nan
