@@ -53,7 +53,7 @@ fn is_called(row: &[u8], out: &mut [f64], shelf: &mut [u64]) -> bool {
 }
 
 fn is_rendered(row: &[u8], out: &mut [f64], shelf: &mut [u64]) -> bool {
-    let got = render::render(settings_of(row), score_of(row), out, shelf);
+    let got = render::render(settings_of(row), bytes_at(row, ROW, 80), out, shelf);
     is_outcome(row, got)
 }
 
@@ -61,7 +61,7 @@ fn is_continued(row: &[u8], out: &mut [f64]) -> bool {
     let position = words::u64_at(row, 96);
     let got = render::continue_render(
         settings_of(row),
-        score_of(row),
+        bytes_at(row, ROW, 80),
         state_of(row),
         position,
         out,
@@ -72,7 +72,13 @@ fn is_continued(row: &[u8], out: &mut [f64]) -> bool {
 // A re-render hands back no state.
 fn is_rerendered(row: &[u8], out: &mut [f64], shelf: &mut [u64]) -> bool {
     find(row, out, shelf);
-    let answer = rerender::rerender(settings_of(row), old_of(row), score_of(row), out, shelf);
+    let answer = rerender::rerender(
+        settings_of(row),
+        bytes_at(row, past(row, ROW, 80), 96),
+        bytes_at(row, ROW, 80),
+        out,
+        shelf,
+    );
     fields::says(answer, words::u64_at(row, 200))
 }
 
@@ -80,14 +86,6 @@ fn find(row: &[u8], out: &mut [f64], shelf: &mut [u64]) {
     let first = past(row, past(row, ROW, 80), 96);
     fields::put_floats(row, first, out);
     fields::put_words(row, fields::after(first, out.len()), shelf);
-}
-
-fn score_of(row: &[u8]) -> &[u8] {
-    bytes_at(row, ROW, 80)
-}
-
-fn old_of(row: &[u8]) -> &[u8] {
-    bytes_at(row, past(row, ROW, 80), 96)
 }
 
 // The bytes of a score that begins there, as many as a word of the row says or as there are.

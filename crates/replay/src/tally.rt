@@ -21,11 +21,3 @@ pub fn counted(tally: Tally, row: Finding) -> Tally {
     }
     next
 }
-
-// Of a row that has no sine.
-pub fn exactly(equal: bool) -> Finding {
-    Finding {
-        equal,
-        farthest: 0.0,
-    }
-}
