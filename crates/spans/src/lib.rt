@@ -18,7 +18,7 @@ const BLOCK: u64 = 64;
 // How many samples of a sine pay for the whole wave.
 const LONG: usize = 1024;
 
-// How many samples a call makes at most.
+// How many samples a call of the library makes at most.
 const MOST: usize = 16777216;
 
 // The state before a sample is begun, and the first record that has not acted.
@@ -28,7 +28,7 @@ pub struct Place {
 }
 
 // A place on the way through a part, and where its next record stands: whether from the part's position on, and how many
-// samples after it. It is read once, when the record before has acted.
+// samples after it. The record's position is read once, when the one before has acted.
 struct Walker {
     state: State,
     next: usize,
@@ -53,12 +53,14 @@ pub fn play(
             return play_long(settings, score, place, position, part);
         }
     }
+    // No call asks for so many. Of one call alone the compiler would put `play_long`, and the stack of its wave, in here.
     if MOST < part.len() {
         return play_long(settings, score, place, position, part);
     }
     play_short(settings, score, place, position, part)
 }
 
+// The whole wave is lent.
 fn play_long(
     settings: Settings,
     score: &[u8],
@@ -86,7 +88,7 @@ fn play_short(
     play_in(&[0.0; 0], settings, score, place, position, part)
 }
 
-// Span by span, with a wave lent that may be empty.
+// Span by span. The wave that is lent may be empty.
 fn play_in(
     wave: &[f64],
     settings: Settings,
