@@ -256,8 +256,11 @@ class Checker:
         if len(programs) == 1 or not (self.seeds and self.seed_of(crate).is_dir()):
             return [self.alone(program) for program in programs]
         texts = texts_of(ROOT / "crates" / crate)
-        for program in programs:
-            texts = made(program, texts)
+        try:
+            for program in programs:
+                texts = made(program, texts)
+        except ValueError:  # where one's new text is another's old one, each is tried alone
+            return [self.alone(program) for program in programs]
         status, log, home, taken = self.check(crate, texts, True)
         all_of_it = []
         for function, program in batch.items():
