@@ -33,7 +33,7 @@ pairs (n ∷ ns) (v ∷ vs) = record { note = n; velocity = v } ∷ pairs ns vs
 
 -- the held keys, oldest first
 abbrev pub heldOf : Keys → List Pair
-heldOf k = pairs (take (k .count) (k .notes)) (take (k .count) (k .velocities))
+heldOf keys = pairs (take (keys .count) (keys .notes)) (take (keys .count) (keys .velocities))
 
 -- xs in an array of 16, the rest 0
 abbrev pub padded : List ℕ → List ℕ
@@ -53,7 +53,7 @@ abbrev pub pushed : List Pair → Pair → List Pair
 pushed ps p = cond (ltb (length ps) 16) (ps ++ p ∷ []) ps
 
 unfoldable pub pressedOf : Keys → ℕ → ℕ → Keys
-pressedOf k n v = keysOf (Note n) true (pushed (heldOf k) (record { note = n; velocity = v }))
+pressedOf keys n v = keysOf (Note n) true (pushed (heldOf keys) (record { note = n; velocity = v }))
 
 -- ---- a key goes up
 -- the pairs of other notes than n, in their order
@@ -63,7 +63,7 @@ others n (p ∷ ps) = cond (eqb (p .note) n) (others n ps) (p ∷ others n ps)
 
 -- every held entry of n is dropped
 unfoldable pub withoutOf : Keys → ℕ → Keys
-withoutOf k n = keysOf (k .active) (k .gate) (others n (heldOf k))
+withoutOf keys n = keysOf (keys .active) (keys .gate) (others n (heldOf keys))
 
 abbrev pub isSounding : ActiveNote → ℕ → Bool
 isSounding Silent n = false
@@ -76,26 +76,26 @@ lastOf p (q ∷ ps) = lastOf q ps
 
 -- the same keys are held: no note sounds, or that of the pair p
 abbrev pub released : Keys → AfterLift
-released k = record { keys = record { active = Silent; gate = false; notes = k .notes; velocities = k .velocities; count = k .count }; off = Released }
+released keys = record { keys = record { active = Silent; gate = false; notes = keys .notes; velocities = keys .velocities; count = keys .count }; off = Released }
 
 abbrev pub fellBackTo : Keys → Pair → AfterLift
-fellBackTo k p =
+fellBackTo keys p =
     record {
-      keys = record { active = Note (p .note); gate = k .gate; notes = k .notes; velocities = k .velocities; count = k .count };
+      keys = record { active = Note (p .note); gate = keys .gate; notes = keys .notes; velocities = keys .velocities; count = keys .count };
       off = FellBack (p .note) (p .velocity);
     }
 
 -- to the last of the held pairs ps, or to none
 abbrev pub fallBackTo : Keys → List Pair → AfterLift
-fallBackTo k [] = released k
-fallBackTo k (p ∷ ps) = fellBackTo k (lastOf p ps)
+fallBackTo keys [] = released keys
+fallBackTo keys (p ∷ ps) = fellBackTo keys (lastOf p ps)
 
 abbrev pub fallBackOf : Keys → AfterLift
-fallBackOf k = fallBackTo k (heldOf k)
+fallBackOf keys = fallBackTo keys (heldOf keys)
 
 -- only if n sounded does the sound change
 unfoldable pub liftedOf : Keys → ℕ → AfterLift
-liftedOf k n = cond (isSounding (k .active) n) (fallBackOf (withoutOf k n)) (record { keys = withoutOf k n; off = NoChange })
+liftedOf keys n = cond (isSounding (keys .active) n) (fallBackOf (withoutOf keys n)) (record { keys = withoutOf keys n; off = NoChange })
 
 -- ---- the limits
 abbrev pub isSound : ActiveNote → Bool → Bool
@@ -111,4 +111,4 @@ abbrev pub isFilled : ℕ → List ℕ → Bool
 isFilled c xs = atMost 127 (take c xs) && atMost 0 (drop c xs)
 
 unfoldable pub isKeys : Keys → Bool
-isKeys k = isSound (k .active) (k .gate) && leb (k .count) 16 && isFilled (k .count) (k .notes) && isFilled (k .count) (k .velocities)
+isKeys keys = isSound (keys .active) (keys .gate) && leb (keys .count) 16 && isFilled (keys .count) (keys .notes) && isFilled (keys .count) (keys .velocities)

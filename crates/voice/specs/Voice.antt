@@ -59,13 +59,13 @@ countOr refusals n = firstOf refusals (λ (why : Refusal). record { answer = Ref
 -- ---- what sounds
 -- the note n, struck with v
 abbrev pub struck : Keys → ℕ → ℕ → VoiceState
-struck k n v = record { keys = k; velocity = velocityOf v; frequency = frequencyOf n }
+struck keys n v = record { keys = keys; velocity = velocityOf v; frequency = frequencyOf n }
 
 -- after a key is lifted: only a fall back to another note changes velocity and frequency
 abbrev pub heardOf : VoiceState → Keys → NoteOff → VoiceState
-heardOf s k Released = record { keys = k; velocity = s .velocity; frequency = s .frequency }
-heardOf s k (FellBack n v) = struck k n v
-heardOf s k NoChange = record { keys = k; velocity = s .velocity; frequency = s .frequency }
+heardOf s keys Released = record { keys = keys; velocity = s .velocity; frequency = s .frequency }
+heardOf s keys (FellBack n v) = struck keys n v
+heardOf s keys NoChange = record { keys = keys; velocity = s .velocity; frequency = s .frequency }
 
 abbrev pub isReleased : NoteOff → Bool
 isReleased Released = true
