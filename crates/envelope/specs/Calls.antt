@@ -49,8 +49,8 @@ resetOf b = changedOf b freshOf
 unfoldable pub processOf : EnvelopeBlock → ℕ → List Float → Outcome Processed
 processOf b rate xs =
     let n = length xs in
-    let k = clampedOf (b .adsr) in
+    let adsr = clampedOf (b .adsr) in
     let t = sampleTimeOf rate in
     firstOf (unless (isAdsr (b .adsr) && isRate rate) Setting ++ unless (isEnvelope (b .envelope)) Argument)
     (λ (why : Refusal). leaves (record { answer = Refused why; block = b }) xs)
-    (leaves (record { answer = Done n; block = withEnvelope b (envelopeFrom k t (b .envelope) n) }) (levelsFrom k t (b .envelope) n))
+    (leaves (record { answer = Done n; block = withEnvelope b (envelopeFrom adsr t (b .envelope) n) }) (levelsFrom adsr t (b .envelope) n))

@@ -23,7 +23,7 @@ eleven = ofBits binary64 0x4026_0000_0000_0000
 -- ---- what is accepted
 -- no setting is a NaN
 unfoldable pub isAdsr : Adsr → Bool
-isAdsr k = not (isNan (k .attack)) && not (isNan (k .decay)) && not (isNan (k .sustain)) && not (isNan (k .release))
+isAdsr adsr = not (isNan (adsr .attack)) && not (isNan (adsr .decay)) && not (isNan (adsr .sustain)) && not (isNan (adsr .release))
 
 -- both levels 0 to 1, the time 0 to 11
 unfoldable pub isEnvelope : Envelope → Bool
@@ -36,7 +36,7 @@ clampOf lo hi x = cond (lt x lo) lo (cond (lt hi x) hi x)
 
 -- times to 0.001 to 10 s, sustain to 0 to 1
 unfoldable pub clampedOf : Adsr → Adsr
-clampedOf k = record { attack = clampOf milli ten (k .attack); decay = clampOf milli ten (k .decay); sustain = clampOf naught one (k .sustain); release = clampOf milli ten (k .release) }
+clampedOf adsr = record { attack = clampOf milli ten (adsr .attack); decay = clampOf milli ten (adsr .decay); sustain = clampOf naught one (adsr .sustain); release = clampOf milli ten (adsr .release) }
 
 -- the time of one sample, in seconds
 unfoldable pub sampleTimeOf : ℕ → Float

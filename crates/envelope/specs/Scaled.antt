@@ -12,9 +12,9 @@ use Rattle.envelope.specs.declared.Envelope.{Envelope}
 
 -- the first n values of xs
 unfoldable pub scaledTo : Adsr → Float → Envelope → Float → List Float → ℕ → List Float
-scaledTo k t e velocity xs n = listed (λ (i : ℕ). getD xs i nan ⊗ envelopeFrom k t e (suc i) .level ⊗ velocity) n
+scaledTo adsr t e velocity xs n = listed (λ (i : ℕ). getD xs i nan ⊗ envelopeFrom adsr t e (suc i) .level ⊗ velocity) n
 
 -- a lent part holds them all, and r is the envelope after them
-pub record Scaled (k : Adsr) (t : Float) (e : Envelope) (velocity : Float) (before after : List Float) (r : Envelope) : Type 0 where
-  pub samples : after ≡ scaledTo k t e velocity before (length before)
-  pub envelope : r ≡ envelopeFrom k t e (length before)
+pub record Scaled (adsr : Adsr) (t : Float) (e : Envelope) (velocity : Float) (before after : List Float) (r : Envelope) : Type 0 where
+  pub samples : after ≡ scaledTo adsr t e velocity before (length before)
+  pub envelope : r ≡ envelopeFrom adsr t e (length before)

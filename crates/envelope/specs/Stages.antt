@@ -47,11 +47,11 @@ releaseRule release e =
     cond (le x silent) (movedOf e Idle naught naught) (movedOf e Release x (e .«stage_time»))
 
 abbrev pub ruleOf : EnvelopeStage → Adsr → Envelope → Envelope
-ruleOf Idle k e = movedOf e Idle naught (e .«stage_time»)
-ruleOf Attack k e = attackRule (k .attack) e
-ruleOf Decay k e = decayRule (k .decay) (k .sustain) e
-ruleOf Sustain k e = movedOf e Sustain (k .sustain) (e .«stage_time»)
-ruleOf Release k e = releaseRule (k .release) e
+ruleOf Idle adsr e = movedOf e Idle naught (e .«stage_time»)
+ruleOf Attack adsr e = attackRule (adsr .attack) e
+ruleOf Decay adsr e = decayRule (adsr .decay) (adsr .sustain) e
+ruleOf Sustain adsr e = movedOf e Sustain (adsr .sustain) (e .«stage_time»)
+ruleOf Release adsr e = releaseRule (adsr .release) e
 
 -- ---- the growth of the time
 abbrev pub grows : EnvelopeStage → Bool
@@ -66,7 +66,7 @@ grownOf t e = cond (grows (e .stage)) (movedOf e (e .stage) (e .level) (e .«sta
 
 -- one sample: its level is the level of the envelope after it
 unfoldable pub stepOf : Adsr → Float → Envelope → Envelope
-stepOf k t e = grownOf t (ruleOf (e .stage) k e)
+stepOf adsr t e = grownOf t (ruleOf (e .stage) adsr e)
 
 -- ---- notes
 abbrev pub freshOf : Envelope
