@@ -13,7 +13,7 @@ pub mod Cuts
 pub mod Grown
 -- the first difference of two scores does not depend on their order
 pub mod Parted
--- below it the scores have the same records; there is none exactly where the scores are equal
+-- two scores have the same records below their first difference, and no difference exactly where they are equal
 pub mod Agree
 -- the position of the first difference cannot be higher
 pub mod Reached

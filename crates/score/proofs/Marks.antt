@@ -23,7 +23,7 @@ noteOn at = record { position = at; kind = On; note = 69; velocity = 127 }
 abbrev noteOff : ℕ → Record
 noteOff at = record { position = at; kind = Off; note = 69; velocity = 0 }
 
--- it has the two records that 01's lister prints
+-- 01's score has the two records that 01's lister prints
 pub example-accepted : (verdictOf example ≡ Accepted 2) × (recordAt example 0 ≡ noteOn 0) × (recordAt example 1 ≡ noteOff 100) × (encodeAll (noteOn 0 ∷ noteOff 100 ∷ []) ≡ example)
 unfolding positionAt markRight kindRight fieldsRight inOrder faultsAt faultsFrom faultsOf verdictOf
 example-accepted = (refl, refl, refl, refl)

@@ -22,7 +22,7 @@ entries-near n = omega arith
 pub no-entries : entriesFor 0 ≡ 0
 no-entries = refl
 
--- the section that holds a sample of the output has an entry
+-- the section of each sample of the output has an entry
 pub start-there : (n p : ℕ) → p < n → p / mark < entriesFor n
 start-there n p h = omega arith
 

@@ -32,7 +32,7 @@ plain g v k = listed (λ (i : ℕ). sampleOf g (advances g v i)) k
 abbrev pub Serves : List Float → Type 0
 Serves W = (w : Waveform) (step p : Float) → valueIn W w step p ≡ valueAt w step p
 
--- a lent part holds the samples of a span, and r is the state after them
+-- a lent part is filled with the samples of a span, and r is the state after them
 pub record Sounded (g : Settings) (v : State) (before after : List Float) (r : State) : Type 0 where
   pub samples : after ≡ plain g v (length before)
   pub state : r ≡ advances g v (length before)

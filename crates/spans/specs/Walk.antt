@@ -63,7 +63,7 @@ placeFrom g s n p k = run (afterPlayed g s) n p k
 unfoldable pub playedFrom : Settings → List ℕ → ℕ → Place → ℕ → List Float
 playedFrom g s n p k = seen (afterPlayed g s) (playedAt g s) n p k
 
--- a lent part holds all samples, and r is the place after the last
+-- a lent part is filled with its samples, and r is the place after the last
 pub record Played (g : Settings) (s : List ℕ) (n : ℕ) (p : Place) (before after : List Float) (r : Place) : Type 0 where
   pub samples : after ≡ playedFrom g s n p (length before)
   pub place : r ≡ placeFrom g s n p (length before)

@@ -1,4 +1,4 @@
--- The list of the held keys, and the keys that hold a list: what the proof of each function over the keys needs.
+-- The list of the held keys, and the keys made of a list: what the proof of each function over the keys needs.
 -- Assumes nothing.
 use mathlib.Core.Path.{_≡_, refl, _∙_}
 use mathlib.Core.Bool.{Bool, true, false}
@@ -47,7 +47,7 @@ module _ (ns vs : List ℕ) (hn : length ns ≡ 16) (hv : length vs ≡ 16) wher
           let l : 16 ≤ c = omega (arith, leb-false c 16 e) in
           rw (first-full c l, first-length 16 (omega arith)) refl
 
-  -- the keys that hold the first c pairs have both arrays cleared from c on
+  -- the keys made of the first c pairs have both arrays cleared from c on
   pub first-held : (a : ActiveNote) (g : Bool) (c : ℕ) → c ≤ 16 → record { active = a; gate = g; notes = padded (take c ns); velocities = padded (take c vs); count = c } ≡ keysOf a g (first c)
   first-held a g c h = rw (pairs-notes (take c ns) (take c vs) (same-length c), pairs-velocities (take c ns) (take c vs) (same-length c), first-length c h) refl
 

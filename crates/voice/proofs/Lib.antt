@@ -9,7 +9,7 @@ pub mod Removal
 pub mod Held
 -- the loop over both arrays
 pub mod Walk
--- the limits of the keys, and the list that the keys hold
+-- the limits of the keys, and their held list
 pub mod Limits
 -- striking and lifting a key keep the limits
 pub mod Actions

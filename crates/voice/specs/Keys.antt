@@ -42,7 +42,7 @@ heldOf keys = pairs (take (keys .count) (keys .notes)) (take (keys .count) (keys
 abbrev pub padded : List ℕ → List ℕ
 padded xs = xs ++ replicate (16 - length xs) 0
 
--- the keys that hold the pairs ps
+-- the keys whose held pairs are ps
 abbrev pub keysOf : ActiveNote → Bool → List Pair → Keys
 keysOf active gate ps = record { active = active; gate = gate; notes = padded (map noteOf ps); velocities = padded (map velocityIn ps); count = length ps }
 

@@ -136,7 +136,7 @@ fn close_up(bytes: &mut [u8; 16], at: usize, last: usize)
     }
 }
 
-// The keys that hold the first `count` pairs; the other places are set to 0.
+// The keys with the first `count` pairs held; the other places are set to 0.
 fn holding(
     active: ActiveNote,
     gate: bool,

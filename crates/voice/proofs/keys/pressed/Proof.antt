@@ -1,4 +1,4 @@
--- `voice::keys::pressed` meets its contract: in both branches the arrays hold the pairs of the definition. Assumes
+-- `voice::keys::pressed` meets its contract: in both branches the arrays have the pairs of the definition. Assumes
 -- nothing.
 use borrow.Author.Needs.{needs}
 use mathlib.Core.Logic.{⊎-elim}
