@@ -69,15 +69,15 @@ gateBit true = 1
 -- 01's sum. The held count is cut to its 7 bits and the number of records acted to its 48 (281474976710656 is 2^48), so
 -- that neither changes bits of another field. In a state within the limits nothing is cut
 unfoldable pub packedWord : Keys → ℕ → ℕ
-packedWord k acted = activeByte (k .active) + 256 * gateBit (k .gate) + 512 * (k .count % 128) + 65536 * (acted % 281474976710656)
+packedWord keys acted = activeByte (keys .active) + 256 * gateBit (keys .gate) + 512 * (keys .count % 128) + 65536 * (acted % 281474976710656)
 
 -- pair i: the byte of the note, then the byte of the velocity
 abbrev pub pairAt : Keys → ℕ → ℕ
-pairAt k i = getD (k .notes) i 0 + 256 * getD (k .velocities) i 0
+pairAt keys i = getD (keys .notes) i 0 + 256 * getD (keys .velocities) i 0
 
 -- four pairs from pair i on, the oldest in the lowest bits
 unfoldable pub fourPairs : Keys → ℕ → ℕ
-fourPairs k i = pairAt k i + 65536 * (pairAt k (i + 1) + 65536 * (pairAt k (i + 2) + 65536 * pairAt k (i + 3)))
+fourPairs keys i = pairAt keys i + 65536 * (pairAt keys (i + 1) + 65536 * (pairAt keys (i + 2) + 65536 * pairAt keys (i + 3)))
 
 -- the twelve words
 unfoldable pub entryOf : State → List ℕ
