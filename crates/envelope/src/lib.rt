@@ -209,8 +209,7 @@ fn next_in(stage: EnvelopeStage, adsr: Adsr, sample_time: f64, e: Envelope) -> E
     }
 }
 
-// The level in a stage, before the test for its end: from 0 to 1, from 1 to the sustain level, from the release level
-// to 0.
+// The level in a stage, before the test for its end: from 0 to 1, 1 to the sustain level, the release level to 0.
 fn level_in(stage: EnvelopeStage, adsr: Adsr, e: Envelope) -> f64
     ensures { λ r. ⌜ r ≡ levelOf stage adsr e ⌝ }
 {
@@ -236,8 +235,7 @@ fn ends_at(stage: EnvelopeStage, adsr: Adsr, level: f64) -> bool
     }
 }
 
-// The envelope after a sample that ends its stage, or after one of Idle or Sustain. The sample of the peak already
-// counts as the first of the decay's time.
+// After a sample that ends its stage or is in Idle or Sustain. The sample of the peak is the first of the decay's time.
 fn ended_in(stage: EnvelopeStage, adsr: Adsr, sample_time: f64, e: Envelope) -> Envelope
     ensures { λ r. ⌜ r ≡ endedIn stage adsr «sample_time» e ⌝ }
 {

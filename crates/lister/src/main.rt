@@ -2,8 +2,7 @@
 // 40,961 bytes: a score of 4,096 records has 40,960, and a longer one is refused for its length.
 ghost use Rattle.lister.specs.Within.{Within};
 
-// How reading ended: at the end of the input or of the buffer, with so many bytes at the front of the buffer, or
-// because a read failed.
+// How reading ended: with so many bytes at the front of the buffer, or because a read failed.
 enum Reading {
     Ended(usize),
     Failed,

@@ -124,8 +124,7 @@ pub fn encode(given: Record) -> [u8; 10]
     [0x56, 0x4E, a, b, c, d, k, given.note, given.velocity, 0]
 }
 
-// Whether k records exist, the last of them is below p and record k, if it exists, is not. In an accepted score:
-// whether exactly k records are below p.
+// Whether k records exist, the last of them below p and the next, if any, not. If in order: exactly k are below p.
 pub fn parts_at(score: &[u8], k: u64, p: u64) -> bool
     ensures { λ r. ⌜ r ≡ partsAt (now (score .entry)) k p ⌝ }
 {
@@ -250,8 +249,7 @@ fn kind_byte(kind: Kind) -> u8
     }
 }
 
-// The first fault of record i, whose order is already known: one test decides a valid record, and only the others are
-// tested one by one.
+// The first fault of record i, whose order is known: one test accepts a valid record, the others are judged in full.
 fn judge_after(score: &[u8], i: usize, order: bool) -> Verdict
     requires { ⌜ i < countOf (now score) ⌝ }
     requires { ⌜ order ≡ inOrder (now score) i ⌝ }

@@ -54,8 +54,7 @@ pub fn play(
             return play_long(settings, score, place, position, part);
         }
     }
-    // Never true in the library. With only one call of `play_long` the compiler would inline it, and the 32 KB of its
-    // wave would be on the stack here.
+    // Never true in the library. A lone call of `play_long` would be inlined, with the 32 KB of its wave on the stack.
     if MOST < part.len() {
         return play_long(settings, score, place, position, part);
     }

@@ -76,8 +76,7 @@ pub fn reduce(state: State) -> State
     next
 }
 
-// What a record of a score does: an on strikes the key of its note, an off lifts it, a reset resets. No setting changes
-// that today.
+// An on strikes the key of its note, an off lifts that key, a reset resets. No setting changes that today.
 pub fn event_of(settings: Settings, given: Record) -> Event
     ensures { λ r. ⌜ r ≡ eventOf settings given ⌝ }
 {

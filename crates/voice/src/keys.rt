@@ -63,8 +63,7 @@ pub fn pressed(keys: Keys, note: u8, velocity: u8) -> Keys
     holding(ActiveNote::Note(note), true, notes, velocities, count)
 }
 
-// A key goes up: every held pair of its note is dropped. Only if the note sounded, the last held key sounds next, or
-// none.
+// A key goes up: every held pair of its note is dropped. If that note sounded, the last held key sounds next, or none.
 pub fn lifted(keys: Keys, note: u8) -> AfterLift
     ensures { λ r. ⌜ r ≡ liftedOf keys note ⌝ }
 {
@@ -100,8 +99,7 @@ pub fn held_count(keys: Keys) -> usize
     count
 }
 
-// Every held pair of a note is dropped, and the others keep their order. As in voice.rs, a place that was closed up is
-// tested again.
+// Every held pair of a note is dropped, the others keep their order. As in voice.rs, a closed-up place is tested again.
 fn without(keys: Keys, note: u8) -> Keys
     ensures { λ r. ⌜ r ≡ withoutOf keys note ⌝ }
 {
@@ -123,8 +121,7 @@ fn without(keys: Keys, note: u8) -> Keys
     holding(active, gate, notes, velocities, count)
 }
 
-// The byte at `at` is dropped, and the bytes after it up to `last` move one place down; the byte at `last` is not
-// changed.
+// The byte at `at` is dropped, those after it up to `last` move one place down, and the byte at `last` does not change.
 fn close_up(bytes: &mut [u8; 16], at: usize, last: usize)
     requires { ⌜ (at ≤ last) × (last < 16) × (length (now bytes) ≡ 16) ⌝ }
     ensures { λ _. ⌜ now (bytes .exit) ≡ closedUp at last (now (bytes .entry)) ⌝ }

@@ -1,7 +1,6 @@
 // voice.rs of the original: one voice for many keys, the last of which sounds. State goes in by value and is handed
 // back; an argument outside the domain is refused (document 01, number 9).
-// The keys are in keys.rt, and `midi_note_to_frequency` is in the crate `pitch`; the traits of the original are left
-// out.
+// The keys are in keys.rt, `midi_note_to_frequency` is in the crate `pitch`; the traits of the original are left out.
 ghost use mathlib.Core.Path.{_≡_};
 ghost use Rattle.answers.specs.Order.{unless};
 ghost use Rattle.answers.specs.declared.Refusal.the-variants.{Argument};
@@ -77,8 +76,7 @@ impl VoiceState {
         )
     }
 
-    // A key goes up. `released` is true if its note was active and no other key is held; velocity and frequency are
-    // then kept.
+    // A key goes up. `released` is true if its note was active and no key is left; then velocity and frequency stay.
     pub fn note_off(self, note: u8) -> Off
         ensures { λ r. ⌜ r ≡ noteOffOf self note ⌝ }
     {
