@@ -1,4 +1,5 @@
--- A step and a note give values of an f64, where they are given such: what `Held` says, and what reading a state back from its bits wants. Assumes nothing.
+-- A step and a note turn values of an f64 into values of an f64 (`Held`): what reading a state back from its bits
+-- needs. Assumes nothing.
 use lib.Dec.{T}
 use lib.Ieee.{Float, binary64, le, fits}
 use lib.Ieee.Fits.{add-fits, sub-fits, mul-fits, div-fits}

@@ -1,5 +1,5 @@
--- What the tests of specs/Limits.antt say, part by part: an accepted envelope is `Inside` its limits, accepted settings, clamped, are `Bounded`, and the time of a sample at an accepted rate is a `Tick`.
--- Assumes nothing.
+-- The tests of specs/Limits.antt part by part: an accepted envelope is `Inside` its limits, accepted settings are
+-- `Bounded` once clamped, and the time of a sample at an accepted rate is a `Tick`. Assumes nothing.
 use mathlib.Core.Bool.{Bool, true, false, not, _&&_, cond}
 use Prim.Native.Nat.{ℕ, _≤_}
 use native.Mathlib.Omega.{arith}
@@ -21,8 +21,8 @@ use Rattle.envelope.specs.Limits.{milli, ten, eleven, isAdsr, isEnvelope
 use Rattle.envelope.specs.declared.Adsr.{Adsr}
 use Rattle.envelope.specs.declared.Envelope.{Envelope}
 
--- ---- ranges, and choices
--- what holds on either side of a choice, by what its test says, holds of the choice
+-- ---- ranges and choices
+-- a property of both branches of a choice, each under its test, is one of the choice
 pub choice : (P : Envelope → Type 0) (b : Bool) (x y : Envelope) → (T b → P x) → (T (not b) → P y) → P (cond b x y)
 choice P true x y p q = p tt
 choice P false x y p q = q tt
@@ -78,7 +78,7 @@ pub record Bounded (k : Adsr) : Type 0 where
   pub release-in : T (within milli ten (k .release))
   pub sustain-fits : T (fits binary64 (k .sustain))
 
--- what is clamped lies between the bounds
+-- a clamped number is between the bounds
 clamp-in : (lo hi x : Float) → T (not (isNan lo)) → T (not (isNan hi)) → T (within lo hi lo) → T (within lo hi hi) → T (not (isNan x)) → T (within lo hi (clampOf lo hi x))
 clamp-in lo hi x nl nh l h n = go (lt x lo) (lt hi x) (λ (f : T (not (lt x lo))). not-lt-le-any x lo n nl f) (λ (f : T (not (lt hi x))). not-lt-le-any hi x nh n f)
   where
@@ -118,7 +118,7 @@ slowest = ofBits binary64 0x3f20_624d_d2f1_a9fc
 abbrev pub Tick : Float → Type 0
 Tick t = T (within naught slowest t)
 
--- 1 / n is at most 1 / 8000 for n from 8,000 on
+-- 1 / n is at most 1 / 8000 for n from 8,000 to 192,000
 tick-in : (n : ℕ) → 8000 ≤ n → n ≤ 192000 → Tick (sampleTimeOf n)
 unfolding ofBits ofInt le div sampleTimeOf
 tick-in n h k =

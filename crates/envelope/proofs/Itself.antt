@@ -1,11 +1,11 @@
--- A NaN alone is not equal to itself. Assumes nothing.
+-- Only a NaN is not equal to itself. Assumes nothing.
 use mathlib.Core.Path.{_≡_, refl}
 use mathlib.Core.Bool.{Bool, true, false, not, _&&_}
 use Prim.Native.Nat.{ℕ, _*_}
 use lib.Dec.{T, eqb, eqb-refl}
 use lib.Ieee.{Float, nan, inf, fin, up, down, eq, isNan}
 
--- a test that passes is true
+-- a test that holds is true
 is-true : (b : Bool) → T b → b ≡ true
 is-true true t = refl
 

@@ -1,5 +1,6 @@
--- The levels stay from 0 to 1 and the time from 0 to 11 through every step and every note. 01: "The level is proved to stay between 0 and 1 from a fresh envelope"; here from every accepted one.
--- A time that has passed its stage's limit ends the stage, so it grows from 10.5 at most. Assumes nothing.
+-- Every step and every note keeps both levels between 0 and 1 and the time between 0 and 11 s. 01: "The level is proved
+-- to stay between 0 and 1 from a fresh envelope"; here from every accepted one.
+-- A time past the limit of its stage ends the stage, so the time never grows from above 10.5 s. Assumes nothing.
 use mathlib.Core.Bool.{Bool, true, false, not, cond}
 use lib.Dec.{T, T-not}
 use lib.Ieee.{Float, binary64, ofBits, add, sub, mul, div, le, fits}
@@ -22,12 +23,12 @@ use Rattle.envelope.proofs.Inside.{choice, lower, upper, Inside, is-ins
 use Rattle.envelope.proofs.Settles.{enough, settled}
 
 -- ---- tests
--- a test that cannot pass
+-- a test that cannot hold
 decide : (b : Bool) → (T b → ⊥) → T (not b)
 decide true h = absurd (h tt)
 decide false h = tt
 
--- x ≤ y, where y ≤ x cannot be
+-- x ≤ y, if y ≤ x cannot hold
 not-past : (x y : Float) → T (nonneg x) → T (positive y) → (T (le y x) → ⊥) → T (le x y)
 not-past x y p q h = not-le-le y x (nonneg→finite y (positive-nonneg y q)) (nonneg→finite x p) (decide (le y x) h)
 
@@ -37,11 +38,11 @@ time-positive : (x : Float) → T (within milli ten x) → T (positive x)
 unfolding ofBits le
 time-positive x h = ge0-positive milli x tt (lower milli ten x h) (nonneg→finite x (within-nonneg ten x tt (and-i (le nought x) (le x ten) (fle-trans nought milli x tt (lower milli ten x h)) (upper milli ten x h))))
 
--- 10.5: with a sample's time it is below 11
+-- 10.5: plus the time of a sample it is below 11
 abbrev late : Float
 late = ofBits binary64 0x4025_0000_0000_0000
 
--- a time up to it may grow
+-- a time up to 10.5 s may grow by one sample
 later : (x t : Float) → T (nonneg x) → T (le x late) → Tick t → T (within naught eleven (add binary64 x t))
 unfolding ofBits le add
 later x t p h d =
@@ -49,7 +50,7 @@ later x t p h d =
     and-i (le nought (add binary64 x t)) (le (add binary64 x t) eleven) (ge0→le (add binary64 x t) (add-ge0 binary64 x t p q))
     (fle-trans (add binary64 x t) (add binary64 late slowest) eleven (add-mono binary64 x late t slowest p tt q tt h (upper naught slowest t d)) tt)
 
--- 0 ≤ x ≤ 1, as the tests have it
+-- 0 ≤ x ≤ 1 as one test
 unit-in : (x : Float) → T (ge0 x) → T (le x one) → T (within naught one x)
 unfolding ofBits
 unit-in x p h = and-i (le nought x) (le x one) (ge0→le x p) h
@@ -63,12 +64,12 @@ module _ (k : Adsr) (t : Float) (e : Envelope) (c : Bounded k) (d : Tick t) (i :
   unfolding ofBits
   time-nonneg = within-nonneg eleven time tt (i .time-in)
 
-  -- a limit y is at most 10, so a time up to it may grow
+  -- a time up to a limit y may grow, because y is at most 10 s
   on-time : (y : Float) → T (within milli ten y) → T (le time y) → T (within naught eleven (add binary64 time t))
   unfolding ofBits le
   on-time y h l = later time t time-nonneg (fle-trans time y late l (fle-trans y ten late (upper milli ten y h) tt)) d
 
-  -- progress is finite: it is at most 11 / 0.001
+  -- progress is finite: at most 11 / 0.001
   abbrev most : Float
   most = div binary64 eleven milli
 
@@ -158,7 +159,7 @@ module _ (k : Adsr) (t : Float) (e : Envelope) (c : Bounded k) (d : Tick t) (i :
   unfolding stepOf
   step-inside = by-stage (e .stage)
 
--- under accepted settings and at an accepted rate a step keeps the limits
+-- a step under accepted settings and at an accepted rate keeps the limits
 pub step-keeps : (k : Adsr) (rate : ℕ) (e : Envelope) → T (isAdsr k) → T (fits binary64 (k .sustain)) → T (isRate rate) → T (isEnvelope e) → T (isEnvelope (stepOf (clampedOf k) (sampleTimeOf rate) e))
 step-keeps k rate e a w r h = accepted _ (step-inside (clampedOf k) (sampleTimeOf rate) e (clamped-in k a w) (sample-time-in rate r) (is-inside e h))
 

@@ -1,21 +1,21 @@
--- What holds of the envelope beyond its contracts, and the laws that these rest on.
--- a NaN alone is not equal to itself
+-- What is proved of the envelope beyond its contracts, and the laws under it.
+-- only a NaN is not equal to itself
 pub mod Itself
 -- what the block call leaves
 pub mod Outcomes
--- a decay ends where its progress is 33 / 32, at the latest
+-- a decay ends at a progress of 33 / 32 at the latest
 pub mod Settles
--- what the limits say, part by part
+-- the limits part by part
 pub mod Inside
 -- every step and every note keeps the limits
 pub mod Keeps
--- and gives values of an f64
+-- every step and every note gives values of an f64
 pub mod Holds
--- samples one after the other
+-- consecutive samples
 pub mod RunsOn
--- over a lent part: a value more, a step within a run, a stage that stands
+-- a lent part: one more value, a step within a stage, Idle and Sustain
 pub mod Scaling
--- through any samples and any calls the envelope stays accepted
+-- after any samples and any calls the envelope is accepted
 pub mod Stays
 -- two outcomes of a public function are equal
 pub mod Unique

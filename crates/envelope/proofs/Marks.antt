@@ -1,4 +1,5 @@
--- Easy errors, by example, on the definitions that the contracts cite; 01's marks (i) and (j) take 4,098 steps and stand in `marks`. Assumes nothing.
+-- Easy errors, by example, on the definitions that the contracts cite. 01's worked examples (i) and (j) take 4,098
+-- steps and are in the crate `marks`. Assumes nothing.
 use mathlib.Core.Path.{_≡_, refl}
 use mathlib.Core.Bool.{true, false}
 use lib.IntN.{negsuc}
@@ -20,7 +21,7 @@ settings a d s r = record { attack = a; decay = d; sustain = s; release = r }
 abbrev pub at : EnvelopeStage → Float → Float → Float → Envelope
 at s x t r = record { stage = s; level = x; «stage_time» = t; «release_level» = r }
 
--- infinities clamp, and a sustain level of -0 stays -0
+-- infinities are clamped, and a sustain level of -0 is kept
 pub clamps : clampedOf (settings (inf false) (inf true) minusNaught naught) ≡ settings ten milli minusNaught milli
 unfolding clampedOf ofBits lt
 clamps = refl
@@ -37,12 +38,12 @@ tick = fin false 1 (negsuc 13)
 abbrev pub seconds : Float → Adsr
 seconds s = settings one one s one
 
--- the sample that reaches the peak has already moved the decay's time by one step
+-- on the sample that reaches the peak the decay's time has already moved by one sample
 pub peak-moves : stepOf (seconds half) tick (at Attack half one naught) ≡ at Decay one tick naught
 unfolding stepOf ofBits add div le
 peak-moves = refl
 
--- the attack starts at 0, whatever the level was
+-- the attack starts at level 0, whatever the level was
 pub attack-from-naught : stepOf (seconds half) tick (triggeredOf (at Sustain half naught naught)) ≡ at Attack naught tick naught
 unfolding stepOf ofBits add div le
 attack-from-naught = refl
@@ -52,12 +53,12 @@ pub floor-ends : stepOf (seconds half) tick (at Release silent naught silent) �
 unfolding stepOf ofBits sub mul div le
 floor-ends = refl
 
--- at rest a note's end changes nothing; else the release starts from the level at hand
+-- in Idle the end of a note changes nothing; in Decay the release starts from the present level
 pub releases : (releasedOf (at Idle half one one) ≡ at Idle half one one) × (releasedOf (at Decay half one naught) ≡ at Release half naught half)
 unfolding releasedOf
 releases = (refl, refl)
 
--- a decay need not end at progress 1: at a sustain level of 0.3 it is above it there, at 0.30000000000000004
+-- a decay need not end at progress 1: with sustain 0.3 the level there is 0.30000000000000004, above it
 abbrev pub threeTenths : Float
 threeTenths = ofBits binary64 0x3fd3_3333_3333_3333
 

@@ -1,4 +1,4 @@
--- What the block call leaves, done and refused, from what its parts answer. Assumes nothing.
+-- What the block call leaves, done and refused, from the answers of its parts. Assumes nothing.
 use mathlib.Core.Path.{_≡_, refl, sym, subst}
 use mathlib.Core.Bool.{Bool, true, false, _&&_}
 use mathlib.Core.List.{List, _++_}
@@ -18,7 +18,7 @@ use Rattle.envelope.specs.declared.Envelope.{Envelope}
 use Rattle.envelope.specs.declared.EnvelopeBlock.{EnvelopeBlock}
 
 module _ (b : EnvelopeBlock) (rate : ℕ) (xs : List Float) where
-  -- nothing is wrong: the numbers are the levels
+  -- all tests hold: the lent numbers are the levels
   pub process-done : (k : Adsr) (t : Float) (ys : List Float) (e : Envelope) (usable sound : Bool) → usable ≡ (isAdsr (b .adsr) && isRate rate) → sound ≡ isEnvelope (b .envelope) → (usable && sound) ≡ true →
       k ≡ clampedOf (b .adsr) → t ≡ sampleTimeOf rate → Filled k t (b .envelope) (length xs) ys e →
       leaves (record { answer = answerOr (unless usable Setting ++ unless sound Argument) (length xs); block = withEnvelope b e }) ys ≡ processOf b rate xs
@@ -27,7 +27,7 @@ module _ (b : EnvelopeBlock) (rate : ℕ) (xs : List Float) where
   process-done k t ys e true false u s h p q f = absurd (subst T (sym h) tt)
   process-done k t ys e false sound u s h p q f = absurd (subst T (sym h) tt)
 
-  -- something is: all stays as it came
+  -- a test fails: all is as it came
   pub process-refused : (usable sound : Bool) → usable ≡ (isAdsr (b .adsr) && isRate rate) → sound ≡ isEnvelope (b .envelope) → (usable && sound) ≡ false →
       leaves (record { answer = answerOr (unless usable Setting ++ unless sound Argument) (length xs); block = b }) xs ≡ processOf b rate xs
   unfolding processOf

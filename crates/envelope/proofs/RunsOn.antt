@@ -1,4 +1,5 @@
--- Samples one after the other: i and then j of them are i + j, and the level of sample i is that of the envelope after it. Assumes nothing.
+-- Consecutive samples: i and then j of them are i + j, and the level of sample i is that of the envelope after it.
+-- Assumes nothing.
 use mathlib.Core.Path.{_≡_, refl, ap, _∙_}
 use mathlib.Core.List.{_++_}
 use Prim.Native.Nat.{ℕ, suc, _+_, _<_}

@@ -1,4 +1,4 @@
--- A lent part is scaled: one value more, a step within a run, and a stage that stands. Assumes nothing.
+-- A lent part is scaled: one more value, a step within a stage, and Idle and Sustain. Assumes nothing.
 use mathlib.Core.Path.{_≡_, refl, sym, subst, ap, _∙_}
 use mathlib.Core.Bool.{Bool, true, false, true≢false, _||_}
 use mathlib.Core.List.{List}
@@ -19,7 +19,7 @@ use Rattle.envelope.specs.Inner.{levelOf, endsAt, nextIn, endedIn, scale
 use Rattle.envelope.specs.Running.{envelopeFrom}
 use Rattle.envelope.specs.Scaled.{scaledTo, Scaled}
 
--- of two tests that neither pass, none does
+-- if `a || b` is false, a and b are
 pub neither : (a b : Bool) → (a || b) ≡ false → (a ≡ false) × (b ≡ false)
 neither false b e = (refl, e)
 neither true b e = absurd (true≢false e)
@@ -27,13 +27,13 @@ neither true b e = absurd (true≢false e)
 none-below : {n : ℕ} → n < 0 → ⊥
 none-below l = omega arith
 
--- two values written leave as many as there were
+-- writing two values keeps the length
 pub two-long : (velocity : Float) (ys zs : List Float) (i : ℕ) (a b : Float) → zs ≡ scaledTwo velocity ys i a b → length zs ≡ length ys
 unfolding scaledTwo
 two-long velocity ys zs i a b z = ap length z ∙ simp length-set refl
 
 module _ (k : Adsr) (t : Float) (e : Envelope) where
-  -- ---- within a run the stage stays, and a step gives its level and lets the time grow
+  -- ---- before the end of a stage a step keeps the stage, and the time grows
   pub runs : (s : EnvelopeStage) (d : Envelope) → e .stage ≡ s → d ≡ nextIn s k t e → endsAt s k (d .level) ≡ false → d ≡ stepOf k t e
   unfolding stepOf
   runs s d q m h = m ∙ go s (ap (λ (x : Envelope). endsAt s k (x .level)) (sym m) ∙ h) ∙ ap (λ (z : EnvelopeStage). grownOf t (ruleOf z k e)) (sym q)
@@ -45,7 +45,7 @@ module _ (k : Adsr) (t : Float) (e : Envelope) where
       go Sustain h = absurd (true≢false h)
       go Release h = rw h refl
 
-  -- ---- at its end, and where it stands, a step gives what is said of the stage
+  -- ---- at the end of a stage, and in Idle and Sustain, a step is `endedIn`
   pub ends : (s : EnvelopeStage) (d : Envelope) → e .stage ≡ s → d ≡ nextIn s k t e → endsAt s k (d .level) ≡ true → endedIn s k t e ≡ stepOf k t e
   unfolding stepOf
   ends s d q m h = go s (ap (λ (x : Envelope). endsAt s k (x .level)) (sym m) ∙ h) ∙ ap (λ (z : EnvelopeStage). grownOf t (ruleOf z k e)) (sym q)
@@ -57,7 +57,7 @@ module _ (k : Adsr) (t : Float) (e : Envelope) where
       go Sustain h = refl
       go Release h = rw h refl
 
-  -- ---- where the stage stands, every step gives what the first one gave
+  -- ---- in Idle and Sustain every step gives what the first one gave
   still : grows (e .stage) ≡ false → stepOf k t (stepOf k t e) ≡ stepOf k t e
   unfolding stepOf
   still h = go (e .stage) h
@@ -76,7 +76,7 @@ module _ (k : Adsr) (t : Float) (e : Envelope) where
   stands h (suc (suc n)) l = sym (still h) ∙ ap (stepOf k t) (stands h (suc n) (omega arith))
 
   module _ (velocity : Float) (xs : List Float) where
-    -- ---- how far a part is scaled
+    -- ---- how many values are scaled
     pub reached-none : Reached k t e velocity xs xs e 0
     unfolding scaledTo envelopeFrom run listed
     reached-none = record { long = refl; within = omega arith; envelope = refl; first = refl; others = λ j h. refl }
@@ -98,7 +98,7 @@ module _ (k : Adsr) (t : Float) (e : Envelope) where
     unfolding scaledTwo
     reached-two ys c d₁ d₂ i h p q b = subst (λ (j : ℕ). Reached k t e velocity xs (scaledTwo velocity ys i (d₁ .level) (d₂ .level)) d₂ j) (omega arith) (reached-more (set ys i (getD ys i nan ⊗ d₁ .level ⊗ velocity)) d₁ d₂ (d₂ .level) (i + 1) (simp length-set (omega arith)) q refl (reached-more ys c d₁ (d₁ .level) i (omega arith) p refl b))
 
-    -- twice two
+    -- four values, as twice two
     pub reached-four : (ys zs ws : List Float) (c d₁ d₂ d₃ d₄ : Envelope) (i : ℕ) → i + 4 ≤ length ys → d₁ ≡ stepOf k t c → d₂ ≡ stepOf k t d₁ → d₃ ≡ stepOf k t d₂ → d₄ ≡ stepOf k t d₃ → zs ≡ scaledTwo velocity ys i (d₁ .level) (d₂ .level)
         → ws ≡ scaledTwo velocity zs (i + 2) (d₃ .level) (d₄ .level) → Reached k t e velocity xs ys c i → Reached k t e velocity xs ws d₄ (i + 4)
     reached-four ys zs ws c d₁ d₂ d₃ d₄ i h p₁ p₂ p₃ p₄ z w b =
@@ -106,7 +106,7 @@ module _ (k : Adsr) (t : Float) (e : Envelope) where
         let whole : Reached k t e velocity xs ws d₄ (i + 2 + 2) = subst (λ (l : List Float). Reached k t e velocity xs l d₄ (i + 2 + 2)) (sym w) (reached-two zs d₂ d₃ d₄ (i + 2) (omega (arith, half .long, b .long)) p₃ p₄ half) in
         subst (λ (j : ℕ). Reached k t e velocity xs ws d₄ j) (omega arith) whole
 
-    -- to its end
+    -- at the end of the part
     pub scaled-all : (ys : List Float) (c : Envelope) (i : ℕ) → length ys ≤ i → Reached k t e velocity xs ys c i → Scaled k t e velocity xs ys c
     scaled-all ys c i h b =
         let z : i ≡ length xs = omega (arith, b .long, b .within) in

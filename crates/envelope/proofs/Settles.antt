@@ -1,6 +1,7 @@
--- A decay whose progress p has reached 33 / 32 has come down to the sustain level s: 1 - (1 - s) * p ≤ s, each operation rounded.
--- 1 - s and the product each lose at most one part in 2 ^ 53 by rounding, and p has far more to spare. Progress 1 is not enough: at s = 0.3 it leaves 0.30000000000000004.
--- Assumes nothing.
+-- A decay whose progress p has reached 33 / 32 has come down to the sustain level s: 1 - (1 - s) * p ≤ s, each
+-- operation rounded.
+-- Rounding 1 - s and the product loses at most one part in 2^53 each, far less than the 1 / 32 that p is above 1.
+-- Progress 1 is not enough: at s = 0.3 it leaves 0.30000000000000004. Assumes nothing.
 use mathlib.Core.Path.{_≡_, refl, sym, ap, _∙_, subst}
 use mathlib.Core.Logic.{inl, inr}
 use Prim.Native.Nat.{ℕ, suc, _+_, _-_, _*_, _^_, _≤_, _<_, zero-le}
@@ -23,8 +24,9 @@ use Rattle.floats.proofs.Ranges.{sub-ge0, sub-le, sub-nonpos}
 abbrev pub enough : Float
 enough = fin false 33 (negsuc 4)
 
--- ---- the fractions: w / c is 1 - s, dn / dd is it rounded, pn / pd the progress, tn / td the product rounded; P is 2 ^ 53 and Q is P + 1
--- 1 - s is 2 ^ -53 at least, where it is not 0: s has 53 digits
+-- ---- the fractions: w / c is 1 - s, dn / dd is 1 - s rounded, pn / pd the progress, tn / td the product rounded; P is
+-- 2^53 and Q is P + 1
+-- 1 - s is 0 or at least 2^-53, because s has 53 digits
 gap : (s : Float) → T (fits binary64 s) → T (nonneg s) → 0 < den s - num s → den s ≤ (den s - num s) * 2 ^ 53
 gap nan w p h = absurd p
 gap (inf t) w p h = absurd p
@@ -44,7 +46,7 @@ gap (fin t m (negsuc k)) w p h = go (leb (suc k) 53) (leb→le (suc k) 53) (nleb
     go true a b = near (2 ^ suc k - m * 1) (2 ^ suc k) (2 ^ 53) h (pow-mono (a tt))
     go false a b = far m (2 ^ suc k) (fits-small binary64 t m (negsuc k) w) (pow-mono (b tt))
 
--- w / c ≤ tn / td, where both roundings lose at most one part in P and the progress is Q * Q / (P * P) at least
+-- w / c ≤ tn / td, if each rounding loses at most one part in P and the progress is at least Q * Q / (P * P)
 core : (w c dn dd pn pd tn td P Q : ℕ) → 0 < dd → 0 < pd → 0 < Q → w * dd * P ≤ dn * c * Q → dn * pn * td * P ≤ tn * (dd * pd) * Q → pd * (Q * Q) ≤ pn * (P * P) → w * td ≤ tn * c
 core w c dn dd pn pd tn td P Q D E F h k l =
     le-of-mul-le-mul-right
@@ -68,11 +70,11 @@ core w c dn dd pn pd tn td P Q D E F h k l =
     g : (tn dd pd Q c : ℕ) → tn * (dd * pd) * Q * (c * Q) ≤ tn * c * (dd * pd * (Q * Q))
     g tn dd pd Q c = omega arith
 
--- 33 / 32 is that much
+-- a progress of 33 / 32 is at least Q * Q / (P * P)
 spare : (pn pd : ℕ) → 33 * pd ≤ pn * 32 → pd * ((2 ^ 53 + 1) * (2 ^ 53 + 1)) ≤ pn * (2 ^ 53 * 2 ^ 53)
 spare pn pd h = omega arith
 
--- dn / dd is 1 / Q at least
+-- dn / dd is at least 1 / Q
 least : (w c dn dd P Q : ℕ) → 0 < w → 0 < P → w * dd * P ≤ dn * c * Q → c ≤ w * P → dd ≤ dn * Q
 least w c dn dd P Q W E h k = le-of-mul-le-mul-right (le-trans (a w dd P) (le-trans h (le-trans (b dn c Q) (mul-le-mul-left (dn * Q) k)))) (mul-pos W E)
   where
@@ -82,7 +84,7 @@ least w c dn dd P Q W E h k = le-of-mul-le-mul-right (le-trans (a w dd P) (le-tr
     b : (dn c Q : ℕ) → dn * c * Q ≤ dn * Q * c
     b dn c Q = omega arith
 
--- x / c is in the normal range where it is 2 ^ -59 at least
+-- x / c is in the normal range if it is at least 2^-59
 normal : (x c : ℕ) → c ≤ x * 2 ^ 59 → 2 ^ 52 * c ≤ x * 2 ^ 1074
 normal x c h = le-trans (mul-le-mul-left (2 ^ 52) h) (le-trans (shift x) (mul-le-mul-left x (lit≤ tt)))
   where

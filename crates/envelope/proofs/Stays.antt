@@ -1,5 +1,6 @@
--- Through any number of samples, and through any calls from `new`, the envelope stays accepted: both levels from 0 to 1 and the time from 0 to 11; and the levels of a run of samples lie from 0 to 1.
--- The sustain setting is a value of an f64, which is what owning it tells. Assumes nothing.
+-- After any number of samples, and after any calls from `new`, the envelope is accepted: both levels 0 to 1 and the
+-- time 0 to 11 s; and every level on the way is 0 to 1.
+-- The sustain setting is taken to be a value of an f64, as every f64 of a program is. Assumes nothing.
 use mathlib.Core.Path.{_≡_}
 use mathlib.Core.Bool.{_&&_}
 use mathlib.Core.List.{List, [], _∷_, _++_}
@@ -36,7 +37,7 @@ module _ (k : Adsr) (rate : ℕ) (e : Envelope) (a : T (isAdsr k)) (w : T (fits 
   unfolding envelopeFrom
   run-keeps = repeated-keeps (stepOf (clampedOf k) (sampleTimeOf rate)) e (λ (x : Envelope). T (isEnvelope x)) (λ x. step-keeps k rate x a w r) h
 
-  -- every level lies from 0 to 1
+  -- every level is 0 to 1
   pub levels-in : (i n : ℕ) → i < n → T (within naught one (getD (levelsFrom (clampedOf k) (sampleTimeOf rate) e n) i nan))
   levels-in i n l = rw (level-at (clampedOf k) (sampleTimeOf rate) e i n l) (is-inside _ (run-keeps (suc i)) .level-in)
 
@@ -45,7 +46,7 @@ pub record Good (b : EnvelopeBlock) : Type 0 where
   pub sustain-fits : T (fits binary64 (b .adsr .sustain))
   pub accepted : T (isEnvelope (b .envelope))
 
--- a refusal hands the block back, and what is done is good
+-- a refused call hands the block back, and a done one leaves a good one
 change-keeps : (b : EnvelopeBlock) (e : Envelope) → Good b → T (isEnvelope e) → Good (changedOf b e .block)
 change-keeps b e g h = first-keeps (unless (isEnvelope (b .envelope)) Argument) _ _ (λ (r : Processed). Good (r .block)) (λ why. g) (λ t. record { sustain-fits = g .sustain-fits; accepted = h })
 
@@ -89,14 +90,15 @@ unfolding run
 calls-keep b [] g = g
 calls-keep b (c ∷ cs) g = calls-keep (after b c) cs (after-keeps b c g)
 
--- from `new`, through any calls, refused ones too, the envelope stays within the limits: so no call refuses it
+-- from `new`, after any calls, refused ones too, the envelope is within the limits: so no call refuses it
 pub stays : (attack decay sustain release : Float) → T (fits binary64 sustain) → (cs : List Call) → T (isEnvelope (run (newOf attack decay sustain release) cs .envelope))
 stays attack decay sustain release w cs = calls-keep (newOf attack decay sustain release) cs (record { sustain-fits = w; accepted = fresh-accepted }) .accepted
 
 clash : _≡_ {A = ℕ} 0 1 → ⊥
 clash e = omega arith
 
--- 01: "The level is proved to stay between 0 and 1 from a fresh envelope". Every level that `process` writes, after any calls from `new`, is 0 to 1
+-- 01: "The level is proved to stay between 0 and 1 from a fresh envelope". Every level that `process` writes, after any
+-- calls from `new`, is 0 to 1
 pub process-in : (attack decay sustain release : Float) → T (fits binary64 sustain) → (cs : List Call) (rate : ℕ) (xs : List Float) (n : ℕ)
     → processOf (run (newOf attack decay sustain release) cs) rate xs .result .answer ≡ Done n → (i : ℕ) → i < length xs → T (within naught one (getD (processOf (run (newOf attack decay sustain release) cs) rate xs .lent) i nan))
 unfolding processOf

@@ -1,4 +1,5 @@
--- What private functions are held to: a step by its stage, and how far a lent part is scaled, run by run of a stage. No public statement cites these. Definitions only.
+-- What private functions are held to: a step split by its stage, and how many values of a lent part are scaled. No
+-- public statement cites these definitions. Definitions only.
 use mathlib.Core.Bool.{Bool, true}
 use mathlib.Core.List.{List}
 use mathlib.Core.Path.{_≡_}
@@ -15,50 +16,52 @@ use Rattle.envelope.specs.declared.EnvelopeStage.{EnvelopeStage}
 use Rattle.envelope.specs.declared.EnvelopeStage.the-variants.{Idle, Attack, Decay, Sustain, Release}
 
 -- ---- a step
--- the level of any stage, before its end is looked at
+-- the level in a stage, before the test for its end
 abbrev pub levelOf : EnvelopeStage → Adsr → Envelope → Float
-levelOf Idle k e = naught
-levelOf Attack k e = attackLevel (k .attack) e
-levelOf Decay k e = decayLevel (k .decay) (k .sustain) e
-levelOf Sustain k e = k .sustain
-levelOf Release k e = releaseLevel (k .release) e
+levelOf Idle adsr e = naught
+levelOf Attack adsr e = attackLevel (adsr .attack) e
+levelOf Decay adsr e = decayLevel (adsr .decay) (adsr .sustain) e
+levelOf Sustain adsr e = adsr .sustain
+levelOf Release adsr e = releaseLevel (adsr .release) e
 
--- whether a run of the stage ends at that level; a stage that stands has none
+-- whether a sample of level x ends its stage; for Idle and Sustain true, as `endedIn` gives both whole
 abbrev pub endsAt : EnvelopeStage → Adsr → Float → Bool
-endsAt Idle k x = true
-endsAt Attack k x = le one x
-endsAt Decay k x = le x (k .sustain)
-endsAt Sustain k x = true
-endsAt Release k x = le x silent
+endsAt Idle adsr x = true
+endsAt Attack adsr x = le one x
+endsAt Decay adsr x = le x (adsr .sustain)
+endsAt Sustain adsr x = true
+endsAt Release adsr x = le x silent
 
--- a step in two parts: a sample that does not end its stage, and one that does or whose stage stands
+-- a step in two cases: `nextIn` of a sample that does not end its stage, `endedIn` of one that does or is in Idle or
+-- Sustain
 abbrev pub nextIn : EnvelopeStage → Adsr → Float → Envelope → Envelope
-nextIn s k t e = movedOf e s (levelOf s k e) (e .«stage_time» ⊕ t)
+nextIn s adsr t e = movedOf e s (levelOf s adsr e) (e .«stage_time» ⊕ t)
 
 abbrev pub endedIn : EnvelopeStage → Adsr → Float → Envelope → Envelope
-endedIn Idle k t e = movedOf e Idle naught (e .«stage_time»)
-endedIn Attack k t e = movedOf e Decay one (naught ⊕ t)
-endedIn Decay k t e = movedOf e Sustain (k .sustain) naught
-endedIn Sustain k t e = movedOf e Sustain (k .sustain) (e .«stage_time»)
-endedIn Release k t e = movedOf e Idle naught naught
+endedIn Idle adsr t e = movedOf e Idle naught (e .«stage_time»)
+endedIn Attack adsr t e = movedOf e Decay one (naught ⊕ t)
+endedIn Decay adsr t e = movedOf e Sustain (adsr .sustain) naught
+endedIn Sustain adsr t e = movedOf e Sustain (adsr .sustain) (e .«stage_time»)
+endedIn Release adsr t e = movedOf e Idle naught naught
 
 -- ---- a part
--- the values i and i + 1 of a part, each with its level
+-- values i and i + 1 of a part, each times its level times the velocity
 unfoldable pub scaledTwo : Float → List Float → ℕ → Float → Float → List Float
 scaledTwo velocity ys i a b = let once = set ys i (getD ys i nan ⊗ a ⊗ velocity) in set once (i + 1) (getD once (i + 1) nan ⊗ b ⊗ velocity)
 
--- of a part that held xs the first i values are scaled and the others are as they were, and c is the envelope after the i
-pub record Reached (k : Adsr) (t : Float) (e : Envelope) (velocity : Float) (xs ys : List Float) (c : Envelope) (i : ℕ) : Type 0 where
+-- of a part that held xs the first i values are scaled and the others are as they were; c is the envelope after i
+-- samples
+pub record Reached (adsr : Adsr) (t : Float) (e : Envelope) (velocity : Float) (xs ys : List Float) (c : Envelope) (i : ℕ) : Type 0 where
   pub long : length ys ≡ length xs
   pub within : i ≤ length xs
-  pub envelope : c ≡ envelopeFrom k t e i
-  pub first : take i ys ≡ scaledTo k t e velocity xs i
+  pub envelope : c ≡ envelopeFrom adsr t e i
+  pub first : take i ys ≡ scaledTo adsr t e velocity xs i
   pub others : (j : ℕ) → i ≤ j → getD ys j nan ≡ getD xs j nan
 
--- from ys with c and i to zs with d and j: whatever a loop began with, if it had reached the one it has reached the other
+-- from ys, c, i to zs, d, j: wherever a loop began, if it had reached the first three, it has now reached the others
 abbrev pub Onward : Adsr → Float → Float → List Float → Envelope → ℕ → List Float → Envelope → ℕ → Type 0
-Onward k t velocity ys c i zs d j = (e : Envelope) (xs : List Float) → Reached k t e velocity xs ys c i → Reached k t e velocity xs zs d j
+Onward adsr t velocity ys c i zs d j = (e : Envelope) (xs : List Float) → Reached adsr t e velocity xs ys c i → Reached adsr t e velocity xs zs d j
 
--- from there to the end
+-- from ys, c, i to the end of the part, which is then zs
 abbrev pub Finished : Adsr → Float → Float → List Float → Envelope → ℕ → List Float → Envelope → Type 0
-Finished k t velocity ys c i zs r = (e : Envelope) (xs : List Float) → Reached k t e velocity xs ys c i → Scaled k t e velocity xs zs r
+Finished adsr t velocity ys c i zs r = (e : Envelope) (xs : List Float) → Reached adsr t e velocity xs ys c i → Scaled adsr t e velocity xs zs r

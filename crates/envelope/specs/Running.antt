@@ -1,4 +1,5 @@
--- Samples one after the other, from an envelope e: the envelope after n of them, and their levels. Demand 2: "A render is those steps applied sample by sample". Definitions only.
+-- Consecutive samples from an envelope e: the envelope after n of them, and their levels. Demand 2: "A render is those
+-- steps applied sample by sample". Definitions only.
 use mathlib.Core.List.{List}
 use mathlib.Core.Path.{_≡_}
 use Prim.Native.Nat.{ℕ, suc}
@@ -10,13 +11,13 @@ use Rattle.envelope.specs.declared.Envelope.{Envelope}
 
 -- the envelope after n samples
 unfoldable pub envelopeFrom : Adsr → Float → Envelope → ℕ → Envelope
-envelopeFrom k t e n = repeated (stepOf k t) e n
+envelopeFrom adsr t e n = repeated (stepOf adsr t) e n
 
--- the levels of the n samples
+-- the levels of the first n samples
 unfoldable pub levelsFrom : Adsr → Float → Envelope → ℕ → List Float
-levelsFrom k t e n = listed (λ (i : ℕ). envelopeFrom k t e (suc i) .level) n
+levelsFrom adsr t e n = listed (λ (i : ℕ). envelopeFrom adsr t e (suc i) .level) n
 
--- n lent numbers are these levels, and r is the envelope after them
-pub record Filled (k : Adsr) (t : Float) (e : Envelope) (n : ℕ) (xs : List Float) (r : Envelope) : Type 0 where
-  pub levels : xs ≡ levelsFrom k t e n
-  pub last : r ≡ envelopeFrom k t e n
+-- the lent numbers xs are the first n levels, and r is the envelope after them
+pub record Filled (adsr : Adsr) (t : Float) (e : Envelope) (n : ℕ) (xs : List Float) (r : Envelope) : Type 0 where
+  pub levels : xs ≡ levelsFrom adsr t e n
+  pub last : r ≡ envelopeFrom adsr t e n

@@ -1,6 +1,10 @@
--- One sample of the envelope, and what a note does to it. 01: "Stage rules, the floor 1e-6, and the growth of stage_time in all stages but Idle and Sustain are those of envelope.rs";
--- "each operation rounded once, in this order". A stage's rule sets the level, which is the sample's, and may change the stage and set the time to 0; then the time
--- grows by that of a sample, unless the stage after the rule is Idle or Sustain: so it grows on the very sample of the peak. Settings are clamped already. Definitions only.
+-- One sample of the envelope, and what a note does to it. 01, "Steps, each operation rounded once, in this order":
+-- "Stage rules, the floor 1e-6, and the growth of stage_time in all stages but Idle and Sustain are those of
+-- envelope.rs".
+-- First the rule of the stage sets the level of the sample, and may change the stage and set the time to 0. Then the
+-- time grows by one sample, unless the stage is now Idle or Sustain. So on the sample of the peak the decay's time is
+-- already one sample.
+-- Settings are taken as clamped. Definitions only.
 use mathlib.Core.Bool.{Bool, true, false, cond}
 use lib.Ieee.{Float, binary64, ofBits, le}
 use Rattle.floats.specs.Double.{_⊕_, _⊖_, _⊗_, _⊘_, naught, one}
@@ -9,15 +13,15 @@ use Rattle.envelope.specs.declared.Envelope.{Envelope}
 use Rattle.envelope.specs.declared.EnvelopeStage.{EnvelopeStage}
 use Rattle.envelope.specs.declared.EnvelopeStage.the-variants.{Idle, Attack, Decay, Sustain, Release}
 
--- 1e-6
+-- 1e-6, the floor of a release
 abbrev pub silent : Float
 silent = ofBits binary64 0x3eb0_c6f7_a0b5_ed8d
 
--- stage, level and time are set; the release level stays
+-- stage, level and time are set; the release level is kept
 abbrev pub movedOf : Envelope → EnvelopeStage → Float → Float → Envelope
 movedOf e stage level time = record { stage = stage; level = level; «stage_time» = time; «release_level» = e .«release_level» }
 
--- ---- the level of each stage that moves
+-- ---- the level in each stage in which it moves
 -- from 0 to 1, whatever the level was before
 abbrev pub attackLevel : Float → Envelope → Float
 attackLevel attack e = e .«stage_time» ⊘ attack
@@ -47,11 +51,11 @@ releaseRule release e =
     cond (le x silent) (movedOf e Idle naught naught) (movedOf e Release x (e .«stage_time»))
 
 abbrev pub ruleOf : EnvelopeStage → Adsr → Envelope → Envelope
-ruleOf Idle k e = movedOf e Idle naught (e .«stage_time»)
-ruleOf Attack k e = attackRule (k .attack) e
-ruleOf Decay k e = decayRule (k .decay) (k .sustain) e
-ruleOf Sustain k e = movedOf e Sustain (k .sustain) (e .«stage_time»)
-ruleOf Release k e = releaseRule (k .release) e
+ruleOf Idle adsr e = movedOf e Idle naught (e .«stage_time»)
+ruleOf Attack adsr e = attackRule (adsr .attack) e
+ruleOf Decay adsr e = decayRule (adsr .decay) (adsr .sustain) e
+ruleOf Sustain adsr e = movedOf e Sustain (adsr .sustain) (e .«stage_time»)
+ruleOf Release adsr e = releaseRule (adsr .release) e
 
 -- ---- the growth of the time
 abbrev pub grows : EnvelopeStage → Bool
@@ -66,13 +70,13 @@ grownOf t e = cond (grows (e .stage)) (movedOf e (e .stage) (e .level) (e .«sta
 
 -- one sample: its level is the level of the envelope after it
 unfoldable pub stepOf : Adsr → Float → Envelope → Envelope
-stepOf k t e = grownOf t (ruleOf (e .stage) k e)
+stepOf adsr t e = grownOf t (ruleOf (e .stage) adsr e)
 
 -- ---- notes
 abbrev pub freshOf : Envelope
 freshOf = record { stage = Idle; level = naught; «stage_time» = naught; «release_level» = naught }
 
--- a note begins: both levels stay
+-- a note starts: both levels are kept
 abbrev pub triggeredOf : Envelope → Envelope
 triggeredOf e = movedOf e Attack (e .level) naught
 
@@ -83,6 +87,6 @@ restsIn Decay = false
 restsIn Sustain = false
 restsIn Release = false
 
--- a note ends, if the envelope is not at rest: the release starts from the level at hand
+-- a note ends: in Idle nothing changes, else the release starts from the present level
 unfoldable pub releasedOf : Envelope → Envelope
 releasedOf e = cond (restsIn (e .stage)) e (record { stage = Release; level = e .level; «stage_time» = naught; «release_level» = e .level })

@@ -1,5 +1,5 @@
-// The envelope over a lent part: each value times the level times a velocity, in place; the mirror of the waveform's inner
-// loop. A stage is run through up to the sample that ends it, so that the loop within asks for no stage.
+// The envelope over a lent part: each value that the waveform's inner loop wrote, times the level times a velocity, in
+// place. A stage runs up to the sample that ends it, so that the inner loops test no stage.
 ghost use mathlib.Core.Path.{_≡_};
 ghost use mathlib.Core.Bool.{false};
 ghost use Prim.Native.Nat.{_+_, _<_, _≤_};
@@ -14,14 +14,14 @@ use crate::ends_at;
 use crate::next_in;
 use crate::step;
 
-// How far a part is scaled, and the envelope there.
+// How many values of a part are scaled, and the envelope after them.
 struct Reach {
     envelope: Envelope,
     count: usize,
 }
 
-// Each value of a part times the level times the velocity, under clamped settings, and the envelope after the last: a run of
-// a stage, the sample that ends it, the next.
+// Each value of a part times the level times the velocity, under clamped settings, and the envelope after the last
+// value. Each turn takes the samples of one stage and then the sample that ends the stage.
 pub fn scale(
     adsr: Adsr,
     sample_time: f64,
@@ -50,7 +50,7 @@ pub fn scale(
     envelope
 }
 
-// The samples of the stage at hand before the one that ends it.
+// The samples of the present stage before the sample that ends it.
 fn run_on(adsr: Adsr, sample_time: f64, at: Reach, velocity: f64, part: &mut [f64]) -> Reach
     ensures { λ r. ⌜ (at .count ≤ r .count) × Onward adsr «sample_time» velocity (now (part .entry)) (at .envelope) (at .count) (now (part .exit)) (r .envelope) (r .count) ⌝ }
 {
@@ -86,7 +86,7 @@ fn run_fours(adsr: Adsr, sample_time: f64, at: Reach, velocity: f64, part: &mut 
     Reach { envelope, count: i }
 }
 
-// Two samples, each with its level.
+// Values i and i + 1, each times its level times the velocity.
 fn scale_two(first: f64, second: f64, velocity: f64, i: usize, part: &mut [f64])
     requires { ⌜ i + 2 ≤ length (now part) ⌝ }
     ensures { λ r. ⌜ now (part .exit) ≡ scaledTwo velocity (now (part .entry)) i first second ⌝ }
@@ -95,7 +95,7 @@ fn scale_two(first: f64, second: f64, velocity: f64, i: usize, part: &mut [f64])
     part[i + 1] = part[i + 1] * second * velocity;
 }
 
-// The samples that are left, one at a time.
+// One sample at a time, up to the sample that ends the stage or the end of the part.
 fn run(adsr: Adsr, sample_time: f64, at: Reach, velocity: f64, part: &mut [f64]) -> Reach
     ensures { λ r. ⌜ (at .count ≤ r .count) × Onward adsr «sample_time» velocity (now (part .entry)) (at .envelope) (at .count) (now (part .exit)) (r .envelope) (r .count) ⌝ }
 {
@@ -114,7 +114,7 @@ fn run(adsr: Adsr, sample_time: f64, at: Reach, velocity: f64, part: &mut [f64])
     Reach { envelope, count: i }
 }
 
-// The rest of a part where the stage stands, as it then does to the end: one level for all, so that the loop has no branch.
+// Idle and Sustain last to the end of the part: one level for all samples, no branch.
 fn hold(adsr: Adsr, sample_time: f64, at: Reach, velocity: f64, part: &mut [f64]) -> Envelope
     requires { ⌜ (grows (at .envelope .stage) ≡ false) × (at .count < length (now part)) ⌝ }
     ensures { λ r. ⌜ Finished adsr «sample_time» velocity (now (part .entry)) (at .envelope) (at .count) (now (part .exit)) r ⌝ }
@@ -129,7 +129,7 @@ fn hold(adsr: Adsr, sample_time: f64, at: Reach, velocity: f64, part: &mut [f64]
     held
 }
 
-// Whether the level moves from sample to sample.
+// Whether the level changes from sample to sample.
 fn moves(e: Envelope) -> bool
     ensures { λ r. ⌜ r ≡ grows (e .stage) ⌝ }
 {

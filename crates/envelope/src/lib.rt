@@ -1,6 +1,6 @@
-// envelope.rs of the original: an ADSR level, one step a sample, in f64. State goes in by value and is handed back; the
-// part that moves, `Envelope`, stands apart from the settings, `Adsr`, so that a render can hold it alone. Left out, as
-// 01 says: `Block`, parameter names and modulation, and `prepare`.
+// envelope.rs of the original: an ADSR level in f64, one step a sample. State goes in by value and is handed back.
+// What changes from sample to sample, `Envelope`, is a struct apart from the settings, `Adsr`, so that a render keeps
+// it alone in its state. Left out, as 01 says: `Block`, parameter names and modulation; and `prepare`.
 ghost use mathlib.Core.Path.{_≡_};
 ghost use mathlib.Core.Bool.{not};
 ghost use mathlib.Core.List.{_++_};
@@ -19,7 +19,7 @@ use answers::Refusal;
 
 pub mod levels;
 
-// A release ends at this level.
+// A release ends at or below this level.
 const FLOOR: f64 = 0.000001;
 
 pub enum EnvelopeStage {
@@ -30,8 +30,8 @@ pub enum EnvelopeStage {
     Release,
 }
 
-// The part that moves: the level of the last sample, the stage's time at the next one in seconds (it stands in Idle and
-// Sustain), and the level at the release.
+// The level of the last sample, the time in the stage at the next sample in seconds (in Idle and Sustain it does not
+// grow), and the level from which the last release started.
 pub struct Envelope {
     pub stage: EnvelopeStage,
     pub level: f64,
@@ -59,7 +59,7 @@ pub struct Processed {
 }
 
 impl EnvelopeBlock {
-    // At rest, with the settings as they are given: they are judged and clamped where they are used.
+    // Idle, with the settings as they are given: `process` judges and clamps them.
     pub fn new(attack: f64, decay: f64, sustain: f64, release: f64) -> EnvelopeBlock
         ensures { λ r. ⌜ r ≡ newOf attack decay sustain release ⌝ }
     {
@@ -86,14 +86,14 @@ impl EnvelopeBlock {
         changed(self, released(self.envelope))
     }
 
-    // At rest again; the settings stay.
+    // Idle again; the settings are kept.
     pub fn reset(self) -> Processed
         ensures { λ r. ⌜ r ≡ resetOf self ⌝ }
     {
         changed(self, fresh())
     }
 
-    // Where it is not refused, the level of a sample goes into every element of out.
+    // The level of each sample goes into out, one step an element; a refused call writes nothing.
     pub fn process(self, rate: u32, out: &mut [f64]) -> Processed
         ensures { λ r. ⌜ leaves r (now (out .exit)) ≡ processOf self rate (now (out .entry)) ⌝ }
     {
@@ -112,7 +112,7 @@ impl EnvelopeBlock {
     }
 }
 
-// At rest.
+// Idle, both levels and the time 0.
 pub fn fresh() -> Envelope
     ensures { λ r. ⌜ r ≡ freshOf ⌝ }
 {
@@ -124,14 +124,14 @@ pub fn fresh() -> Envelope
     }
 }
 
-// A note begins: the attack starts at 0, whatever the level is.
+// A note starts: the attack starts at time 0, and so at level 0, whatever the level was.
 pub fn triggered(e: Envelope) -> Envelope
     ensures { λ r. ⌜ r ≡ triggeredOf e ⌝ }
 {
     moved(e, EnvelopeStage::Attack, e.level, 0.0)
 }
 
-// A note ends: at rest nothing happens, else the release starts from the level at hand.
+// A note ends: in Idle nothing changes, else the release starts from the present level.
 pub fn released(e: Envelope) -> Envelope
     ensures { λ r. ⌜ r ≡ releasedOf e ⌝ }
 {
@@ -147,7 +147,7 @@ pub fn released(e: Envelope) -> Envelope
     }
 }
 
-// Settings that are accepted: none is a NaN.
+// Whether settings are accepted: none is a NaN.
 pub fn is_adsr(adsr: Adsr) -> bool
     ensures { λ r. ⌜ r ≡ isAdsr adsr ⌝ }
 {
@@ -157,7 +157,7 @@ pub fn is_adsr(adsr: Adsr) -> bool
         & is_number(adsr.release)
 }
 
-// An envelope that is accepted: the shelf's limits.
+// Whether an envelope is within the shelf's limits.
 pub fn is_envelope(e: Envelope) -> bool
     ensures { λ r. ⌜ r ≡ isEnvelope e ⌝ }
 {
@@ -166,7 +166,7 @@ pub fn is_envelope(e: Envelope) -> bool
         & floats::is_within(0.0, 11.0, e.stage_time)
 }
 
-// Times between a millisecond and ten seconds, sustain between 0 and 1.
+// Times between 0.001 and 10 s, sustain between 0 and 1.
 pub fn clamped(adsr: Adsr) -> Adsr
     ensures { λ r. ⌜ r ≡ clampedOf adsr ⌝ }
 {
@@ -197,7 +197,7 @@ pub fn step(adsr: Adsr, sample_time: f64, e: Envelope) -> Envelope
     next
 }
 
-// The envelope one sample on, if that does not end the stage: the level alone is looked at, and the time grows.
+// The envelope after one sample that does not end the stage: the time grows by one sample.
 fn next_in(stage: EnvelopeStage, adsr: Adsr, sample_time: f64, e: Envelope) -> Envelope
     ensures { λ r. ⌜ r ≡ nextIn stage adsr «sample_time» e ⌝ }
 {
@@ -209,7 +209,7 @@ fn next_in(stage: EnvelopeStage, adsr: Adsr, sample_time: f64, e: Envelope) -> E
     }
 }
 
-// The level of a stage, before its end is looked at: from 0 to 1, from 1 to the sustain level, from the release level to 0.
+// The level in a stage, before the test for its end: from 0 to 1, 1 to the sustain level, the release level to 0.
 fn level_in(stage: EnvelopeStage, adsr: Adsr, e: Envelope) -> f64
     ensures { λ r. ⌜ r ≡ levelOf stage adsr e ⌝ }
 {
@@ -222,7 +222,7 @@ fn level_in(stage: EnvelopeStage, adsr: Adsr, e: Envelope) -> f64
     }
 }
 
-// Whether a run of the stage ends at that level. A stage that stands has no run.
+// Whether a sample of this level ends its stage. For Idle and Sustain true: `ended_in` decides both whole.
 fn ends_at(stage: EnvelopeStage, adsr: Adsr, level: f64) -> bool
     ensures { λ r. ⌜ r ≡ endsAt stage adsr level ⌝ }
 {
@@ -235,7 +235,7 @@ fn ends_at(stage: EnvelopeStage, adsr: Adsr, level: f64) -> bool
     }
 }
 
-// The sample that ends a stage, or one of a stage that stands; the sample of the peak is the first of the decay's time.
+// After a sample that ends its stage or is in Idle or Sustain. The sample of the peak is the first of the decay's time.
 fn ended_in(stage: EnvelopeStage, adsr: Adsr, sample_time: f64, e: Envelope) -> Envelope
     ensures { λ r. ⌜ r ≡ endedIn stage adsr «sample_time» e ⌝ }
 {
@@ -248,7 +248,7 @@ fn ended_in(stage: EnvelopeStage, adsr: Adsr, sample_time: f64, e: Envelope) -> 
     }
 }
 
-// The release level stays.
+// Stage, level and time change, and the release level is kept.
 fn moved(e: Envelope, stage: EnvelopeStage, level: f64, stage_time: f64) -> Envelope
     ensures { λ r. ⌜ r ≡ movedOf e stage level «stage_time» ⌝ }
 {
@@ -272,7 +272,7 @@ fn rests(stage: EnvelopeStage) -> bool
     }
 }
 
-// One step an element; the envelope after them.
+// One step for each element of out; returns the envelope after the last.
 fn fill(adsr: Adsr, sample_time: f64, e: Envelope, out: &mut [f64]) -> Envelope
     ensures { λ r. ⌜ Filled adsr «sample_time» e (length (now (out .entry))) (now (out .exit)) r ⌝ }
 {
@@ -286,7 +286,7 @@ fn fill(adsr: Adsr, sample_time: f64, e: Envelope, out: &mut [f64]) -> Envelope
     after
 }
 
-// `f64::clamp`, for every number and a NaN: what lies between the bounds stays as it is.
+// `f64::clamp`, for every number and a NaN: a number between the bounds is kept, -0 at a bound of 0 too.
 fn clamp(low: f64, high: f64, x: f64) -> f64
     ensures { λ r. ⌜ r ≡ clampOf low high x ⌝ }
 {
@@ -299,14 +299,14 @@ fn clamp(low: f64, high: f64, x: f64) -> f64
     x
 }
 
-// A NaN alone is not equal to itself.
+// Only a NaN is not equal to itself.
 fn is_number(x: f64) -> bool
     ensures { λ r. ⌜ r ≡ not (isNan x) ⌝ }
 {
     x == x
 }
 
-// The first refusal that holds, or done.
+// 6 before 9, or done.
 fn judged(usable: bool, sound: bool, count: usize) -> Answer
     ensures { λ r. ⌜ r ≡ answerOr (unless usable Setting ++ unless sound Argument) count ⌝ }
 {
@@ -319,7 +319,7 @@ fn judged(usable: bool, sound: bool, count: usize) -> Answer
     Answer::Refused(Refusal::Setting)
 }
 
-// The block with the envelope after a call, or a refusal with the block as it came.
+// Done with the envelope after the call, or refused with the block as it came.
 fn changed(before: EnvelopeBlock, after: Envelope) -> Processed
     ensures { λ r. ⌜ r ≡ changedOf before after ⌝ }
 {

@@ -1,4 +1,4 @@
--- What a reading that ended tells. Assumes nothing.
+-- What is known once reading has ended. Assumes nothing.
 use mathlib.Core.Path.{_≡_}
 use mathlib.Core.List.{List}
 use Prim.Native.Nat.{ℕ, _≤_}
@@ -7,6 +7,6 @@ use Rattle.lister.specs.declared.Reading.{Reading}
 use Rattle.lister.specs.declared.Reading.the-variants.{Ended}
 use Rattle.lister.specs.Within.{Within}
 
--- its bytes are in the buffer
+-- the bytes that were read are in the buffer
 pub ended-within : (r : Reading) (n : ℕ) (xs : List ℕ) → r ≡ Ended n → Within r xs → n ≤ length xs
 ended-within r n xs e w = rw e at w

@@ -1,4 +1,5 @@
--- What a reading says of the buffer: where it ended, so many bytes stand at its front. Definitions only.
+-- What the result of reading says of the buffer: the bytes that were read are not more than the buffer has. Definitions
+-- only.
 use mathlib.Core.List.{List}
 use Prim.Native.Nat.{ℕ, _≤_}
 use lib.ListN.{length}

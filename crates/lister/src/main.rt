@@ -1,8 +1,8 @@
-// The lister: reads a score from standard input and prints it, or the one line that refuses it. A score of 40,961 bytes
-// or more is refused for its length, so no more is looked at.
+// The lister: reads a score from standard input and prints it, or prints the one line that refuses it. It reads at most
+// 40,961 bytes: a score of 4,096 records has 40,960, and a longer one is refused for its length.
 ghost use Rattle.lister.specs.Within.{Within};
 
-// How a reading ended: with so many bytes at the front of the buffer, or by a read that failed.
+// How reading ended: with so many bytes at the front of the buffer, or because a read failed.
 enum Reading {
     Ended(usize),
     Failed,
@@ -35,7 +35,7 @@ fn read_score(buf: &mut [u8]) -> Reading
     Reading::Ended(n)
 }
 
-// Reads once: no bytes are the end of the input.
+// Reads once; 0 bytes are the end of the input.
 fn read_some(rest: &mut [u8]) -> Reading
     ensures { λ r. ⌜ Within r (now (rest .exit)) ⌝ }
 {
@@ -46,7 +46,7 @@ fn read_some(rest: &mut [u8]) -> Reading
     Reading::Ended(io::count(got, rest))
 }
 
-// Writes the score's listing to standard output.
+// Writes the listing of the score to standard output.
 fn print(score: &[u8]) {
     let mut text = [0u8; 102413];
     let k = listing::list(score, &mut text);

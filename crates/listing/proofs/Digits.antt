@@ -1,4 +1,5 @@
--- The decimal digits of a number: those that `io::decimal` writes, and how many there are at most. Assumes nothing.
+-- The decimal digits of a number: they are those that `io::decimal` writes, and there are at most so many. Assumes
+-- nothing.
 use mathlib.Core.Path.{_≡_, refl}
 use mathlib.Core.List.{[], _∷_, _++_}
 use mathlib.Core.Logic.{⊎-elim}
@@ -18,7 +19,7 @@ use Rattle.listing.specs.Listing.{spelt, decimalOf, kindWord}
 clash : _≡_ {A = ℕ} 0 1 → ⊥
 clash h = omega arith
 
--- ---- one digit more
+-- ---- one more digit
 one-digit : (f n : ℕ) → n < 10 → spelt (suc f) n ≡ (48 + n) ∷ []
 unfolding spelt
 one-digit f n h = rw (lt-ltb n 10 h)
@@ -27,7 +28,7 @@ more-digits : (f n : ℕ) → 10 ≤ n → spelt (suc f) n ≡ spelt f (n / 10) 
 unfolding spelt
 more-digits f n h = rw (le-ltb n 10 h)
 
--- ten times a power is the next
+-- 10^(k + 1) is ten times 10^k
 ten-times : (k : ℕ) → 10 ^ suc k ≡ 10 ^ k * 10
 ten-times k = pow-suc 10 k
 
@@ -35,7 +36,7 @@ power-low : (k : ℕ) → 1 ≤ 10 ^ k
 power-low zero = lit≤ tt
 power-low (suc k) = let h : 1 ≤ 10 ^ k = power-low k in rw (ten-times k) (omega arith)
 
--- ---- the fewest digits that hold n are its decimal digits
+-- ---- the fewest digits that represent n are its decimal digits
 digits-spelt : (f k n : ℕ) → suc k ≤ f → n < 10 ^ suc k → (1 < suc k → 10 ^ k ≤ n) → digits 10 (suc k) n ≡ spelt f n
 digits-spelt zero k n room high low = absurd (clash (omega arith))
 digits-spelt (suc f) zero n room high low =
@@ -51,7 +52,7 @@ digits-spelt (suc f) (suc k) n room high low =
     let rest : digits 10 (suc k) (n / 10) ≡ spelt f (n / 10) = digits-spelt f k (n / 10) (omega arith) (rw (ten-times k) (omega arith)) (λ h. omega arith) in
     rw (more-digits f n (omega arith), ← rest, lt-ltb (n % 10) 10 last) refl
 
--- a u64 has no more than twenty
+-- a u64 has at most 20 digits
 few-digits : (n k : ℕ) → n < 18446744073709551616 → Fewest 10 1 n k → k ≤ 20
 few-digits n k h f =
     ⊎-elim
@@ -65,7 +66,7 @@ fewest-decimal n zero h f = absurd (clash (omega (arith, f .0)))
 fewest-decimal n (suc k) h f =
     digits-spelt 20 k n (few-digits n (suc k) h f) (f .1) (λ l. let e : suc k - 1 ≡ k = omega arith in rw e at (f .2 l))
 
--- ---- how many there are at most
+-- ---- the largest number of digits
 length-spelt : (f m n : ℕ) → n < 10 ^ suc m → length (spelt f n) ≤ suc m
 unfolding spelt
 length-spelt zero m n h = omega arith
@@ -80,7 +81,7 @@ length-spelt (suc f) m n h =
         let ceiling : n < p * 10 = rw (ten-times (suc m)) at h in
         omega (arith, shorter m (omega arith))
 
--- of a byte three, of a number below ten thousand four, of a u32 ten, of any u64 twenty
+-- a byte has at most 3 digits, a number below 10,000 at most 4, a u32 at most 10, a u64 at most 20
 pub three-digits : (n : ℕ) → n < 256 → length (decimalOf n) ≤ 3
 three-digits n h = length-spelt 20 2 n (omega arith)
 
@@ -105,7 +106,7 @@ kind-length On = omega arith
 kind-length Off = omega arith
 kind-length Reset = omega arith
 
--- ---- a line's parts
+-- ---- the lengths within a line
 pub record Widths (g : Record) : Type 0 where
   pub position-width : length (decimalOf (g .position)) ≤ 10
   pub kind-width : length (kindWord (g .kind)) ≤ 7

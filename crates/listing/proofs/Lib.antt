@@ -1,7 +1,7 @@
--- What the listing's proofs lean on.
+-- What the listing's proofs rest on.
 -- the decimal digits of a number, and how many there are at most
 pub mod Digits
--- texts put one after the other into a buffer
+-- texts put into a buffer one after the other
 pub mod Puts
 -- 01's example
 pub mod Marks

@@ -18,7 +18,7 @@ pub example-listed : listingOf example ≡ printed
 unfolding positionAt markRight kindRight fieldsRight inOrder faultsAt faultsFrom faultsOf spelt linesTo
 example-listed = refl
 
--- a wrong mark in the first record is `refused 2 0`
+-- a wrong mark in the first record gives `refused 2 0`
 pub wrong-mark : listingOf (0 ∷ 0 ∷ 0 ∷ 0 ∷ 0 ∷ 0 ∷ 0 ∷ 0 ∷ 0 ∷ 0 ∷ []) ≡ 114 ∷ 101 ∷ 102 ∷ 117 ∷ 115 ∷ 101 ∷ 100 ∷ 32 ∷ 50 ∷ 32 ∷ 48 ∷ 10 ∷ []
 unfolding positionAt markRight kindRight fieldsRight inOrder faultsAt faultsFrom faultsOf spelt linesTo
 wrong-mark = refl

@@ -1,4 +1,4 @@
--- Texts put one after the other into a buffer. Assumes nothing.
+-- Texts put into a buffer one after the other. Assumes nothing.
 use mathlib.Core.Path.{_≡_, refl, sym, ap, subst, _∙_}
 use mathlib.Core.List.{List, [], _++_, append-assoc}
 use Prim.Native.Nat.{ℕ, _+_, _≤_, _<_}
@@ -23,7 +23,7 @@ use Rattle.listing.specs.Listing.{space, newline, refusedWord, decimalOf
 use Rattle.listing.specs.Outcome.{Listed}
 use Rattle.listing.specs.Inner.{Put}
 
--- no text
+-- an empty text changes nothing
 pub put-none : (x : List ℕ) (at : ℕ) → at ≤ length x → Put [] x at x at
 put-none x at h =
     record {
@@ -33,7 +33,7 @@ put-none x at h =
       bytes = paste-zero x at [];
     }
 
--- all of a text pasted
+-- a text that is copied byte by byte is put
 pub put-pasted : (text x : List ℕ) (at : ℕ) (y : List ℕ) (j n : ℕ) → at + length text ≤ length x → j ≡ length text → y ≡ paste x at text j → n ≡ at + j → Put text x at y n
 put-pasted text x at y j n h e p q =
     record {
@@ -43,7 +43,7 @@ put-pasted text x at y j n h e p q =
       bytes = p ∙ rw (e, take-length text) refl;
     }
 
--- one text after the other is the two joined
+-- a text and then another are the two joined
 pub put-both : {a b x : List ℕ} {at : ℕ} {y z : List ℕ} {m n : ℕ} → Put a x at y m → Put b y m z n → Put (a ++ b) x at z n
 put-both {a} {b} {x} {at} {y} {z} {m} {n} p q =
     let size : length (a ++ b) ≡ length a + length b = length-append a b in
@@ -67,14 +67,14 @@ put-both {a} {b} {x} {at} {y} {z} {m} {n} p q =
       bytes = q .bytes ∙ rw (low, high, append-assoc (take at x) a b) refl;
     }
 
--- the text of a verdict
+-- the listing by the verdict
 pub listing-accepted : (s : List ℕ) (n : ℕ) → verdictOf s ≡ Accepted n → listingOf s ≡ acceptedText s n
 listing-accepted s n e = accepted-first s n e refusedText (acceptedText s (countOf s)) ∙ ap (acceptedText s) (sym (accepted-count s n e))
 
 pub listing-refused : (s : List ℕ) (fault : ScoreFault) → verdictOf s ≡ Faulty fault → listingOf s ≡ refusedText fault
 listing-refused s fault e = faulty-first s fault e refusedText (acceptedText s (countOf s))
 
--- a score's text at the front of a buffer with room is the call's outcome
+-- the listing at the front of a buffer that is long enough is the outcome of the call
 pub put-listed : (s text x y : List ℕ) (r : ℕ) → 102413 ≤ length x → listingOf s ≡ text → Put text x 0 y r → Listed s x y r
 put-listed s text x y r h e p =
     let from : 0 + length text ≡ length text = omega arith in
@@ -86,17 +86,17 @@ put-listed s text x y r h e p =
       written = rw (le-ltb (length x) 102413 h, e) (p .bytes ∙ ap (λ (k : ℕ). text ++ drop k x) from);
     }
 
--- a buffer that is too short stays as it came
+-- a buffer that is too short is as it came
 pub put-nothing : (s x : List ℕ) → length x < 102413 → Listed s x x 0
 put-nothing s x h = record { inside = omega arith; counted = rw (lt-ltb (length x) 102413 h); written = rw (lt-ltb (length x) 102413 h) }
 
--- one line more
+-- one more line
 pub put-next : (s : List ℕ) (i : ℕ) (g : Record) (x : List ℕ) (from : ℕ) (y : List ℕ) (at : ℕ) (z : List ℕ) (n : ℕ)
     → g ≡ recordAt s i → Put (linesTo s i) x from y at → Put (lineOf g) y at z n → Put (linesTo s (i + 1)) x from z n
 unfolding linesTo
 put-next s i g x from y at z n e p q = rw (add-one i) (put-both p (subst (λ (r : Record). Put (lineOf r) y at z n) e q))
 
--- the refusal's numbers
+-- the number and the place of a refusal
 pub put-fault : (fault : ScoreFault) (m : Numbers) (x : List ℕ) (at : ℕ) (y : List ℕ) (n : ℕ)
     → m ≡ numbersOf (Refused (Score fault)) → Put (refusedWord ++ decimalOf (m .number) ++ space ++ decimalOf (m .place) ++ newline) x at y n → Put (refusedText fault) x at y n
 put-fault fault m x at y n e p = subst (λ (k : Numbers). Put (refusedWord ++ decimalOf (k .number) ++ space ++ decimalOf (k .place) ++ newline) x at y n) e p

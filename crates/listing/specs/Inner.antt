@@ -1,10 +1,11 @@
--- What private functions are held to: what a buffer holds after a text was put into it. No public statement cites it. Definitions only.
+-- What private functions are held to: a buffer after a text is put into it. No public statement cites this definition.
+-- Definitions only.
 use mathlib.Core.Path.{_≡_}
 use mathlib.Core.List.{List, _++_}
 use Prim.Native.Nat.{ℕ, _+_, _≤_}
 use lib.ListN.{length, take, drop}
 
--- the text stands from `at` on, the rest is as it came, and `next` is the index after the text
+-- the text is at `at`, the rest of the buffer is as it came, and `next` is the index after the text
 pub record Put (text before : List ℕ) (at : ℕ) (after : List ℕ) (next : ℕ) : Type 0 where
   pub room : at + length text ≤ length before
   pub same-length : length after ≡ length before

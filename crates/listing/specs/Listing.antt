@@ -1,5 +1,7 @@
--- What the lister prints, byte by byte. 01, "The score": "Lister program: it reads a score from standard input. A reset's line ends `reset 0 0`; a refused score prints only one line with `refused`, number and place,
--- as `refused 2 0`", and its example: `records 2`, `0 on 69 127`, `100 off 69 0`. Texts are lists of ASCII codes; every line ends with a newline. Definitions only.
+-- What the lister prints, byte by byte. 01, "The score": "Lister program: it reads a score from standard input. A
+-- reset's line ends `reset 0 0`; a refused score prints only one line with `refused`, number and place, as
+-- `refused 2 0`." 01's example prints `records 2`, `0 on 69 127` and `100 off 69 0`.
+-- A text is a list of ASCII codes, and every line ends with a newline. Definitions only.
 use mathlib.Core.Bool.{cond}
 use mathlib.Core.List.{List, [], _∷_, _++_}
 use Prim.Native.Nat.{ℕ, zero, suc, _+_, _/_, _%_}
@@ -37,12 +39,12 @@ kindWord Off = 32 ∷ 111 ∷ 102 ∷ 102 ∷ 32 ∷ []
 kindWord Reset = 32 ∷ 114 ∷ 101 ∷ 115 ∷ 101 ∷ 116 ∷ 32 ∷ []
 
 -- ---- numbers
--- the decimal digits of n, the most significant first, where k are enough
+-- the decimal digits of n, the most significant first, if n has at most k
 unfoldable pub spelt : ℕ → ℕ → List ℕ
 spelt zero n = []
 spelt (suc k) n = cond (ltb n 10) ((48 + n) ∷ []) (spelt k (n / 10) ++ ((48 + n % 10) ∷ []))
 
--- twenty are enough for every u64
+-- 20 digits suffice for every u64
 abbrev pub decimalOf : ℕ → List ℕ
 decimalOf n = spelt 20 n
 

@@ -1,4 +1,4 @@
--- What the call leaves in a buffer. Definitions only.
+-- What the call leaves in a lent buffer. Definitions only.
 use mathlib.Core.Path.{_≡_}
 use mathlib.Core.Bool.{cond}
 use mathlib.Core.List.{List, _++_}
@@ -7,7 +7,8 @@ use lib.Dec.{ltb}
 use lib.ListN.{length, drop}
 use Rattle.listing.specs.Listing.{listingOf}
 
--- the call's outcome: the listing at the front and its length, the rest as it came; nothing and 0 where the buffer has fewer than 102,413 bytes, more than any listing has
+-- the listing and its length, and the rest of the buffer as it came; or nothing and 0, if the buffer has fewer than
+-- 102,413 bytes, the length that no listing exceeds
 pub record Listed (score before after : List ℕ) (count : ℕ) : Type 0 where
   pub inside : count ≤ length after
   pub counted : count ≡ cond (ltb (length before) 102413) 0 (length (listingOf score))

@@ -1,5 +1,5 @@
-// What the lister prints for a score (01, "The score"), as bytes at the front of a buffer. Reading the score and writing the
-// bytes is left to the program `lister`.
+// What the lister prints for a score (01, "The score"), as bytes at the front of a buffer. Reading the score and
+// writing the bytes to a file are the tasks of the program `lister`.
 ghost use mathlib.Core.Path.{_≡_};
 ghost use Prim.Native.Nat.{_+_, _*_, _≤_};
 ghost use lib.ListN.{length};
@@ -13,10 +13,11 @@ use score::Kind;
 use score::Record;
 use score::Verdict;
 
-// Room for every listing: a first line of 13 bytes, then 4,096 lines of at most 25.
+// Room for every listing: a first line of at most 13 bytes, then 4,096 lines of at most 25 bytes.
 const ROOM: usize = 102413;
 
-// Writes the listing to the front of out and answers its length; where out is shorter than ROOM, writes nothing and answers 0.
+// Writes the listing to the front of out and returns its length; if out is shorter than ROOM, writes nothing and
+// returns 0.
 pub fn list(score: &[u8], out: &mut [u8]) -> usize
     ensures { λ r. ⌜ Listed (now (score .entry)) (now (out .entry)) (now (out .exit)) r ⌝ }
 {
@@ -65,7 +66,7 @@ fn put_lines(score: &[u8], n: usize, out: &mut [u8], from: usize) -> usize
     at
 }
 
-// One record's line, of at most 25 bytes.
+// The line of one record, at most 25 bytes.
 fn put_line(given: Record, out: &mut [u8], at: usize) -> usize
     requires { ⌜ at + 25 ≤ length (now out) ⌝ }
     ensures { λ r. ⌜ (Put (lineOf given) (now (out .entry)) at (now (out .exit)) r) × (r ≤ at + 25) ⌝ }
@@ -100,7 +101,7 @@ fn put_number(n: u64, out: &mut [u8], at: usize) -> usize
     put(&digits[..k], out, at)
 }
 
-// The bytes of text from index at on.
+// The bytes of text, written from index `at` on; returns the index after them.
 fn put(text: &[u8], out: &mut [u8], at: usize) -> usize
     requires { ⌜ at + length (now text) ≤ length (now out) ⌝ }
     ensures { λ r. ⌜ Put (now (text .entry)) (now (out .entry)) at (now (out .exit)) r ⌝ }

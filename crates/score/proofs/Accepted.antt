@@ -1,4 +1,5 @@
--- A score is accepted exactly when it is the encoding of at most 4,096 valid records whose positions never fall. Assumes nothing.
+-- A score is accepted exactly when it is the encoding of at most 4,096 valid records whose positions never fall.
+-- Assumes nothing.
 use mathlib.Core.Path.{_≡_, refl, ap, _∙_}
 use mathlib.Core.Bool.{true}
 use mathlib.Core.List.{List, [], _∷_, _++_, append-assoc}
@@ -27,7 +28,7 @@ length-encode : (rs : List Record) → length (encodeAll rs) ≡ length rs * 10
 length-encode [] = refl
 length-encode (r ∷ rs) = let h : length (encodeAll rs) ≡ length rs * 10 = length-encode rs in omega arith
 
--- byte j of record i stands in that record's encoding
+-- byte j of record i of the encoding is byte j of that record's own encoding
 byte-encode : (rs : List Record) (i j : ℕ) → i < length rs → j < 10 → byteAt (encodeAll rs) i j ≡ getD (encodeOf (getD rs i blank)) j 0
 byte-encode [] i j h k = absurd (none i h)
   where
@@ -87,7 +88,7 @@ module _ (s : List ℕ) (rs : List Record) (g : IsScore s rs) where
 
 -- ---- what is accepted is an encoding
 module _ (s : List ℕ) (n : ℕ) (bytes : Bytes s) (f : AllFine s n) where
-  -- the first k records, written again, are the first bytes
+  -- the first k records, encoded again, are the first 10 k bytes of s
   encode-front : (k : ℕ) → k ≤ n → encodeAll (upTo (recordAt s) k) ≡ take (k * 10) s
   unfolding upTo
   encode-front zero h = refl

@@ -1,4 +1,5 @@
--- What a re-render leans on: two accepted scores have the same records below their first difference, and have none exactly where they are equal. Assumes nothing.
+-- What a re-render rests on: two accepted scores have the same records below their first difference, and they are equal
+-- exactly where they have no difference. Assumes nothing.
 use mathlib.Core.Path.{_≡_, refl, sym, ap, _∙_}
 use mathlib.Core.Bool.{true, false}
 use mathlib.Core.List.{List}
@@ -17,7 +18,7 @@ use Rattle.score.specs.Apart.{sameAt, firstIndex, differenceOf}
 use Rattle.score.proofs.Cuts.{lt-or-ge, accepted-length, accepted-sorted, sorted-le, count-cut, cut-count}
 use Rattle.score.proofs.Parted.{clash, same-bytes, bytes-same, same-position, same-record, First, first-index, AtOrBelow, at-below, equal-ends}
 
--- two lists with the same first n records have the same first n * 10 bytes
+-- two lists with the same first n records have the same first 10 n bytes
 front-same : (s t : List ℕ) (n : ℕ) → n ≤ countOf s → n ≤ countOf t → ((i : ℕ) → i < n → sameAt s t i ≡ true) → take (n * 10) s ≡ take (n * 10) t
 front-same s t n a b f =
     let ls : length (take (n * 10) s) ≡ n * 10 = length-take-le (n * 10) s (omega arith) in
@@ -28,7 +29,7 @@ front-same s t n a b f =
     rw (getD-take (n * 10) s k 0 l, getD-take (n * 10) t k 0 l)
     (ap (λ (m : ℕ). getD s m 0) e ∙ same-bytes s t (k / 10) 10 (f (k / 10) (omega arith)) (k % 10) (omega arith) ∙ ap (λ (m : ℕ). getD t m 0) (sym e)))
 
--- below q both have the same records
+-- below q both lists have the same records
 pub record SameBelow (s t : List ℕ) (q : ℕ) : Type 0 where
   pub count : countBelow s q ≡ countBelow t q
   pub records : (i : ℕ) → i < countBelow s q → recordAt s i ≡ recordAt t i
@@ -51,7 +52,7 @@ module _ (s t : List ℕ) (os : Sorted s) (ot : Sorted t) (p : ℕ) (found : dif
   cut : Cut s q c
   cut = count-cut s os q
 
-  -- what is below q stands before the first index
+  -- a record below q comes before the first index
   before : (i : ℕ) → i < c → i < d
   before i l =
       ⊎-elim (λ x. x)

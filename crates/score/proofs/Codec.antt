@@ -1,4 +1,4 @@
--- A record's bytes and back: each way round gives what went in. Assumes nothing.
+-- A record to its ten bytes and back, and ten bytes to a record and back, give what went in. Assumes nothing.
 use mathlib.Core.Path.{_≡_, refl, sym, ap, _∙_}
 use mathlib.Core.Bool.{Bool, true, false, cond, _&&_, _||_}
 use mathlib.Core.List.{List}
@@ -17,11 +17,11 @@ use Rattle.score.specs.Score.{markRight, kindRight, fieldsRight, mostOf}
 use Rattle.score.proofs.UpTo.{upTo, stretch}
 
 -- ---- four bytes, low byte first
--- three quotients by 256, and the digits that they leave
+-- a number from its three quotients by 256 and the remainders
 join-quotients : (p q r d a b c : ℕ) → a + q * 256 ≡ p → b + r * 256 ≡ q → c + d * 256 ≡ r → a + b * 256 + c * 65536 + d * 16777216 ≡ p
 join-quotients p q r d a b c f g h = omega arith
 
--- the bytes of p, put together again
+-- the four bytes of p make p again
 pub join-bytes : (p : ℕ) → p < 4294967296 → p % 256 + p / 256 % 256 * 256 + p / 65536 % 256 * 65536 + p / 16777216 % 256 * 16777216 ≡ p
 join-bytes p h =
     let top : p / 16777216 % 256 ≡ p / 16777216 = omega arith in
@@ -60,7 +60,7 @@ byte-of-kind b low high = go (eqb b 1) refl (eqb b 2) refl
     go false e true f = sym (eqb-true b 2 f)
     go false e false f = omega (arith, eqb-false b 1 e, eqb-false b 2 f)
 
--- what a reset's fields may be, by its byte and by its kind
+-- the largest note and velocity, by the byte of the kind and by the kind
 pub most-of-byte : (k : Kind) → mostOf (kindByte k) ≡ mostFor k
 most-of-byte On = refl
 most-of-byte Off = refl
@@ -69,7 +69,7 @@ most-of-byte Reset = refl
 pub most-of-kind : (b : ℕ) → 1 ≤ b → b ≤ 3 → mostOf b ≡ mostFor (kindOf b)
 most-of-kind b low high = ap mostOf (sym (byte-of-kind b low high)) ∙ most-of-byte (kindOf b)
 
--- ---- what the tests say
+-- ---- the tests as equations
 pub both : (a b : Bool) → a && b ≡ true → (a ≡ true) × (b ≡ true)
 both true b h = (refl, h)
 both false b h = let z : true ≡ false = sym h in (cc, cc)
@@ -82,7 +82,7 @@ pub or-right : (a b : Bool) → b ≡ true → a || b ≡ true
 or-right true b h = refl
 or-right false b h = h
 
--- what is right about record i alone
+-- the bytes of a record that passes the tests that look at no other record
 pub record Right (s : List ℕ) (i : ℕ) : Type 0 where
   pub mark-one : byteAt s i 0 ≡ 0x56
   pub mark-two : byteAt s i 1 ≡ 0x4E
@@ -111,7 +111,7 @@ tests-right s i m k f =
       last = eqb-true _ _ (f2 .1);
     }
 
--- the same, the other way
+-- from the bytes back to the tests
 module _ (s : List ℕ) (i : ℕ) (r : Right s i) where
   pub right-mark : markRight s i ≡ true
   unfolding markRight
@@ -126,18 +126,18 @@ module _ (s : List ℕ) (i : ℕ) (r : Right s i) where
   right-fields = rw (le-leb _ _ (r .note-right), le-leb _ _ (r .velocity-right), r .last)
 
 -- ---- the round trip
--- a position is below 2 ^ 32
+-- a position is below 2^32
 pub position-bound : (s : List ℕ) (i : ℕ) → Bytes s → positionAt s i < 4294967296
 unfolding positionAt
 position-bound s i bytes = omega (arith, bytes (i * 10 + 2), bytes (i * 10 + 3), bytes (i * 10 + 4), bytes (i * 10 + 5))
 
--- a record's bytes, read again, are the record
+-- a record encoded and read again is the same record
 pub decode-encode : (r : Record) → r .position < 4294967296 → decodeOf (encodeOf r) ≡ r
 unfolding positionAt
 decode-encode r h = rw (join-bytes (r .position) h, kind-of-byte (r .kind)) refl
 
 module _ (s : List ℕ) (i : ℕ) (bytes : Bytes s) (r : Right s i) where
-  -- record i, written again, is its ten bytes
+  -- record i, read and encoded again, is its ten bytes
   pub encode-record : i * 10 + 10 ≤ length s → encodeOf (recordAt s i) ≡ take 10 (drop (i * 10) s)
   unfolding positionAt upTo
   encode-record h =
@@ -159,7 +159,7 @@ module _ (s : List ℕ) (i : ℕ) (bytes : Bytes s) (r : Right s i) where
       )
       refl
 
-  -- and it is a valid one
+  -- the record that is read is valid
   pub valid-record : Valid (recordAt s i)
   valid-record =
       let most : mostOf (byteAt s i 6) ≡ mostFor (kindOf (byteAt s i 6)) = most-of-kind (byteAt s i 6) (r .kind-low) (r .kind-high) in
@@ -169,7 +169,7 @@ module _ (s : List ℕ) (i : ℕ) (bytes : Bytes s) (r : Right s i) where
         velocity-most = rw (← most) (r .velocity-right);
       }
 
--- ten bytes that pass the tests of a record, read and written again, are the bytes
+-- ten bytes that pass the tests, read and encoded again, are the same ten bytes
 pub encode-decode : (b : List ℕ) → length b ≡ 10 → Bytes b → markRight b 0 ≡ true → kindRight b 0 ≡ true → fieldsRight b 0 ≡ true → encodeOf (decodeOf b) ≡ b
 encode-decode b ten bytes m k f =
     let h : 10 ≤ length b = omega arith in

@@ -1,4 +1,5 @@
--- The records below a position: on a score whose positions never fall they are the first ones, and `countBelow` says how many. Assumes nothing.
+-- The records below a position: in a score whose positions never fall they are the first records, and `countBelow` is
+-- their number. Assumes nothing.
 use mathlib.Core.Path.{_≡_, refl, sym, ap, _∙_}
 use mathlib.Core.Bool.{Bool, true, false, _&&_, _||_}
 use mathlib.Core.List.{List}
@@ -24,7 +25,7 @@ lt-or-ge a b = go (ltb a b) refl
     go false e = inr (ltb-false a b e)
 
 -- ---- an accepted score
--- its records are all its bytes, ten each
+-- its length is ten bytes a record
 pub accepted-count : (s : List ℕ) (n : ℕ) → verdictOf s ≡ Accepted n → n ≡ countOf s
 accepted-count s n h = let size : length s ≡ n * 10 = accepted-all s n h .size in omega arith
 
@@ -50,7 +51,7 @@ sorted-le s o i (suc j) h k =
     let b : positionAt s j ≤ positionAt s (suc j) = o .adjacent j k in omega arith)
     (eq-or-lt-of-le h)
 
--- c is where the first k records are cut
+-- of the first k records those below p are the first c
 CutTo : List ℕ → ℕ → ℕ → ℕ → Type 0
 CutTo s p k c = (c ≤ k) × ((i : ℕ) → i < c → positionAt s i < p) × ((i : ℕ) → c ≤ i → i < k → p ≤ positionAt s i)
 
@@ -74,7 +75,7 @@ below-cut s o p (suc k) h =
     ))
     (lt-or-ge (positionAt s k) p)
 
--- `countBelow` is a cut
+-- the records below p are the first `countBelow` of the score
 pub count-cut : (s : List ℕ) → Sorted s → (p : ℕ) → Cut s p (countBelow s p)
 unfolding CutTo
 count-cut s o p =
@@ -88,14 +89,14 @@ cut-le s p c d x y =
     let b : p ≤ positionAt s d = y .highs d (omega arith) (omega (arith, x .inside)) in omega arith)
     (λ g. g) (lt-or-ge d c)
 
--- and there is no other
+-- there is one such number
 pub cut-same : (s : List ℕ) (p c d : ℕ) → Cut s p c → Cut s p d → c ≡ d
 cut-same s p c d x y = let a = cut-le s p c d x y in let b = cut-le s p d c y x in omega (arith, a, b)
 
 pub cut-count : (s : List ℕ) → Sorted s → (p c : ℕ) → Cut s p c → c ≡ countBelow s p
 cut-count s o p c x = cut-same s p c (countBelow s p) x (count-cut s o p)
 
--- the higher position has the later cut
+-- at a higher position the number is not lower
 pub cut-rises : (s : List ℕ) (p q c d : ℕ) → p ≤ q → Cut s p c → Cut s q d → c ≤ d
 cut-rises s p q c d h x y =
     ⊎-elim
@@ -103,7 +104,7 @@ cut-rises s p q c d h x y =
     let b : q ≤ positionAt s d = y .highs d (omega arith) (omega (arith, x .inside)) in omega arith)
     (λ g. g) (lt-or-ge d c)
 
--- ---- on such a score it is enough to look at two records
+-- ---- in such a score two records suffice to test the number
 pub last-before : (s : List ℕ) (k p : ℕ) → 0 < k → lastBelow s k p ≡ ltb (positionAt s (k - 1)) p
 unfolding lastBelow
 last-before s k p h = let left : k ≡ suc (k - 1) = omega arith in ap (λ (j : ℕ). lastBelow s j p) left
@@ -135,7 +136,7 @@ module _ (s : List ℕ) (o : Sorted s) (k p : ℕ) where
       (λ g. rw (le-leb k (countOf s) (c .inside), low, le-leb (countOf s) k g))
       (lt-or-ge k (countOf s))
 
-  -- k records lie below p
+  -- the test holds exactly of the number of records below p
   pub parts-count : partsAt s k p ≡ eqb k (countBelow s p)
   parts-count = go (partsAt s k p) refl (eqb k (countBelow s p)) refl
     where

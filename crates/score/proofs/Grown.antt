@@ -1,4 +1,5 @@
--- A score that grows only at its end keeps its records, and the number below a position exactly where nothing was added below it: the live set. Assumes nothing.
+-- A score that grows only at its end keeps its records. The number below p stays the same exactly where no record is
+-- added below p: what a stage player may add while a continuing render is at p. Assumes nothing.
 use mathlib.Core.Path.{_≡_, refl, _∙_}
 use mathlib.Core.Bool.{Bool, true, false, cond}
 use mathlib.Core.List.{List, _++_}
@@ -12,7 +13,7 @@ use Rattle.score.specs.Record.{countOf, byteAt, positionAt, recordAt}
 use Rattle.score.specs.Below.{below, countBelow, Sorted}
 use Rattle.score.proofs.Cuts.{count-cut}
 
--- records at p or above add nothing
+-- records at p or above do not count as below p
 below-more : (t : List ℕ) (p n k : ℕ) → ((i : ℕ) → n ≤ i → i < n + k → p ≤ positionAt t i) → below t p (n + k) ≡ below t p n
 unfolding below
 below-more t p n zero f = rw (add-zero n)
@@ -29,7 +30,7 @@ below-few s p (suc n) = go (ltb (positionAt s n) p) (below-few s p n)
     go true h = omega arith
     go false h = omega arith
 
--- s, whose bytes are whole records, and u after it
+-- s, whose bytes are whole records, and u appended to s
 module _ (s u : List ℕ) (whole : length s ≡ countOf s * 10) where
   pub byte-kept : (i j : ℕ) → i < countOf s → j < 10 → byteAt (s ++ u) i j ≡ byteAt s i j
   byte-kept i j h k = let inside : i * 10 + j < length s = omega arith in List·getD-append s u 0 (i * 10 + j) inside
@@ -49,13 +50,13 @@ module _ (s u : List ℕ) (whole : length s ≡ countOf s * 10) where
   below-kept p zero h = refl
   below-kept p (suc n) h = rw (position-kept n h, below-kept p n (omega arith))
 
-  -- nothing added below p: as many below p as before
+  -- if no record is added below p, as many are below p as before
   pub none-added : (p : ℕ) → ((i : ℕ) → countOf s ≤ i → i < countOf (s ++ u) → p ≤ positionAt (s ++ u) i) → countBelow (s ++ u) p ≡ countBelow s p
   none-added p f =
       let grows : countOf s ≤ countOf (s ++ u) = count-grows in
       let e : countOf (s ++ u) ≡ countOf s + (countOf (s ++ u) - countOf s) = omega arith in
       rw e (below-more (s ++ u) p (countOf s) (countOf (s ++ u) - countOf s) (λ i a b. f i a (omega arith)) ∙ below-kept p (countOf s) (omega arith))
 
-  -- as many below p as before: nothing added below p
+  -- if as many are below p as before, no record was added below p
   pub as-many : (p : ℕ) → Sorted (s ++ u) → countBelow (s ++ u) p ≡ countBelow s p → (i : ℕ) → countOf s ≤ i → i < countOf (s ++ u) → p ≤ positionAt (s ++ u) i
   as-many p o e i a b = count-cut (s ++ u) o p .highs i (omega (arith, below-few s p (countOf s))) b

@@ -1,9 +1,9 @@
--- What holds of scores beyond the contracts, in the order to read it: each file rests on those above it.
--- the list of f 0 to f (k - 1), and a stretch of a list as such
+-- What is proved of scores beyond the contracts, in reading order: each file rests on those above it.
+-- the list of f 0 to f (k - 1), and consecutive elements of a list as such a list
 pub mod UpTo
--- a record's bytes and back: each way round gives what went in
+-- a record to its ten bytes and back
 pub mod Codec
--- what an accepted score has, and that nothing else is asked
+-- what is true of an accepted score, and that no other test exists
 pub mod Verdicts
 -- a score is accepted exactly when it is the encoding of at most 4,096 valid records in order
 pub mod Accepted
@@ -11,15 +11,15 @@ pub mod Accepted
 pub mod Cuts
 -- a score that grows only at its end
 pub mod Grown
--- the first difference of two scores, the same from either side
+-- the first difference of two scores does not depend on their order
 pub mod Parted
--- below it they have the same records; there is none exactly where they are equal
+-- two scores have the same records below their first difference, and no difference exactly where they are equal
 pub mod Agree
--- the first difference is reached
+-- the position of the first difference cannot be higher
 pub mod Reached
--- what the bytes that are read at once say
+-- the tests that read several bytes as one number
 pub mod Words
--- a turn of each loop
+-- one turn of each loop
 pub mod Turns
 -- 01's example, and its edges
 pub mod Marks

@@ -23,12 +23,12 @@ noteOn at = record { position = at; kind = On; note = 69; velocity = 127 }
 abbrev noteOff : ℕ → Record
 noteOff at = record { position = at; kind = Off; note = 69; velocity = 0 }
 
--- it has the two records that 01's lister prints
+-- 01's score has the two records that 01's lister prints
 pub example-accepted : (verdictOf example ≡ Accepted 2) × (recordAt example 0 ≡ noteOn 0) × (recordAt example 1 ≡ noteOff 100) × (encodeAll (noteOn 0 ∷ noteOff 100 ∷ []) ≡ example)
 unfolding positionAt markRight kindRight fieldsRight inOrder faultsAt faultsFrom faultsOf verdictOf
 example-accepted = (refl, refl, refl, refl)
 
--- ten bytes with a kind, a note, a velocity and a last byte
+-- ten bytes: the mark, position 0, a kind, a note, a velocity and a last byte
 abbrev ten : ℕ → ℕ → ℕ → ℕ → List ℕ
 ten kind note velocity last = 0x56 ∷ 0x4E ∷ 0 ∷ 0 ∷ 0 ∷ 0 ∷ kind ∷ note ∷ velocity ∷ last ∷ []
 
@@ -62,7 +62,7 @@ refusals =
       falling = refl;
     }
 
--- the lower position of the two; the one that remains; an off velocity alone
+-- the lower of two positions; the position in the longer score; a difference in the velocity of an off alone
 pub record Differences : Type 0 where
   pub lower-first : differenceOf (encodeAll (noteOn 0 ∷ noteOff 9 ∷ [])) (encodeAll (noteOn 0 ∷ noteOff 7 ∷ [])) ≡ At 7
   pub lower-second : differenceOf (encodeAll (noteOn 0 ∷ noteOff 7 ∷ [])) (encodeAll (noteOn 0 ∷ noteOff 9 ∷ [])) ≡ At 7

@@ -1,4 +1,5 @@
--- The first difference of two scores: before it all records are the same, it is not above what either has there, and it is the same from either side. Assumes nothing.
+-- The first difference of two scores: the records before its index are the same, its position is not above that of
+-- either score there, and the order of the two scores does not matter. Assumes nothing.
 use mathlib.Core.Path.{_≡_, refl, sym, ap, _∙_}
 use mathlib.Core.Bool.{Bool, true, false, cond}
 use mathlib.Core.List.{List}
@@ -46,7 +47,7 @@ same-record s t i e =
     rw (same-position s t i e, f 6 (omega arith), f 7 (omega arith), f 8 (omega arith)) refl
 
 -- ---- the first index
--- d is the first of k records from the i-th on that differs, or the end
+-- d is the index of the first of k records from record i on that differs, or i + k
 record FirstIn (s t : List ℕ) (k i d : ℕ) : Type 0 where
   low : i ≤ d
   high : d ≤ i + k
@@ -70,7 +71,7 @@ first-in s t (suc k) i = go (first-in s t k (suc i)) (sameAt s t i) refl
         }
     go r false e = record { low = omega arith; high = omega arith; same = λ j a b. absurd (clash (omega arith)); differs = λ h. e }
 
--- the first d records are the same, and record d is not, if both have one
+-- the first d records are the same, and record d, if both have one, is not
 pub record First (s t : List ℕ) (d : ℕ) : Type 0 where
   pub in-s : d ≤ countOf s
   pub in-t : d ≤ countOf t
@@ -120,11 +121,11 @@ difference-swap s t i = go (ltb i (countOf s)) (ltb i (countOf t))
     go false true = refl
     go false false = refl
 
--- it is the same from either side
+-- the order of the two scores does not matter
 pub symmetric : (s t : List ℕ) → differenceOf s t ≡ differenceOf t s
 symmetric s t = difference-swap s t (firstIndex s t) ∙ ap (differenceAt t s) (index-symmetric s t)
 
--- p is not above what either has at the first index
+-- p is at or below the position of record d in either score
 pub record AtOrBelow (s t : List ℕ) (p d : ℕ) : Type 0 where
   pub high-s : d < countOf s → p ≤ positionAt s d
   pub high-t : d < countOf t → p ≤ positionAt t d
@@ -142,7 +143,7 @@ at-below s t p d e = go (ltb d (countOf s)) refl (ltb d (countOf t)) refl e
     go false f true g e = let z : positionAt t d ≡ p = at-inj e in let w : countOf s ≤ d = ltb-false _ _ f in record { high-s = λ h. omega arith; high-t = λ h. omega arith }
     go false f false g e = absurd (clash (cc))
 
--- no difference: neither goes on past the first index
+-- no difference: neither score has a record at the first index
 pub equal-ends : (s t : List ℕ) (d : ℕ) → differenceAt s t d ≡ Equal → (countOf s ≤ d) × (countOf t ≤ d)
 equal-ends s t d e = go (ltb d (countOf s)) refl (ltb d (countOf t)) refl e
   where

@@ -1,5 +1,7 @@
--- The first difference is reached, so that no lower position would do: where two scores part at p, at the first index one of the two has a record at p that the other has not there.
--- So two scores in order do not have the same records up to p: p + 1 would be too high, as `accepted-below` shows that p is not. Assumes nothing.
+-- 01's P cannot be higher: where two scores part at p, one of them has at the first index a record at p that the other
+-- does not have there.
+-- So two scores in order do not have the same records below p + 1, while `accepted-below` shows that they have the same
+-- below p. Assumes nothing.
 use mathlib.Core.Path.{_≡_, refl, sym, _∙_}
 use mathlib.Core.Bool.{Bool, true, false, cond}
 use mathlib.Core.List.{List}
@@ -18,7 +20,7 @@ use Rattle.score.proofs.Cuts.{lt-or-ge, accepted-sorted, count-cut}
 use Rattle.score.proofs.Parted.{clash, at-inj, bytes-same, first-index}
 use Rattle.score.proofs.Agree.{SameBelow}
 
--- a list has record d, and it stands at p
+-- s has a record d, and its position is p
 abbrev pub StandsAt : List ℕ → ℕ → ℕ → Type 0
 StandsAt s d p = (d < countOf s) × (positionAt s d ≡ p)
 
@@ -35,14 +37,14 @@ reached s t p d e = go (ltb d (countOf s)) refl (ltb d (countOf t)) refl e
     go false f true g e = inr (ltb-true _ _ g, at-inj e)
     go false f false g e = absurd (clash (cc))
 
--- a record at p is among those below p + 1
+-- a record at p is among the records below p + 1
 below-next : (s : List ℕ) (p d : ℕ) → Sorted s → StandsAt s d p → d < countBelow s (suc p)
 below-next s p d o h =
     ⊎-elim (λ l. l)
     (λ g. let high : suc p ≤ positionAt s d = count-cut s o (suc p) .highs d g (h .0) in absurd (clash (omega (arith, h .1))))
     (lt-or-ge d (countBelow s (suc p)))
 
--- the records up to p differ
+-- scores that part do not have the same records below p + 1
 module _ (s t : List ℕ) (p : ℕ) (os : Sorted s) (ot : Sorted t) (same : SameBelow s t (suc p)) where
   abbrev d : ℕ
   d = firstIndex s t

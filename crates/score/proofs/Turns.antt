@@ -1,4 +1,4 @@
--- A turn of each loop over what is left to look at: going on, stopping, ending. Assumes nothing.
+-- One turn of each loop, said of what is left to look at: it goes on, stops, or ends. Assumes nothing.
 use mathlib.Core.Path.{_≡_, refl, sym, ap, _∙_}
 use mathlib.Core.Bool.{true, false}
 use mathlib.Core.List.{List}
@@ -18,7 +18,7 @@ use Rattle.score.proofs.Verdicts.{accepted-none, faulty-leads}
 use Rattle.score.specs.Apart.{sameAt, firstFrom, firstIndex, differenceOf}
 use Rattle.score.specs.declared.Difference.the-variants.{Equal, At}
 
--- ---- the check, at record i of n: what is left of the faults decides
+-- ---- the check, at record i of n: the faults of the records from i on decide
 -- the verdict of the faults from record i on
 abbrev pub verdictFrom : List ℕ → ℕ → ℕ → Verdict
 verdictFrom s n i = firstOf (faultsFrom s (n - i) i) Faulty (Accepted n)
@@ -42,7 +42,7 @@ judge-end s n i h =
     let left : n - i ≡ 0 = omega arith in
     rw left refl
 
--- no record is below the first, and each next one is held to the one before it
+-- record 0 is in order, and each later record is compared with the one before it
 pub order-first : (s : List ℕ) → inOrder s 0 ≡ leb 0 (positionAt s 0)
 unfolding inOrder
 order-first s = sym (le-leb 0 (positionAt s 0) (omega arith))
@@ -70,14 +70,14 @@ search-end s t n i h =
     let left : n - i ≡ 0 = omega arith in
     rw (left, h)
 
--- the order of a record that has one before it
+-- the order of a record i above 0
 pub order-after : (s : List ℕ) (i : ℕ) → 0 < i → inOrder s i ≡ leb (positionAt s (i - 1)) (positionAt s i)
 unfolding inOrder
 order-after s i h =
     let left : i ≡ suc (i - 1) = omega arith in
     ap (inOrder s) left ∙ ap (λ (k : ℕ). leb (positionAt s (i - 1)) (positionAt s k)) (sym left)
 
--- ---- what stands at the first index
+-- ---- the difference at the first index
 module _ (s t : List ℕ) (i : ℕ) (first : i ≡ firstIndex s t) where
   pub in-both : i < countOf s → i < countOf t → differenceOf s t ≡ At (min (positionAt s i) (positionAt t i))
   in-both a b = rw (← first, lt-ltb i (countOf s) a, lt-ltb i (countOf t) b)

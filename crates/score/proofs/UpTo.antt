@@ -1,4 +1,4 @@
--- The list of f 0 to f (k - 1), and what stands in it; a stretch of a list as such a list. Assumes nothing.
+-- The list of f 0 to f (k - 1) and its elements; consecutive elements of a list as such a list. Assumes nothing.
 use mathlib.Core.Path.{_≡_, refl, _∙_}
 use mathlib.Core.List.{List, [], _∷_, _++_}
 use mathlib.Core.Logic.{⊎-elim}
@@ -29,7 +29,7 @@ module _ {A : Type 0} (f : ℕ → A) where
       (λ l. let m : i < length (upTo k) = rw (length-upTo k) l in List·getD-append (upTo k) (f k ∷ []) d i m ∙ getD-upTo k i d l)
       (eq-or-lt-of-le (le-of-suc-le-suc h))
 
--- the k elements of s from n on
+-- the k elements of s from index n on
 pub stretch : (s : List ℕ) (n k : ℕ) → n + k ≤ length s → upTo (λ j. getD s (n + j) 0) k ≡ take k (drop n s)
 unfolding upTo
 stretch s n zero h = refl

@@ -1,4 +1,5 @@
--- What an accepted score has: its length, and every record right and in order; and that nothing else is asked. Assumes nothing.
+-- What is true of an accepted score: its length, and that every record passes its tests and is in order; and that no
+-- other test exists. Assumes nothing.
 use mathlib.Core.Path.{_≡_, refl, _∙_}
 use mathlib.Core.Bool.{true, _&&_}
 use mathlib.Core.List.{List, [], _∷_, _++_}
@@ -23,7 +24,7 @@ use Rattle.score.proofs.Codec.{both, Right, tests-right, right-mark, ri
 clash : _≡_ {A = ℕ} 0 1 → ⊥
 clash h = omega arith
 
--- a list of faults, none of which is there, and a verdict over it
+-- an accepting verdict has an empty list of faults, and a faulty one has its fault first in the list
 pub accepted-none : (xs : List ScoreFault) (k n : ℕ) → firstOf xs Faulty (Accepted k) ≡ Accepted n → (xs ≡ []) × (k ≡ n)
 accepted-none [] k n h = (refl, cc)
 accepted-none (x ∷ xs) k n h = absurd (clash (cc))
@@ -90,7 +91,7 @@ accepted-all s n h =
     let e : countOf s ≡ n = v .1 in
     record { size = omega arith; few = omega arith; fine = λ i l. from-fine s (countOf s) 0 (a .1) i (omega arith) (omega arith) }
 
--- an accepted score has no fault, and the other way
+-- a score is accepted exactly where it has no fault
 pub all-none : (s : List ℕ) (n : ℕ) → AllFine s n → faultsOf s ≡ []
 unfolding faultsOf
 all-none s n f =
@@ -119,14 +120,14 @@ pub faulty-faults : (s : List ℕ) (f : ScoreFault) → verdictOf s ≡ Faulty f
 unfolding verdictOf
 faulty-faults s f h = faulty-leads (faultsOf s) (countOf s) f h
 
--- ---- what goes by the first fault goes by the verdict
+-- ---- what the first fault decides, the verdict decides
 pub accepted-first : (s : List ℕ) (n : ℕ) → verdictOf s ≡ Accepted n → {R : Type 0} (f : ScoreFault → R) (d : R) → firstOf (faultsOf s) f d ≡ d
 accepted-first s n h f d = rw (accepted-faults s n h) refl
 
 pub faulty-first : (s : List ℕ) (fault : ScoreFault) → verdictOf s ≡ Faulty fault → {R : Type 0} (f : ScoreFault → R) (d : R) → firstOf (faultsOf s) f d ≡ f fault
 faulty-first s fault h f d = leads-first fault (faultsOf s) f d (faulty-faults s fault h)
 
--- the call's answer
+-- the answer of the check
 pub answer-accepted : (s : List ℕ) (n : ℕ) → verdictOf s ≡ Accepted n → answerOf s ≡ Done 0
 unfolding answerOf
 answer-accepted s n h = first-map Score (faultsOf s) Refused (Done 0) ∙ accepted-first s n h (λ f. Refused (Score f)) (Done 0)

@@ -1,4 +1,5 @@
--- What the bytes of a record that are read at once say: that it is right, and whether two are the same. Assumes nothing.
+-- The tests of a record that read several bytes as one number: that the record is valid, and that two records are the
+-- same. Assumes nothing.
 use mathlib.Core.Path.{_≡_, refl, sym, _∙_}
 use mathlib.Core.Bool.{Bool, true, false, _&&_, _||_}
 use mathlib.Core.List.{List}
@@ -16,7 +17,7 @@ use Rattle.score.specs.Apart.{sameTo, sameAt}
 use Rattle.score.proofs.Parted.{same-bytes}
 use Rattle.score.proofs.Codec.{both, either, Right, right-mark, right-kind, right-fields}
 
--- ---- the mask: of a word's bytes the first and the last are kept whole, and the highest bit of the others
+-- ---- the mask 0xFF8080FF keeps the first and the last byte of four, and of the two between them the highest bit
 mask-bytes : (a b r s : ℕ) → r < 256 → s < 256 → bitAnd (a * 256 + r) (b * 256 + s) ≡ bitAnd a b * 256 + bitAnd r s
 mask-bytes a b r s h k = and-block 8 a b r s h k
 
@@ -63,7 +64,7 @@ module _ (k n v l : ℕ) (hk : k < 256) (hn : n < 256) (hv : v < 256) (hl : l < 
 
 -- ---- a record's bytes
 module _ (s : List ℕ) (i : ℕ) (small : (j : ℕ) → byteAt s i j < 256) where
-  -- what passes the tests of the mark and of the rest is right
+  -- a record that passes the test of the mark and the test of bytes 6 to 9 is valid
   pub surely-right : eqb (markAt s i) 0x4E56 && (eqb (wordAt s i 6) 3 || (leb 1 (bitAnd (wordAt s i 6) 0xFF8080FF) && leb (bitAnd (wordAt s i 6) 0xFF8080FF) 2)) ≡ true → allRight s i ≡ true
   surely-right h =
       let word = wordAt s i 6 in
@@ -81,7 +82,7 @@ module _ (s : List ℕ) (i : ℕ) (small : (j : ℕ) → byteAt s i j < 256) whe
       } in
       rw (right-mark s i r, right-kind s i r, right-fields s i r)
 
--- words of bytes are the same exactly where each byte is
+-- two numbers made of bytes are the same exactly where each byte is
 module _ (a b c d e f g h : ℕ) (ha : a < 256) (hb : b < 256) (hc : c < 256) (hd : d < 256) (he : e < 256) (hf : f < 256) (hg : g < 256) (hh : h < 256) where
   word-bytes : wordOf a b c d ≡ wordOf e f g h → (a ≡ e) × (b ≡ f) × (c ≡ g) × (d ≡ h)
   word-bytes q = (omega arith, omega arith, omega arith, omega arith)
@@ -92,7 +93,7 @@ word-small a b c d ha hb hc hd = omega arith
 two-words : (a b c d : ℕ) → a < 4294967296 → c < 4294967296 → a + b * 4294967296 ≡ c + d * 4294967296 → (a ≡ c) × (b ≡ d)
 two-words a b c d h k q = (omega arith, omega arith)
 
--- the same, of a record in two scores
+-- record i is the same in two scores exactly where its mark and the eight bytes after it are
 module _ (s t : List ℕ) (i : ℕ) (x : (j : ℕ) → byteAt s i j < 256) (y : (j : ℕ) → byteAt t i j < 256) where
   abbrev Same : ℕ → Type 0
   Same j = byteAt s i j ≡ byteAt t i j

@@ -1,4 +1,5 @@
--- How many records lie below a position: a shelf's and a continuing state's "records acted" is held to it (01, "What a call says", 8 and 10). Definitions only.
+-- How many records lie below a position. The "records acted" of an entry and of a continued state must be this number
+-- (01, "What a call says", 8 and 10). Definitions only.
 use mathlib.Core.Bool.{Bool, true, cond, _&&_, _||_}
 use mathlib.Core.List.{List}
 use Prim.Native.Nat.{ℕ, zero, suc, _+_, _≤_, _<_}
@@ -13,12 +14,12 @@ below s p (suc n) = below s p n + cond (ltb (positionAt s n) p) 1 0
 abbrev pub countBelow : List ℕ → ℕ → ℕ
 countBelow s p = below s p (countOf s)
 
--- the last of the first k records, if k is not 0, is below p
+-- k is 0, or record k - 1 is below p
 unfoldable pub lastBelow : List ℕ → ℕ → ℕ → Bool
 lastBelow s zero p = true
 lastBelow s (suc k) p = ltb (positionAt s k) p
 
--- so many records there are; the last of them is below p, and the next, if there is one, is not
+-- there are at least k records; record k - 1, if k is not 0, is below p, and record k, if there is one, is not
 unfoldable pub partsAt : List ℕ → ℕ → ℕ → Bool
 partsAt s k p = leb k (countOf s) && lastBelow s k p && (leb (countOf s) k || leb p (positionAt s k))
 

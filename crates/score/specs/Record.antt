@@ -1,5 +1,8 @@
--- A record and its ten bytes. 01, "The score": "a two-byte mark 56 4E (hex), position (4 bytes, low byte first), kind (1 on, 2 off, 3 reset), note, velocity, a zero byte: 10 bytes";
--- "A reset has note and velocity 0"; "Notes and velocities are 0 to 127". Wider than 01: reading is defined for every list of bytes, past its end as 0. Definitions only.
+-- A record and its ten bytes. 01, "The score": "a two-byte mark 56 4E (hex), position (4 bytes, low byte first), kind
+-- (1 on, 2 off, 3 reset), note, velocity, a zero byte: 10 bytes"; "A reset has note and velocity 0". 01, "Domain of the
+-- ported calls": "Notes and velocities are 0 to 127".
+-- Wider than 01: a record can be read from any list of bytes, and a byte past the end of the list is 0. Definitions
+-- only.
 use mathlib.Core.Bool.{cond}
 use mathlib.Core.List.{List, [], _∷_, _++_}
 use Prim.Native.Nat.{ℕ, _+_, _*_, _/_, _%_, _≤_, _<_}
@@ -10,20 +13,20 @@ use Rattle.score.specs.declared.Kind.{Kind}
 use Rattle.score.specs.declared.Kind.the-variants.{On, Off, Reset}
 use Rattle.score.specs.declared.Record.{Record}
 
--- how many whole records there are
+-- the number of whole records
 abbrev pub countOf : List ℕ → ℕ
 countOf s = length s / 10
 
--- byte j of record i
+-- byte j of record i, 0 past the end
 abbrev pub byteAt : List ℕ → ℕ → ℕ → ℕ
 byteAt s i j = getD s (i * 10 + j) 0
 
--- the four bytes of record i from byte j on
+-- bytes j to j + 3 of record i as one number, low byte first
 abbrev pub wordAt : List ℕ → ℕ → ℕ → ℕ
 wordAt s i j = wordOf (byteAt s i j) (byteAt s i (j + 1)) (byteAt s i (j + 2)) (byteAt s i (j + 3))
 
 -- ---- a record
--- the position of record i, low byte first
+-- the position of record i
 unfoldable pub positionAt : List ℕ → ℕ → ℕ
 positionAt s i = wordAt s i 2
 
@@ -33,7 +36,7 @@ kindByte On = 1
 kindByte Off = 2
 kindByte Reset = 3
 
--- the kind of a byte from 1 to 3; any other is read as a reset, and the check refuses it
+-- the kind of a byte from 1 to 3; any other byte reads as a reset, and the check refuses the record
 abbrev pub kindOf : ℕ → Kind
 kindOf b = cond (eqb b 1) On (cond (eqb b 2) Off Reset)
 
@@ -53,13 +56,13 @@ encodeOf r =
     ∷ r .position % 256 ∷ r .position / 256 % 256 ∷ r .position / 65536 % 256 ∷ r .position / 16777216 % 256
     ∷ kindByte (r .kind) ∷ r .note ∷ r .velocity ∷ 0 ∷ []
 
--- notes and velocities end at 127, and those of a reset at 0
+-- note and velocity are at most 127, of a reset at most 0
 abbrev pub mostFor : Kind → ℕ
 mostFor On = 127
 mostFor Off = 127
 mostFor Reset = 0
 
--- what a record may be
+-- the records that can be encoded: a position of four bytes, note and velocity in range
 pub record Valid (r : Record) : Type 0 where
   pub position-fits : r .position < 4294967296
   pub note-most : r .note ≤ mostFor (r .kind)
@@ -75,6 +78,6 @@ abbrev pub encodeAll : List Record → List ℕ
 encodeAll [] = []
 encodeAll (r ∷ rs) = encodeOf r ++ encodeAll rs
 
--- every element is a byte: what owning a slice of them tells
+-- every element is a byte: known of each slice of bytes in a program
 abbrev pub Bytes : List ℕ → Type 0
 Bytes s = (k : ℕ) → getD s k 0 < 256

@@ -1,5 +1,5 @@
-// The score: records of ten bytes, as document 01 writes them ("The score"). A score is a slice of bytes; every public
-// function takes any slice, and reads past its end as 0. Listing is left to `listing`.
+// The score: records of ten bytes, as document 01 defines them ("The score"). A score is a slice of bytes; every public
+// function takes any slice and reads bytes past its end as 0. Listing a score is the task of `listing`.
 ghost use mathlib.Core.Path.{_≡_};
 ghost use mathlib.Core.Bool.{true};
 ghost use Prim.Native.Nat.{_<_, _≤_, min};
@@ -14,12 +14,12 @@ use answers::Answer;
 use answers::Refusal;
 use answers::ScoreFault;
 
-// A record's bytes, and the most records of a score.
+// The bytes of one record, and the largest number of records of a score.
 const SIZE: usize = 10;
 
 const MOST: usize = 4096;
 
-// What a record does.
+// What a record does: a key goes down, a key goes up, or all is reset.
 pub enum Kind {
     On,
     Off,
@@ -33,19 +33,19 @@ pub struct Record {
     pub velocity: u8,
 }
 
-// A score's number of records, or its first fault.
+// The number of records of an accepted score, or the first fault of a refused one.
 pub enum Verdict {
     Accepted(usize),
     Faulty(ScoreFault),
 }
 
-// Whether two scores have the same records, or the position from which on they may differ.
+// Whether two scores have the same records, or the lowest position from which they may differ.
 pub enum Difference {
     Equal,
     At(u32),
 }
 
-// The call of 01: done, or refused with the first fault.
+// 01's check of a score: done, or refused with the first fault.
 pub fn check(score: &[u8]) -> Answer
     ensures { λ r. ⌜ r ≡ answerOf (now (score .entry)) ⌝ }
 {
@@ -55,7 +55,7 @@ pub fn check(score: &[u8]) -> Answer
     }
 }
 
-// What is wrong with a score first, for those who say it of an old or of a new one.
+// The first fault of a score, without an answer's number: a caller numbers it as a fault of an old or of a new score.
 pub fn judge(score: &[u8]) -> Verdict
     ensures { λ r. ⌜ r ≡ verdictOf (now (score .entry)) ⌝ }
 {
@@ -80,7 +80,7 @@ pub fn judge(score: &[u8]) -> Verdict
     Verdict::Accepted(n)
 }
 
-// How many whole records there are.
+// The number of whole records; 1 to 9 bytes after the last whole record are ignored.
 pub fn count(score: &[u8]) -> usize
     ensures { λ r. ⌜ r ≡ countOf (now (score .entry)) ⌝ }
 {
@@ -98,7 +98,7 @@ pub fn position(score: &[u8], i: usize) -> u32
     words::word_of(a, b, c, d)
 }
 
-// Record i, read as it stands: nothing is judged.
+// Record i as its bytes say: nothing is judged.
 pub fn record_at(score: &[u8], i: usize) -> Record
     ensures { λ r. ⌜ r ≡ recordAt (now (score .entry)) i ⌝ }
 {
@@ -110,7 +110,7 @@ pub fn record_at(score: &[u8], i: usize) -> Record
     }
 }
 
-// The ten bytes of a record.
+// The ten bytes of a record, the position low byte first.
 pub fn encode(given: Record) -> [u8; 10]
     ensures { λ r. ⌜ r ≡ encodeOf given ⌝ }
 {
@@ -124,7 +124,7 @@ pub fn encode(given: Record) -> [u8; 10]
     [0x56, 0x4E, a, b, c, d, k, given.note, given.velocity, 0]
 }
 
-// Whether the first k records end below p and the next, if there is one, does not: on a score, whether k records are below.
+// Whether k records exist, the last of them below p and the next, if any, not. If in order: exactly k are below p.
 pub fn parts_at(score: &[u8], k: u64, p: u64) -> bool
     ensures { λ r. ⌜ r ≡ partsAt (now (score .entry)) k p ⌝ }
 {
@@ -134,7 +134,7 @@ pub fn parts_at(score: &[u8], k: u64, p: u64) -> bool
     (k <= n) & last_below(score, next, p) & ((n <= k) | above)
 }
 
-// The first index at which the records differ, or at which one of the two has ended.
+// The first index at which the records differ or one score has ended.
 fn first_index(old: &[u8], new: &[u8]) -> usize
     ensures { λ r. ⌜ r ≡ firstIndex (now (old .entry)) (now (new .entry)) ⌝ }
 {
@@ -149,7 +149,7 @@ fn first_index(old: &[u8], new: &[u8]) -> usize
     n
 }
 
-// 01's P: the lower of the two positions at that index, or that of the one that remains.
+// 01's P: the lower of the two positions at the first index, or the position in the score that has not ended there.
 pub fn first_difference(old: &[u8], new: &[u8]) -> Difference
     ensures { λ r. ⌜ r ≡ differenceOf (now (old .entry)) (now (new .entry)) ⌝ }
 {
@@ -168,7 +168,7 @@ pub fn first_difference(old: &[u8], new: &[u8]) -> Difference
     Difference::Equal
 }
 
-// Whether the last of the first k records, if k is not 0, is below p.
+// Whether k is 0 or record k - 1 is below p.
 fn last_below(score: &[u8], k: usize, p: u64) -> bool
     ensures { λ r. ⌜ r ≡ lastBelow (now (score .entry)) k p ⌝ }
 {
@@ -178,7 +178,7 @@ fn last_below(score: &[u8], k: usize, p: u64) -> bool
     (position(score, k - 1) as u64) < p
 }
 
-// Byte j of record i; 0 past the end.
+// Byte j of record i, 0 past the end.
 fn byte_at(score: &[u8], i: usize, j: usize) -> u8
     ensures { λ r. ⌜ r ≡ byteAt (now (score .entry)) i j ⌝ }
 {
@@ -192,7 +192,7 @@ fn byte_at(score: &[u8], i: usize, j: usize) -> u8
     score[at + j]
 }
 
-// Four bytes of a record that is there, from byte j on: one read, where no other reads one of them.
+// Bytes j to j + 3 of record i, low byte first: one load, where no other code reads one of these bytes.
 fn word_at(score: &[u8], i: usize, j: usize) -> u32
     requires { ⌜ i < countOf (now score) ⌝ }
     requires { ⌜ j ≤ 6 ⌝ }
@@ -206,7 +206,7 @@ fn word_at(score: &[u8], i: usize, j: usize) -> u32
     words::word_of(a, b, c, d)
 }
 
-// The mark of a record that is there.
+// The two bytes of the mark of record i, low byte first.
 fn mark_at(score: &[u8], i: usize) -> u32
     requires { ⌜ i < countOf (now score) ⌝ }
     ensures { λ r. ⌜ r ≡ markAt (now (score .entry)) i ⌝ }
@@ -217,7 +217,7 @@ fn mark_at(score: &[u8], i: usize) -> u32
     words::word_of(a, b, 0, 0)
 }
 
-// The eight bytes after the mark of a record that is there.
+// The eight bytes after the mark of record i, low byte first.
 fn rest_at(score: &[u8], i: usize) -> u64
     requires { ⌜ i < countOf (now score) ⌝ }
     ensures { λ r. ⌜ r ≡ restAt (now (score .entry)) i ⌝ }
@@ -249,7 +249,7 @@ fn kind_byte(kind: Kind) -> u8
     }
 }
 
-// The first fault of a record that is there and whose order is known, by one test where all is right.
+// The first fault of record i, whose order is known: one test accepts a valid record, the others are judged in full.
 fn judge_after(score: &[u8], i: usize, order: bool) -> Verdict
     requires { ⌜ i < countOf (now score) ⌝ }
     requires { ⌜ order ≡ inOrder (now score) i ⌝ }
@@ -261,7 +261,8 @@ fn judge_after(score: &[u8], i: usize, order: bool) -> Verdict
     judge_record(score, i)
 }
 
-// Yes only to what is right: the mark, and a reset's last four bytes or, less the bits of fields below 128, kind 1 or 2.
+// Fast path, true only for a valid record: the mark matches, and bytes 6 to 9 are a reset or, with the low seven bits
+// of note and velocity masked off, kind 1 or 2.
 fn surely_right(score: &[u8], i: usize) -> bool
     requires { ⌜ i < countOf (now score) ⌝ }
     ensures { λ r. ⌜ (r ≡ true → allRight (now (score .entry)) i ≡ true) ⌝ }
@@ -272,7 +273,7 @@ fn surely_right(score: &[u8], i: usize) -> bool
     (mark == 0x4E56) & ((last == 3) | ((1 <= kind) & (kind <= 2)))
 }
 
-// The first fault of record i, one test after the other, or that this one record is accepted.
+// The first fault of record i by 01's order of tests 2, 3, 4, 5, or that this one record is accepted.
 fn judge_record(score: &[u8], i: usize) -> Verdict
     ensures { λ r. ⌜ r ≡ firstOf (faultsAt (now (score .entry)) i) Faulty (Accepted 1) ⌝ }
 {
@@ -315,7 +316,7 @@ fn fields_right(score: &[u8], i: usize) -> bool
     (byte_at(score, i, 7) <= most) & (byte_at(score, i, 8) <= most) & (byte_at(score, i, 9) == 0)
 }
 
-// Notes and velocities end at 127, and those of a reset at 0.
+// Note and velocity are at most 127, of a reset at most 0.
 fn most_of(kind: u8) -> u8
     ensures { λ r. ⌜ r ≡ mostOf kind ⌝ }
 {
@@ -325,7 +326,7 @@ fn most_of(kind: u8) -> u8
     127
 }
 
-// The position is not below that of the record before.
+// Whether the position of record i is at or above that of the record before.
 fn in_order(score: &[u8], i: usize) -> bool
     ensures { λ r. ⌜ r ≡ inOrder (now (score .entry)) i ⌝ }
 {
@@ -335,7 +336,7 @@ fn in_order(score: &[u8], i: usize) -> bool
     position(score, i - 1) <= position(score, i)
 }
 
-// Whether record i, which both have, has the same ten bytes in both.
+// Whether record i, which exists in both scores, has the same ten bytes in both.
 fn same_record(s: &[u8], t: &[u8], i: usize) -> bool
     requires { ⌜ i < countOf (now s) ⌝ }
     requires { ⌜ i < countOf (now t) ⌝ }

@@ -1,4 +1,5 @@
--- On a score whose positions never fall, from the first record that is not below a mark, the sections are what the state's definitions say: samples, states and entries. Assumes nothing.
+-- In a score whose positions never fall, from the first record that is not below a section's first sample, the sections
+-- are what the definitions of `state` make: samples, states and entries. Assumes nothing.
 use mathlib.Core.Path.{_≡_, ap}
 use mathlib.Core.List.{List, _++_}
 use Prim.Native.Nat.{ℕ, _-_, _*_}
@@ -22,7 +23,7 @@ module _ (g : Settings) (s : List ℕ) (o : Sorted s) (m i : ℕ) (v : State) (c
   unfolding keptFrom entriesFrom
   entries-agree k = ap shelfOf (listed-same _ _ k (λ j l. kept g s o (m * mark) i v c (j * mark) .state-is))
 
-  -- what the call leaves where the shelf fits the output
+  -- what the call leaves if the shelf fits the output
   pub record Made (out : List Float) (shelf : List ℕ) (r : Outcome Place) : Type 0 where
     pub state-is : r .result .state ≡ stateFrom g s (m * mark) v (length out - m * mark)
     pub heard-is : r .heard ≡ take (m * mark) out ++ samplesFrom g s (m * mark) v (length out - m * mark)

@@ -1,7 +1,7 @@
--- What holds of sections beyond the contracts, in the order to read it.
+-- What is proved of sections beyond the contracts, in reading order.
 -- a turn of the loop over the sections
 pub mod Turns
--- on an accepted score sections are what the state's definitions say
+-- for an accepted score the sections are what the definitions of `state` make
 pub mod Agrees
 -- two outcomes of a public function are equal
 pub mod Unique

@@ -1,4 +1,4 @@
--- The loop over the sections, on plain values: where it starts, a turn, where it ends. Assumes nothing.
+-- The loop over the sections, on plain values: its start, a turn, its end. Assumes nothing.
 use mathlib.Core.Path.{_≡_, refl, sym, ap, _∙_}
 use mathlib.Core.List.{List, _++_, append-assoc, append-nil}
 use Prim.Native.Nat.{ℕ, suc, _+_, _-_, _*_, _<_, _≤_}
@@ -22,7 +22,7 @@ use Rattle.sections.specs.Outcome.{leaves}
 use Rattle.sections.specs.Sections.{keptFrom, played, playOnOf}
 use Rattle.sections.specs.Inner.{SectionEnd}
 
--- what the loop keeps: the samples as far as start are played, and the entries below k are kept
+-- the loop's invariant: the samples up to `start` are played, and the entries below k are kept
 pub record Walked (g : Settings) (s : List ℕ) (m : ℕ) (p : Place) (out₀ : List Float) (shelf₀ : List ℕ) (out : List Float) (shelf : List ℕ) (at : Place) (k start : ℕ) : Type 0 where
   pub len : length out ≡ length out₀
   pub lens : length shelf ≡ length shelf₀
@@ -36,7 +36,7 @@ pub record Walked (g : Settings) (s : List ℕ) (m : ℕ) (p : Place) (out₀ : 
   pub heard : take start out ≡ take (m * mark) out₀ ++ playedFrom g s (m * mark) p (start - m * mark)
   pub stored : take (k * entryWords) shelf ≡ take (m * entryWords) shelf₀ ++ keptFrom g s m p (k - m)
 
--- one entry more
+-- one more entry
 kept-more : (g : Settings) (s : List ℕ) (m : ℕ) (p : Place) (k : ℕ) → keptFrom g s m p (suc k) ≡ keptFrom g s m p k ++ entryOf (placeFrom g s (m * mark) p (k * mark) .state)
 unfolding keptFrom listed
 kept-more g s m p k = shelf-more _ _
@@ -60,11 +60,11 @@ module _ (g : Settings) (s : List ℕ) (m : ℕ) (p : Place) (out₀ : List Floa
       }
 
   module _ (out : List Float) (shelf : List ℕ) (at : Place) (k start : ℕ) (w : Walked g s m p out₀ shelf₀ out shelf at k start) (h : start < length out) where
-    -- the entry has its place in the shelf
+    -- the words of the entry lie within the shelf
     pub room : k * entryWords + entryWords ≤ length shelf
     room = let e : start ≡ k * mark = w .at-mark (omega (arith, w .len)) in omega (arith, fits, w .len, w .lens)
 
-    -- the section is lent from start to e and comes back as ys, the entry's words as zs
+    -- a turn: the section from `start` to e is lent and its samples are ys, and the words of its entry are zs
     module _ (e : ℕ) (z : SectionEnd start (length out) e) (ys : List Float) (r : Place) (x : Played g s start at (midOf start (e - start) out) ys r) (zs : List ℕ) (put : zs ≡ keptIn (midOf (k * entryWords) (k * entryWords + entryWords - k * entryWords) shelf) (at .state)) where
       abbrev out′ : List Float
       out′ = putMid start (e - start) out ys
@@ -150,7 +150,7 @@ module _ (g : Settings) (s : List ℕ) (m : ℕ) (p : Place) (out : List Float) 
   unfolding playOnOf
   unfit f = rw (ne-eqb (length shelf) (wordsFor (length out)) f) refl
 
-  -- a mark at or past the end leaves nothing to play
+  -- at a section at or past the end nothing is changed
   pub past-the-end : length shelf ≡ wordsFor (length out) → entriesFor (length out) ≤ m → leaves p out shelf ≡ playOnOf g s m p out shelf
   unfolding playOnOf placeFrom playedFrom keptFrom run listed shelfOf
   past-the-end e h =

@@ -8,7 +8,7 @@ use Rattle.spans.specs.declared.Place.{Place}
 use Rattle.sections.specs.Outcome.{Outcome, leaves}
 use Rattle.sections.specs.Sections.{playOnOf}
 
--- of any result
+-- for a result of any type
 pub same-left : {R : Type 0} (o : Outcome R) (r t : R) (a b : List Float) (c d : List ℕ) → leaves r a c ≡ o → leaves t b d ≡ o → (r ≡ t) × (a ≡ b) × (c ≡ d)
 same-left o r t a b c d x y = let e = x ∙ sym y in (ap (λ o. o .result) e, ap (λ o. o .heard) e, ap (λ o. o .stored) e)
 

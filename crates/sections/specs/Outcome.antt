@@ -1,4 +1,6 @@
--- What a call leaves that is lent an output and a shelf: its result, and both at its exit. It serves the sections, a render and a re-render, in the desk too; a continuing call is lent other things, and has an outcome of its own. Definitions only.
+-- What a call leaves that is lent an output and a shelf: its result, and both buffers at its exit. Used for the
+-- sections, a render and a re-render, in the desk too; a continuing call is lent other buffers and has an outcome of
+-- its own. Definitions only.
 use mathlib.Core.List.{List}
 use Prim.Native.Nat.{ℕ}
 use lib.Ieee.{Float}

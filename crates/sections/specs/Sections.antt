@@ -1,5 +1,8 @@
--- From a mark to the end of the output, section by section: the entry of a mark, and then its samples, 4,096 or as many as are left. 01, "The shelf": "Entry k holds the state before sample 4096k is begun, for every
--- 4096k below N, the output's length". It is a walk (the crate spans) from a place at any mark; where the shelf has not the words that the output asks for, nothing is played and nothing stored. Definitions only.
+-- From the start of a section to the end of the output: the entry of each section, and then its samples, 4,096 or as
+-- many as are left. 01, "The shelf": "Entry k holds the state before sample 4096k is begun, for every 4096k below N,
+-- the output's length".
+-- The samples are a walk (crate `spans`) from a place at the first sample of any section. If the shelf does not have
+-- the words that the output needs, nothing is written. Definitions only.
 use mathlib.Core.Bool.{Bool, true, false}
 use mathlib.Core.List.{List, _++_}
 use Prim.Native.Nat.{ℕ, _+_, _-_, _*_}
@@ -13,11 +16,11 @@ use Rattle.spans.specs.Walk.{placeFrom, playedFrom}
 use Rattle.state.specs.declared.Settings.{Settings}
 use Rattle.sections.specs.Outcome.{Outcome, leaves}
 
--- the words of the entries m to m + k - 1, from a place p at mark m
+-- the words of the entries m to m + k - 1, from a place p at the first sample of section m
 unfoldable pub keptFrom : Settings → List ℕ → ℕ → Place → ℕ → List ℕ
 keptFrom g s m p k = shelfOf (listed (λ (i : ℕ). placeFrom g s (m * mark) p (i * mark) .state) k)
 
--- the place after the last sample; what lies before the mark stays as it came
+-- the place after the last sample; samples and entries before section m are as they came
 abbrev pub played : Settings → List ℕ → ℕ → Place → List Float → List ℕ → Outcome Place
 played g s m p out shelf =
     let n = length out in

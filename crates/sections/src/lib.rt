@@ -1,5 +1,6 @@
-// From a mark to the end of the output, section by section (01, "The shelf"): a mark's entry is kept, and then its samples are
-// played. A render starts at mark 0, a re-render where its scores part. Judging is left to those two.
+// From the start of a section to the end of the output, section by section (01, "The shelf"): the entry of a section is
+// kept, and then its samples are played. A render starts at section 0, a re-render at the section that holds the first
+// changed position. Render and re-render do the judging.
 ghost use mathlib.Core.Path.{_≡_};
 ghost use Prim.Native.Nat.{_+_, _-_, _*_, _≤_, _<_};
 ghost use lib.ListN.{length};
@@ -12,8 +13,8 @@ use shelf::MARK;
 use spans::Place;
 use state::Settings;
 
-// Plays the samples from a mark on, and keeps the entries from that mark on. A mark is given by its number; its sample is
-// 4,096 times that. Nothing is left to do at a mark at or past the end.
+// Plays the samples from section `mark` on, and keeps the entries from that section on. The first sample of section k
+// is 4096 k. If that is at or past the end, or the shelf does not fit the output, nothing is changed.
 pub fn play_on(
     settings: Settings,
     score: &[u8],
@@ -59,7 +60,7 @@ fn from_mark(
     at
 }
 
-// 4,096 samples on, or the end of the output.
+// The end of the section that begins at `start`: 4,096 samples on, or the end of the output.
 fn section_end(start: usize, length: usize) -> usize
     requires { ⌜ start < length ⌝ }
     ensures { λ r. ⌜ SectionEnd start length r ⌝ }

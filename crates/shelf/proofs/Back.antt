@@ -1,4 +1,6 @@
--- An entry's state is a state, and has that entry's words: no bit of an entry is left over, so a stray bit, a NaN's bits or a stage above 4 is no entry. Of the words it assumes that they are below 2^64, as a u64 is. Assumes nothing else.
+-- An entry is read as a state within the limits, and that state has the same words. So no bit of an entry is ignored:
+-- words with a stray bit, a NaN's bits or a stage above 4 are no entry. Assumes that the words are below 2^64, as every
+-- u64 is, and nothing else.
 use mathlib.Core.Path.{_≡_, refl, sym, subst}
 use mathlib.Core.Bool.{Bool, true, false, not, cond, _&&_}
 use mathlib.Core.List.{List}
@@ -38,7 +40,7 @@ module _ (ws : List ℕ) (h : isEntry ws ≡ true) where
   pub entry-is-state : isState (stateOf ws) ≡ true
   entry-is-state = is-true (isState (stateOf ws)) (and-r (long && staged) (isState (stateOf ws)) passed)
 
--- what words are read as has values of its types
+-- the state that is read has values of its types
 pub read-fits : (ws : List ℕ) → Fitting (stateOf ws)
 unfolding stateOf
 read-fits ws =

@@ -1,17 +1,18 @@
--- How many entries the shelf of an output of n samples has: one for each mark below n, the last less than a mark from its end. Assumes nothing.
+-- How many entries the shelf of an output of n samples has: one for each section, the last of which ends at n and may
+-- be short. Assumes nothing.
 use mathlib.Core.Path.{_≡_, refl}
 use Prim.Native.Nat.{ℕ, _+_, _*_, _/_, _≤_, _<_}
 use native.Mathlib.Omega.{arith}
 use Rattle.shelf.specs.Shelf.{entryWords, mark, entriesFor, wordsFor}
 
--- entry m is there exactly where its sample is
+-- entry m exists exactly if its first sample does
 pub entry-there : (n m : ℕ) → m * mark < n → m < entriesFor n
 entry-there n m h = omega arith
 
 pub entry-below : (n m : ℕ) → m < entriesFor n → m * mark < n
 entry-below n m h = omega arith
 
--- the entries reach to the end, and not a mark further
+-- the sections of the entries reach the end, and the last starts before it
 pub entries-reach : (n : ℕ) → n ≤ entriesFor n * mark
 entries-reach n = omega arith
 
@@ -21,7 +22,7 @@ entries-near n = omega arith
 pub no-entries : entriesFor 0 ≡ 0
 no-entries = refl
 
--- the mark at or before a sample of the output has its entry
+-- the section of each sample of the output has an entry
 pub start-there : (n p : ℕ) → p < n → p / mark < entriesFor n
 start-there n p h = omega arith
 

@@ -1,4 +1,5 @@
--- Numbers in a word: put in and taken out, they are the same, and so is a word taken apart and put together. Assumes nothing.
+-- Fields in a word: packed and unpacked they are the same, and so is a word that is unpacked and packed. Assumes
+-- nothing.
 use mathlib.Core.Path.{_≡_, sym, ap, _∙_}
 use mathlib.Core.List.{List, [], _∷_}
 use Prim.Native.Nat.{ℕ, suc, _+_, _*_, _/_, _%_, _≤_, _<_}
@@ -97,7 +98,7 @@ eight-again w h =
         → eight a b c d e f g q7 ≡ w
     sums w a b c d e f g q1 q2 q3 q4 q5 q6 q7 e0 e1 e2 e3 e4 e5 e6 = omega arith
 
--- ---- four elements of a list and the rest; all of 12, and of 16
+-- ---- four elements of a list and those after them; all of 12, and of 16
 four : (l : List ℕ) (j : ℕ) → j + 4 ≤ length l → drop j l ≡ getD l j 0 ∷ getD l (j + 1) 0 ∷ getD l (j + 2) 0 ∷ getD l (j + 3) 0 ∷ drop (j + 4) l
 four l j h =
     let e1 : suc j ≡ j + 1 = omega arith in

@@ -1,19 +1,19 @@
--- Laws on what this crate defines.
--- how many entries a shelf has, and their words
+-- Laws of what this crate defines.
+-- how many entries a shelf has, and where their words are
 pub mod Count
--- numbers in a word, there and back
+-- fields packed into a word and unpacked
 pub mod Digits
 -- two outcomes of a public function are equal
 pub mod Unique
--- no float of a state is a NaN, and its notes and velocities are bytes
+-- no float of a state within the limits is a NaN, and its notes and velocities are bytes
 pub mod Parts
--- a state's words are read as that state
+-- the words of a state are read as that state
 pub mod There
--- an entry's state has that entry's words, so no bit is left over
+-- the state of an entry has that entry's words, so no bit is ignored
 pub mod Back
--- entries put together, and each found again
+-- the entries of a shelf, joined and found again
 pub mod Whole
--- 01's sentence, word by word, is what the test says
+-- the test is 01's sentence, word by word
 pub mod Sentence
 -- entries by example
 pub mod Marks

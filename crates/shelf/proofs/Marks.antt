@@ -1,4 +1,5 @@
--- Entries by example: the words of the fresh state and of one with two keys held, and words at the edge of the test, on either side. Assumes nothing.
+-- Entries by example: the words of the fresh state and of a state with two keys held, and words just inside and just
+-- outside the limits. Assumes nothing.
 use mathlib.Core.Path.{_≡_, refl}
 use mathlib.Core.Bool.{true, false}
 use mathlib.Core.List.{List, [], _∷_, _++_, map}
@@ -25,7 +26,7 @@ pub fresh-words : entryOf (freshOf 0) ≡ rest
 unfolding entryOf packedWord fourPairs ofBits toBits
 fresh-words = refl
 
--- 60 at velocity 100 and then 64 at 90, which sounds; 2 records acted
+-- note 60 at velocity 100 and then 64 at 90, which sounds; 2 records acted
 abbrev playing : State
 playing =
     record {
@@ -57,22 +58,24 @@ pub played-words : entryOf playing ≡ played
 unfolding entryOf packedWord fourPairs ofBits toBits
 played-words = refl
 
--- a phase of -0, the highest frequency, 440.1 Hz, which no f32 is, and all records acted that there is room for
+-- accepted: a phase of -0, the highest frequency, 440.1 Hz (no f32), and the largest number of records acted
 pub taken : map isEntry (rest ∷ played ∷ set rest 0 0x8000_0000_0000_0000 ∷ set rest 6 0x40c8_8000_0000_0000 ∷ set rest 6 0x407b_8199_9999_999a ∷ set rest 5 0xffff_ffff_ffff_00ff ∷ []) ≡ true ∷ true ∷ true ∷ true ∷ true ∷ true ∷ []
 unfolding isEntry stateOf isState inLimits isEnvelope isKeys atMost ofBits lt eq le
 taken = refl
 
--- eleven words, and thirteen; a phase of 1,000, and a NaN's bits; a stage of 5; a frequency of -0
+-- refused: eleven words, thirteen words, a phase of 1,000, a NaN's bits, a stage of 5, a frequency of -0
 pub not-taken : map isEntry (take 11 rest ∷ (rest ++ 0 ∷ []) ∷ set rest 0 0x408f_4000_0000_0000 ∷ set rest 0 0x7ff8_0000_0000_0000 ∷ set rest 1 5 ∷ set rest 6 0x8000_0000_0000_0000 ∷ []) ≡ false ∷ false ∷ false ∷ false ∷ false ∷ false ∷ []
 unfolding isEntry stateOf isState inLimits isEnvelope isKeys atMost ofBits lt eq le
 not-taken = refl
 
--- note 128, its gate down and up; a note with the gate down; none with the gate up; 17 held; an unused pair that is not 0; a held note of 128
+-- refused: note 128 with the gate down and up, a note with the gate down, none with the gate up, 17 held, an unused
+-- pair that is not 0, a held note of 128
 pub not-keys : map isEntry (set rest 5 128 ∷ set rest 5 (128 + 256) ∷ set rest 5 60 ∷ set rest 5 (255 + 256) ∷ set rest 5 (255 + 512 * 17) ∷ set rest 11 1 ∷ set played 8 0x5a80_643c ∷ []) ≡ false ∷ false ∷ false ∷ false ∷ false ∷ false ∷ false ∷ []
 unfolding isEntry stateOf isState inLimits isEnvelope isKeys atMost ofBits lt eq le
 not-keys = refl
 
--- every limit reached: the phase next below 1,000, level and velocity 1, a time of 11 and a release level of a half, 12,544 Hz, sixteen keys held, 4,096 records acted. No two words are the same, so that none stands in another's place
+-- every limit reached: the largest phase below 1,000, level and velocity 1, a time of 11 and a release level of a half,
+-- 12,544 Hz, sixteen keys held, 4,096 records acted. No two words are the same, so that exchanged words would show
 abbrev full : State
 full =
     record {
@@ -91,12 +94,13 @@ pub filled-words : entryOf full ≡ filled
 unfolding entryOf packedWord fourPairs ofBits toBits
 filled-words = refl
 
--- at the limits: that state, with a velocity of 1 and a release level of 1 too
+-- accepted: that state, also with a velocity of 1 and with a release level of 1
 pub at-limits : map isEntry (filled ∷ set filled 7 0x3ff0_0000_0000_0000 ∷ set filled 4 0x3ff0_0000_0000_0000 ∷ []) ≡ true ∷ true ∷ true ∷ []
 unfolding isEntry stateOf isState inLimits isEnvelope isKeys atMost ofBits lt eq le
 at-limits = refl
 
--- the next float above a limit: of the phase, the level, the time, the release level, the frequency and the velocity
+-- refused: the next float above the limit of the phase, the level, the time, the release level, the frequency and the
+-- velocity
 pub past-limits : map isEntry (set filled 0 0x408f_4000_0000_0000 ∷ set filled 2 0x3ff0_0000_0000_0001 ∷ set filled 3 0x4026_0000_0000_0001 ∷ set filled 4 0x3ff0_0000_0000_0001 ∷ set filled 6 0x40c8_8000_0000_0001 ∷ set filled 7 0x3ff0_0000_0000_0001 ∷ []) ≡ false ∷ false ∷ false ∷ false ∷ false ∷ false ∷ []
 unfolding isEntry stateOf isState inLimits isEnvelope isKeys atMost ofBits lt eq le
 past-limits = refl

@@ -1,4 +1,5 @@
--- What the limits of a state say beyond the laws of `state`: no float of a state is a NaN, and every note and velocity is a byte. Assumes nothing.
+-- What the limits of a state imply beyond the laws of `state`: no float is a NaN, and every note and velocity is a
+-- byte. Assumes nothing.
 use mathlib.Core.Path.{_≡_}
 use mathlib.Core.Bool.{Bool, true, not, _&&_}
 use mathlib.Core.List.{List, [], _∷_}

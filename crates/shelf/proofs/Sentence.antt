@@ -1,5 +1,7 @@
--- 01's sentence, word by word, is what the test of an entry says: "An entry is a state if phase is at least 0 and below 1,000, stage_time 0 to 11, levels and velocity 0 to 1, frequency above 0 and at most 12,544, active
--- note 0 to 127 or 255, gate 1 exactly when it is not 255, held count at most 16, pairs in range, and the rest of these words zero." Of the packed word it assumes that it is below 2^64, as a u64 is. Assumes nothing else.
+-- The test of an entry is 01's sentence, word by word: "An entry is a state if phase is at least 0 and below 1,000,
+-- stage_time 0 to 11, levels and velocity 0 to 1, frequency above 0 and at most 12,544, active note 0 to 127 or 255,
+-- gate 1 exactly when it is not 255, held count at most 16, pairs in range, and the rest of these words zero."
+-- Assumes that the packed word is below 2^64, as every u64 is, and nothing else.
 use mathlib.Core.Path.{_≡_, refl}
 use mathlib.Core.Bool.{Bool, true, false, cond, _&&_}
 use mathlib.Core.List.{List}
@@ -27,7 +29,7 @@ use Rattle.shelf.proofs.Digits.{beyond}
 use Rattle.shelf.proofs.Parts.{keys-notes, keys-velocities, keys-are}
 use Rattle.shelf.proofs.Back.{entry-is-long, entry-has-stage, entry-is-state}
 
--- the active byte b and the gate's bit g
+-- the active note's byte b and the gate's bit g
 pub record Sounding (b g : ℕ) : Type 0 where
   pub a-note-or-none : (b ≤ 127) ⊎ (b ≡ 255)
   pub gate-up : (b ≡ 255 → ⊥) → g ≡ 1

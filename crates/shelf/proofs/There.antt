@@ -1,4 +1,5 @@
--- A state's words are read as that state, and are an entry. Of the state it assumes that it is within its limits and that it has values of its types (`Fitting`), which every state of a program has. Assumes nothing else.
+-- The words of a state are an entry, and are read as that state. Assumes that the state is within its limits and has
+-- values of its types (`Fitting`), as every state of a program has, and nothing else.
 use mathlib.Core.Path.{_≡_, refl, _∙_}
 use mathlib.Core.Bool.{Bool, true, false}
 use mathlib.Core.List.{List, [], _∷_}
@@ -141,12 +142,12 @@ state-back v f i =
       acted-again (v .keys) (w .keys-in) (v .acted) h,
     ) refl
 
--- twelve words for every state
+-- every state has twelve words
 pub entry-length : (v : State) → length (entryOf v) ≡ entryWords
 unfolding entryOf
 entry-length v = refl
 
--- twelve words hold the state that is kept in them
+-- twelve words become those of the state that is kept in them
 pub kept-twelve : (ws : List ℕ) (v : State) → length ws ≡ entryWords → keptIn ws v ≡ entryOf v
 kept-twelve ws v e = rw (eq-eqb (length ws) entryWords e) refl
 

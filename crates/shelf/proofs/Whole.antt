@@ -1,4 +1,4 @@
--- A whole shelf: entries put together, how many words they are, and each found again. Assumes nothing.
+-- A whole shelf: its entries joined, their number of words, and each found again. Assumes nothing.
 use mathlib.Core.Path.{_≡_, refl, sym, ap, _∙_}
 use mathlib.Core.List.{List, [], _∷_, _++_, append-assoc, append-nil}
 use Prim.Native.Nat.{ℕ, zero, suc, _+_, _*_, _<_}
@@ -15,7 +15,7 @@ unfolding shelfOf
 shelf-append [] ws = refl
 shelf-append (v ∷ vs) ws = rw (shelf-append vs ws) (sym (append-assoc (entryOf v) (shelfOf vs) (shelfOf ws)))
 
--- one entry more
+-- one more entry
 pub shelf-more : (vs : List State) (v : State) → shelfOf (vs ++ (v ∷ [])) ≡ shelfOf vs ++ entryOf v
 unfolding shelfOf
 shelf-more vs v = shelf-append vs (v ∷ []) ∙ ap (λ (l : List ℕ). shelfOf vs ++ l) (append-nil (entryOf v))
@@ -25,7 +25,7 @@ unfolding shelfOf
 shelf-length [] = refl
 shelf-length (v ∷ vs) = rw (length-append (entryOf v) (shelfOf vs), entry-length v, shelf-length vs) (omega arith)
 
--- the words of entry i are those of the i-th state
+-- the words of entry i are those of state i
 pub entry-words : (vs : List State) (i : ℕ) (d : State) → i < length vs → take entryWords (drop (i * entryWords) (shelfOf vs)) ≡ entryOf (getD vs i d)
 unfolding shelfOf
 entry-words [] i d h = absurd (none-below i h)

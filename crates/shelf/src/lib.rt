@@ -1,5 +1,6 @@
-// An entry of the shelf (01, "The shelf"): the state before a mark, as twelve words, and back. Every state is written and any
-// words are read; which words are an entry stands apart. When one is kept, and who starts from it, is left to the crates above.
+// An entry of the shelf (01, "The shelf"): the state before a section's first sample, as twelve words, and back. Every
+// state can be written and any words can be read; a test of its own says which words are an entry. The crates above
+// decide when an entry is kept and who starts from it.
 ghost use mathlib.Core.Path.{_≡_};
 ghost use Prim.Native.Nat.{_<_, _≤_};
 ghost use Rattle.shelf.specs.Shelf.{entriesFor, wordsFor, stageWord, activeByte, gateBit, packedWord, pairAt, fourPairs, entryOf, keptIn, word, float, stageOf, activeOf, notesOf, velocitiesOf, keysIn, envelopeIn, stateOf, decodedOf};
@@ -13,10 +14,10 @@ use waveform::Radians;
 // The words of an entry.
 pub const ENTRY_WORDS: usize = 12;
 
-// The samples from one entry to the next.
+// The samples of a section, from one entry to the next.
 pub const MARK: usize = 4096;
 
-// Whether words hold a state, and what they are read as, which is of use only where they do.
+// Whether words are an entry, and the state that they are read as, of use only if they are.
 pub struct Entry {
     pub holds: bool,
     pub state: State,
@@ -33,7 +34,7 @@ pub fn entries(samples: usize) -> usize
     whole + 1
 }
 
-// How many words the shelf of such an output has.
+// How many words the shelf of an output of so many samples has.
 pub fn words_for(samples: usize) -> usize
     ensures { λ r. ⌜ r ≡ wordsFor samples ⌝ }
 {
@@ -62,7 +63,7 @@ pub fn encode(state: State) -> [u64; ENTRY_WORDS]
     ]
 }
 
-// A state's words in the place of an entry, where there are twelve; else nothing.
+// Writes a state's words over the words of an entry; nothing, if there are not twelve.
 pub fn keep(words: &mut [u64], state: State)
     ensures { λ _. ⌜ now (words .exit) ≡ keptIn (now (words .entry)) state ⌝ }
 {
@@ -97,7 +98,7 @@ fn stage_word(stage: EnvelopeStage) -> u64
     }
 }
 
-// Note, gate, held count and records acted in one word, each in its own bits.
+// Active note, gate, held count and records acted in one word, each in its own bits.
 fn packed_word(keys: Keys, acted: u64) -> u64
     ensures { λ r. ⌜ r ≡ packedWord keys acted ⌝ }
 {
@@ -125,7 +126,7 @@ fn gate_bit(gate: bool) -> u64
     0
 }
 
-// Four pairs in a word, from the pair `at` on.
+// Pairs `at` to `at` + 3 in one word, the oldest in the lowest bits.
 fn four_pairs(keys: Keys, at: usize) -> u64
     requires { ⌜ at ≤ 12 ⌝ }
     ensures { λ r. ⌜ r ≡ fourPairs keys at ⌝ }
@@ -193,7 +194,7 @@ fn stage_of(word: u64) -> EnvelopeStage
     }
 }
 
-// The keys of the packed word and of four words of pairs.
+// The keys in the packed word and in the four words of pairs.
 fn keys_of(packed: u64, a: u64, b: u64, c: u64, d: u64) -> Keys
     ensures { λ r. ⌜ r ≡ keysIn packed a b c d ⌝ }
 {
@@ -262,14 +263,14 @@ fn velocities_of(a: u64, b: u64, c: u64, d: u64) -> [u8; 16]
     ]
 }
 
-// The float that a word is the bits of.
+// The float whose bits are word i.
 fn float(words: &[u64], i: usize) -> f64
     ensures { λ r. ⌜ r ≡ float (now (words .entry)) i ⌝ }
 {
     words::f64_of(word(words, i))
 }
 
-// A word, or 0 past the end.
+// Word i, or 0 past the end.
 fn word(words: &[u64], i: usize) -> u64
     ensures { λ r. ⌜ r ≡ word (now (words .entry)) i ⌝ }
 {

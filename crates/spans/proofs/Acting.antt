@@ -1,4 +1,4 @@
--- The records that stand at n act, one after the other. A turn of the loop over what is left to do: going on, stopping. Assumes nothing.
+-- The records at n act, one after the other: a turn of the loop, and its end. Assumes nothing.
 use mathlib.Core.Path.{_≡_, refl}
 use mathlib.Core.Bool.{Bool, true, false, cond}
 use mathlib.Core.List.{List}
@@ -20,7 +20,7 @@ unfolding actFrom
 act-stop g s n zero p f = refl
 act-stop g s n (suc k) p f = rw f refl
 
--- a record that stands somewhere is there
+-- a record that is at n exists
 pub is-there : (s : List ℕ) (n i : ℕ) → standsAt s i n ≡ true → i < countOf s
 is-there s n i t = ltb-true _ _ (both (ltb i (countOf s)) (eqb (positionAt s i) n) t .0)
 
@@ -29,7 +29,7 @@ module _ (g : Settings) (s : List ℕ) (n i : ℕ) (v : State) where
   unfolding actFrom
   act-on p t e = let h = is-there s n i t in let d : countOf s - i ≡ suc (countOf s - (i + 1)) = omega arith in rw (e, d, t, add-one i) refl
 
-  -- to settle the state first changes no record's turn
+  -- reducing the phase in the state first, and then making the place, is beginning the sample
   pub begun-by : actFrom g s n (countOf s - i) (placeOf (cond (beginsAt s i n) (reducedOf v) v) i) ≡ begunFrom g s n (placeOf v i)
   unfolding begunFrom
   begun-by = go (beginsAt s i n)

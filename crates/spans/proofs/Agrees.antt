@@ -1,5 +1,6 @@
--- On a score whose positions never fall, a walk from the first record that is not below n is what the state's definitions say of all its records: the same states and samples, and at each sample the next record
--- is the first that is not below it. Assumes nothing.
+-- In a score whose positions never fall, a walk from the first record that is not below n makes the states and samples
+-- that the definitions of `state` make over all records; and at each sample the next record is the first that is not
+-- below it. Assumes nothing.
 use mathlib.Core.Path.{_≡_, refl, sym, ap, _∙_}
 use mathlib.Core.Bool.{Bool, true, false, cond, or-true}
 use mathlib.Core.List.{List}
@@ -23,12 +24,12 @@ use Rattle.state.proofs.Depends.{has-none, act-none}
 use Rattle.spans.specs.declared.Place.{Place}
 use Rattle.spans.specs.Walk.{placeOf, standsAt, actFrom, beginsAt, reducedAt, begunFrom, placeFrom, playedFrom}
 
--- the records at n have acted, from v, and those that follow are above n
+-- from v the records at n have acted, and the next record is above n
 pub record Acts (g : Settings) (s : List ℕ) (n : ℕ) (v : State) (r : Place) : Type 0 where
   pub state-is : r .state ≡ actTo g s n (countOf s) v
   pub cut : Cut s (suc n) (r .next)
 
--- the first i have, and w is the state then
+-- of the records at n those below index i have acted, and w is the state after them
 record Acting (g : Settings) (s : List ℕ) (n : ℕ) (v : State) (i : ℕ) (w : State) : Type 0 where
   lows : (j : ℕ) → j < i → positionAt s j < suc n
   highs : (j : ℕ) → i ≤ j → j < countOf s → n ≤ positionAt s j
@@ -70,7 +71,7 @@ module _ (g : Settings) (s : List ℕ) (o : Sorted s) (n : ℕ) (v : State) wher
       go ih true q = ih (acting-on i w (omega arith) (eqb-true (positionAt s i) n q) x)
       go ih false q = acting-stop i w (omega arith) (eqb-false (positionAt s i) n q) x
 
--- ---- where a span begins, and what is begun there
+-- ---- where a span begins
 has-some : (s : List ℕ) (n i k : ℕ) → i < k → positionAt s i ≡ n → hasAt s n k ≡ true
 unfolding hasAt
 has-some s n i zero l e = absurd (none-below i l)
@@ -81,7 +82,7 @@ module _ (g : Settings) (s : List ℕ) (o : Sorted s) (n i : ℕ) (c : Cut s n i
   none-before : (j : ℕ) → j < i → positionAt s j ≡ n → ⊥
   none-before j l e = let q : positionAt s j < n = c .lows j l in omega arith
 
-  -- no record stands at n, if the next does not
+  -- no record is at n, if the next is not
   has-not : (i < countOf s → positionAt s i ≡ n → ⊥) → hasAt s n (countOf s) ≡ false
   unfolding hasAt
   has-not f =
@@ -109,7 +110,7 @@ module _ (g : Settings) (s : List ℕ) (o : Sorted s) (n i : ℕ) (c : Cut s n i
         so-far = sym (rw (zero-add i) at (act-none g s n 0 i v (λ j a b e. none-before j (omega arith) e)));
       })
 
-  -- what a walk begins is what all the records begin, and the next record is above n
+  -- a walk begins sample n as all records together do, and the next record is then above n
   pub begun-agrees : (v : State) → begunFrom g s n (placeOf v i) .state ≡ begun g s n v
   unfolding begunFrom begun
   begun-agrees v = rw (← stands-agrees) (go (beginsAt s i n))

@@ -1,4 +1,4 @@
--- Cut anywhere: a walk of j samples, and then one of k from where that leads, are a walk of j + k. Assumes nothing.
+-- Cut anywhere: a walk of j samples, and then one of k from the place reached, are a walk of j + k. Assumes nothing.
 use mathlib.Core.Path.{_≡_}
 use mathlib.Core.List.{List, _++_}
 use Prim.Native.Nat.{ℕ, _+_}
@@ -10,7 +10,7 @@ use Rattle.spans.specs.declared.Place.{Place}
 use Rattle.spans.specs.Walk.{playedAt, afterPlayed, placeFrom, playedFrom}
 
 module _ (g : Settings) (s : List ℕ) (n : ℕ) (p : Place) where
-  -- as many samples as were asked for
+  -- k samples
   pub played-length : (k : ℕ) → length (playedFrom g s n p k) ≡ k
   unfolding playedFrom
   played-length = listed-length _

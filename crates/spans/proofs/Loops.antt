@@ -1,4 +1,5 @@
--- The loop over the spans: how far it has come, that it begins, goes on by a span and ends so. Assumes nothing.
+-- The loop over the spans: its invariant, which is true at the start, is kept by each span and gives the contract at
+-- the end. Assumes nothing.
 use mathlib.Core.Path.{_≡_, refl, sym, ap, _∙_}
 use mathlib.Core.List.{List}
 use Prim.Native.Nat.{ℕ, _+_, _-_, _≤_}
@@ -18,7 +19,7 @@ use Rattle.spans.proofs.Offsets.{first-so, begins-so}
 use Rattle.spans.proofs.Turns.{turn-length, turn-stands, turn-heard}
 
 module _ (g : Settings) (s : List ℕ) (n : ℕ) (p : Place) (before : List Float) where
-  -- the first i samples are written over what stood before, and the place stands before sample i
+  -- the first i samples are written, the others are as they came, and `at` is the place before sample i
   pub record Upto (part : List Float) (at : Place) (i : ℕ) : Type 0 where
     pub size : length part ≡ length before
     pub within : i ≤ length part
@@ -29,7 +30,7 @@ module _ (g : Settings) (s : List ℕ) (n : ℕ) (p : Place) (before : List Floa
   unfolding placeFrom playedFrom run listed
   begins = record { size = refl; within = omega arith; place = refl; samples = refl }
 
-  -- the span to e is begun at b, and its samples ys come back with the state u
+  -- a turn: the span up to e is begun at b, and its samples are ys, with the state u after them
   pub goes-on : (part : List Float) (at : Place) (i : ℕ) (b : Walker) (e : ℕ) (ys : List Float) (u : State) → Upto part at i → At s n (begunFrom g s (n + i) at) b → FirstAfter (beginsIn b n) i (length part) e
       → Sounded g (b .state) (midOf i (e - i) part) ys u → Upto (putMid i (e - i) part ys) (placeOf u (b .next)) e
   goes-on part at i b e ys u v h z x =

@@ -1,4 +1,4 @@
--- Offsets in a part: where the next record stands, and where a span ends. Assumes nothing.
+-- Offsets in a part: where the next record is, and where a span ends. Assumes nothing.
 use mathlib.Core.Path.{_≡_, refl, sym, _∙_}
 use mathlib.Core.Bool.{Bool, true, false, _&&_, _||_, and-false, or-true}
 use mathlib.Core.List.{List}
@@ -14,12 +14,12 @@ use Rattle.spans.specs.declared.Walker.{Walker}
 use Rattle.spans.specs.Walk.{standsAt, beginsAt}
 use Rattle.spans.specs.Inner.{standsIn, isMark, beginsIn, Sees, FirstAfter}
 
--- where one of two fails, each does
+-- if `p || q` is false, p and q are
 pub neither : (p q : Bool) → (p || q) ≡ false → (p ≡ false) × (q ≡ false)
 neither true q e = let z : true ≡ false = e in absurd (clash (cc))
 neither false q e = (refl, e)
 
--- a distance is an offset exactly where the number is the sum
+-- p - n is the offset a exactly if p is n + a
 distance-is : (p n a : ℕ) → n ≤ p → eqb (p - n) a ≡ eqb p (n + a)
 distance-is p n a h = go (eqb (p - n) a) refl
   where
@@ -27,7 +27,7 @@ distance-is p n a h = go (eqb (p - n) a) refl
     go true e = let q : p - n ≡ a = eqb-true (p - n) a e in sym (eq-eqb p (n + a) (omega arith))
     go false e = let q : p - n ≡ a → ⊥ = eqb-false (p - n) a e in sym (ne-eqb p (n + a) (λ x. q (omega arith)))
 
--- ---- where record i stands, seen from position n
+-- ---- where record i is, as an offset from position n
 module _ (s : List ℕ) (i n : ℕ) where
   pub passed : (leb (countOf s) i || ltb (positionAt s i) n) ≡ true → (m : ℕ) → false ≡ standsAt s i (n + m)
   passed e m = ⊎-elim (λ h. rw (le-ltb i (countOf s) (leb-true _ _ h)) refl) (λ h. let l : positionAt s i < n = ltb-true _ _ h in rw (ne-eqb (positionAt s i) (n + m) (λ z. omega arith)) (sym (and-false (ltb i (countOf s))))) (either (leb (countOf s) i) (ltb (positionAt s i) n) e)
@@ -35,7 +35,7 @@ module _ (s : List ℕ) (i n : ℕ) where
   pub ahead : (leb (countOf s) i || ltb (positionAt s i) n) ≡ false → (m : ℕ) → eqb (positionAt s i - n) m ≡ standsAt s i (n + m)
   ahead e m = let f = neither (leb (countOf s) i) (ltb (positionAt s i) n) e in rw (lt-ltb i (countOf s) (leb-false _ _ (f .0))) (distance-is (positionAt s i) n m (ltb-false _ _ (f .1)))
 
--- what a walker sees is so of the score: its next record, and where a span begins
+-- what a walker has read is true of the score: its next record, and where a span begins
 pub stands-so : (s : List ℕ) (n m : ℕ) (w : Walker) (r t : Bool) → Sees s n w → r ≡ standsIn w m → r ≡ t → standsAt s (w .next) (n + m) ≡ t
 stands-so s n m w r t v e h = sym (v m) ∙ sym e ∙ h
 
@@ -49,11 +49,11 @@ block-to-end n a k h l = record { after = h; within = omega arith; ends = λ x. 
 pub block-to-next : (n a k t : ℕ) → t ≡ (n + a) % 64 → 64 - t ≤ k - a → FirstAfter (isMark n) a k (a + (64 - t))
 block-to-next n a k t q l = record { after = omega arith; within = omega arith; ends = λ x. eq-eqb ((n + (a + (64 - t))) % 64) 0 (omega arith); apart = λ m x y. ne-eqb ((n + m) % 64) 0 (λ e. omega arith) }
 
--- the test may be put otherwise
+-- equal tests have the same first offset
 pub first-so : (test other : ℕ → Bool) (a k r : ℕ) → ((m : ℕ) → test m ≡ other m) → FirstAfter test a k r → FirstAfter other a k r
 first-so test other a k r e f = record { after = f .after; within = f .within; ends = λ x. sym (e r) ∙ f .ends x; apart = λ m x y. sym (e m) ∙ f .apart m x y }
 
--- where a walker's next record lies between, the span ends there; else where the block does
+-- if the walker's next record comes before the end of the block, the span ends at the record, else with the block
 module _ (n a k e : ℕ) (w : Walker) (b : FirstAfter (isMark n) a k e) where
   pub end-record : (w .waits && ltb a (w .due) && ltb (w .due) e) ≡ true → FirstAfter (beginsIn w n) a k (w .due)
   end-record t =

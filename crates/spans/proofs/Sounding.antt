@@ -1,4 +1,5 @@
--- A span's samples are what the waveform's inner loop writes, times level, times velocity; and the state after them is what the two passes leave. Assumes nothing.
+-- The samples of a span are the values of the waveform's inner loop, times level, times velocity; and the state after
+-- them is what the two inner loops leave. Assumes nothing.
 use mathlib.Core.Path.{_≡_, refl, sym, ap, _∙_}
 use mathlib.Core.List.{List}
 use Prim.Native.Nat.{ℕ, zero, suc, _≤_}
@@ -34,21 +35,21 @@ module _ (g : Settings) (v : State) where
   advances-is zero = refl
   advances-is (suc k) = rw (advances-is k) refl
 
-  -- the inner loop's values, as the waveform gives them
+  -- the values that the waveform's inner loop writes
   abbrev values : ℕ → List Float
   values n = samplesFrom (g .waveform) (paceOf g v) one (v .phase .0) n
 
   times-one-is : (p : Float) → valueAt (g .waveform) (paceOf g v) p ⊗ one ≡ valueAt (g .waveform) (paceOf g v) p
   times-one-is p = rw (lit1-is binary64) (times-one binary64 _ (value-fits (g .waveform) (normalOf p) (paceOf g v ⊗ invTau)))
 
-  -- scaled, the first k of n values are the first k samples
+  -- the first k of n values, scaled, are the first k samples
   pub scaled-is : (n k : ℕ) → k ≤ n → scaledTo (clampedOf (g .adsr)) (sampleTimeOf (g .rate)) (v .envelope) (v .velocity) (values n) k ≡ plain g v k
   unfolding scaledTo plain sampleOf envelopeFrom run
   scaled-is n k h =
       listed-same _ _ k
       (λ i l. rw (advances-is i, sample-at (valueAt (g .waveform) (paceOf g v)) (paceOf g v) one (v .phase .0) i n (omega arith), times-one-is (phaseFrom (paceOf g v) (v .phase .0) i)) refl)
 
-  -- the first pass, with a table lent, over what stood there, and the second over what the first wrote
+  -- the waveform's loop over what the part held, with a table lent, and then the envelope's over what the first wrote
   pub sounding : (W : List Float) (step : Radians) (k : Adsr) (t : Float) (xs ys zs : List Float) (r : Radians) (e : Envelope) → Serves W → step ≡ radians (paceOf g v) → k ≡ clampedOf (g .adsr) → t ≡ sampleTimeOf (g .rate)
       → FilledBy (valueIn W (g .waveform) (step .0)) (v .phase .0) (step .0) one xs ys r → Scaled k t (v .envelope) (v .velocity) ys zs e → Sounded g v xs zs (withEnvelope (withPhase v (r .0)) e)
   sounding W step k t xs ys zs r e serves es ek et given h =

@@ -1,4 +1,5 @@
--- A turn of the loop over the spans: from a place, what a span gives is what the walk gives as far as the span's end. Assumes nothing.
+-- A turn of the loop over the spans: from a place, a span gives what the walk gives up to the end of the span. Assumes
+-- nothing.
 use mathlib.Core.Path.{_≡_, refl, sym, ap, _∙_}
 use mathlib.Core.Bool.{false}
 use mathlib.Core.List.{List, _++_, append-assoc}
@@ -22,18 +23,18 @@ use Rattle.spans.specs.Inner.{advances, plain, Sounded, FirstAfter}
 use Rattle.spans.proofs.Acting.{act-stop}
 use Rattle.spans.proofs.Offsets.{neither}
 
--- a part that came back: the whole up to the part's end
+-- writing ys over the middle of a list gives the list up to the end of ys
 pub take-mid : {A : Type 0} (a k : ℕ) (xs ys : List A) → a ≤ length xs → length ys ≡ k → take (a + k) (putMid a k xs ys) ≡ take a xs ++ ys
 take-mid a k xs ys h e =
     let l : length (take a xs ++ ys) ≡ a + k = length-append (take a xs) ys ∙ omega (arith, length-take-le a xs h) in
     rw (← append-assoc (take a xs) ys (drop k (drop a xs))) (take-at (take a xs ++ ys) (drop k (drop a xs)) (a + k) l)
 
--- a span has as many samples as were asked for
+-- a span of k samples has k samples
 plain-length : (g : Settings) (v : State) (k : ℕ) → length (plain g v k) ≡ k
 unfolding plain
 plain-length g v = listed-length _
 
--- where no span begins, a sample is begun as it stands
+-- where no span begins, beginning a sample changes nothing
 pub quiet : (g : Settings) (s : List ℕ) (n : ℕ) (p : Place) → beginsAt s (p .next) n ≡ false → begunFrom g s n p ≡ p
 unfolding begunFrom
 quiet g s n p f = rw f (act-stop g s n (countOf s - p .next) p (neither (eqb (n % 64) 0) (standsAt s (p .next) n) f .1))
@@ -43,7 +44,7 @@ module _ (g : Settings) (s : List ℕ) (n : ℕ) (p : Place) (i : ℕ) where
   abbrev pub begun : Place
   begun = begunFrom g s (n + i) (placeFrom g s n p i)
 
-  -- no span begins on the next k samples
+  -- no span begins at the next k samples
   abbrev Unbroken : ℕ → Type 0
   Unbroken k = (m : ℕ) → i < m → m < i + suc k → beginsAt s (begun .next) (n + m) ≡ false
 
@@ -62,7 +63,7 @@ module _ (g : Settings) (s : List ℕ) (n : ℕ) (p : Place) (i : ℕ) where
   unfolding placeFrom playedFrom plain
   span-samples k f = listed-on _ i (suc k) ∙ ap (_++_ (playedFrom g s n p i)) (listed-same _ _ (suc k) (λ j l. ap (λ (q : Place). sampleOf g (q .state)) (span-begun j (λ m x y. f m x (omega arith)))))
 
-  -- the same as far as the span's end e
+  -- up to the end e of the span
   module _ (l e : ℕ) (z : FirstAfter (λ (m : ℕ). beginsAt s (begun .next) (n + m)) i l e) where
     whole : i + suc (e - i - 1) ≡ e
     whole = omega (arith, z .after)
@@ -80,7 +81,7 @@ module _ (g : Settings) (s : List ℕ) (n : ℕ) (p : Place) (i : ℕ) where
         let d : suc (e - i - 1) ≡ e - i = omega (arith, z .after) in
         ap (playedFrom g s n p) (sym whole) ∙ span-samples (e - i - 1) unbroken ∙ ap (λ (k : ℕ). playedFrom g s n p i ++ plain g (begun .state) k) d
 
-    -- a turn: the span is lent, and comes back as ys with the state u
+    -- a turn: the span is lent, and its samples are ys, with the state u after them
     module _ (part ys : List Float) (u : State) (long : length part ≡ l) (heard : take i part ≡ playedFrom g s n p i) (x : Sounded g (begun .state) (midOf i (e - i) part) ys u) where
       within : e ≤ length part
       within = omega (arith, z .within)

@@ -1,6 +1,10 @@
--- A walk through a score: the state, and the next record, which is the first that has not acted where the score is in order and the walk began at the first record that is not below its position (`Cut` of score). 01, "Making sample n": "If n is a multiple of 64 or a record has position n, phase is reduced by TAU. Then the
--- records at n act." A walk looks at the next record alone: it acts where it stands at n, and then so may the one after it. On a score whose positions never fall, from the first record that is not below n, that is
--- what state's Heart says of all records (proofs/Agrees.antt); it is defined for every score and every place. Definitions only.
+-- A walk through a score: sample after sample from a place, which is the state and the index of the next record. 01,
+-- "Making sample n": "If n is a multiple of 64 or a record has position n, phase is reduced by TAU. Then the records at
+-- n act."
+-- A walk looks only at the next record: if the record is at n it acts, and the record after it is the next.
+-- In a score whose positions never fall, from the first record that is not below n (`Cut` of `score`), a walk makes the
+-- samples that Heart of `state` defines over all records (proofs/Agrees.antt). A walk is defined for every score and
+-- every place. Definitions only.
 use mathlib.Core.Bool.{Bool, cond, _&&_, _||_}
 use mathlib.Core.List.{List}
 use mathlib.Core.Path.{_≡_}
@@ -19,7 +23,7 @@ abbrev pub placeOf : State → ℕ → Place
 placeOf v i = record { state = v; next = i }
 
 -- ---- sample n is begun
--- whether there is a record i, and it has position n
+-- whether record i exists and has position n
 abbrev pub standsAt : List ℕ → ℕ → ℕ → Bool
 standsAt s i n = ltb i (countOf s) && eqb (positionAt s i) n
 
@@ -27,7 +31,7 @@ standsAt s i n = ltb i (countOf s) && eqb (positionAt s i) n
 abbrev pub actNext : Settings → List ℕ → Place → Place
 actNext g s p = placeOf (actOf g (p .state) (eventOf g (recordAt s (p .next)))) (suc (p .next))
 
--- of the next k records the first ones act, as long as they stand at n
+-- of the next k records the first ones act, as long as they are at n
 unfoldable pub actFrom : Settings → List ℕ → ℕ → ℕ → Place → Place
 actFrom g s n zero p = p
 actFrom g s n (suc k) p = cond (standsAt s (p .next) n) (actFrom g s n k (actNext g s p)) p
@@ -59,7 +63,7 @@ placeFrom g s n p k = run (afterPlayed g s) n p k
 unfoldable pub playedFrom : Settings → List ℕ → ℕ → Place → ℕ → List Float
 playedFrom g s n p k = seen (afterPlayed g s) (playedAt g s) n p k
 
--- every sample of a lent part, and the place after the last
+-- a lent part is filled with its samples, and r is the place after the last
 pub record Played (g : Settings) (s : List ℕ) (n : ℕ) (p : Place) (before after : List Float) (r : Place) : Type 0 where
   pub samples : after ≡ playedFrom g s n p (length before)
   pub place : r ≡ placeFrom g s n p (length before)

@@ -1,7 +1,8 @@
-// Plays a part of the output, span by span (01, "Making sample n"). A span begins at a multiple of 64 and where a record
-// stands; there the phase is reduced and the records act. It ends where the next one begins, or at the part's end, which
-// reduces nothing. Samples are counted as an offset in the part from its position in the output, so that no sum is too
-// large for a word. Judging is left to the calls above.
+// Plays a part of the output, span by span (01, "Making sample n"). A span begins at each multiple of 64 and at each
+// position of a record; there the phase is reduced and the records act. It ends where the next span begins, or at the
+// end of the part, which reduces nothing.
+// A sample is counted by its offset in the part, which starts at a position in the output, so that no sum overflows a
+// u64. The calls above do the judging.
 ghost use mathlib.Core.Path.{_≡_};
 ghost use mathlib.Core.Bool.{cond};
 ghost use Prim.Native.Nat.{_+_, _%_, _<_};
@@ -12,23 +13,23 @@ use state::Settings;
 use state::State;
 use waveform::Waveform;
 
-// How many samples between two reductions where no record stands.
+// The samples of a block: between two reductions where no record acts.
 const BLOCK: u64 = 64;
 
-// How many samples of a sine pay for the whole wave.
+// A sine part of this many samples or more is faster with the whole wave unfolded first.
 const LONG: usize = 1024;
 
-// How many samples a call of the library makes at most.
+// The largest number of samples of a call of the library.
 const MOST: usize = 16777216;
 
-// The state before a sample is begun, and the first record that has not acted.
+// The state before a sample is begun, and the index of the first record that has not acted.
 pub struct Place {
     pub state: State,
     pub next: usize,
 }
 
-// A place on the way through a part, and where its next record stands: whether from the part's position on, and how many
-// samples after it. The record's position is read once, when the one before has acted.
+// A place in a part, and the next record: whether it is at or after the part's position, and how many samples after.
+// The record's position is read once, when the record before it has acted.
 struct Walker {
     state: State,
     next: usize,
@@ -36,8 +37,8 @@ struct Walker {
     due: usize,
 }
 
-// Plays the samples of a part that begins at a position, and hands back the place after the last. Where many are of a
-// sine, the wave is unfolded once for all of them; the samples are the same.
+// Plays the samples of a part that begins at a position, and returns the place after the last. For a long part of a
+// sine the whole wave is unfolded once; the samples are the same.
 pub fn play(
     settings: Settings,
     score: &[u8],
@@ -53,14 +54,14 @@ pub fn play(
             return play_long(settings, score, place, position, part);
         }
     }
-    // No call asks for so many. Of one call alone the compiler would put `play_long`, and the stack of its wave, in here.
+    // Never true in the library. A lone call of `play_long` would be inlined, with the 32 KB of its wave on the stack.
     if MOST < part.len() {
         return play_long(settings, score, place, position, part);
     }
     play_short(settings, score, place, position, part)
 }
 
-// The whole wave is lent.
+// The whole wave is lent to every span.
 fn play_long(
     settings: Settings,
     score: &[u8],
@@ -75,7 +76,7 @@ fn play_long(
     play_in(&wave, settings, score, place, position, part)
 }
 
-// No wave is lent: a sine's span reads the quarter.
+// No wave is lent: a span of a sine reads the table of a quarter wave.
 fn play_short(
     settings: Settings,
     score: &[u8],
@@ -88,7 +89,7 @@ fn play_short(
     play_in(&[0.0; 0], settings, score, place, position, part)
 }
 
-// Span by span. The wave that is lent may be empty.
+// Plays span by span. The lent wave may be empty.
 fn play_in(
     wave: &[f64],
     settings: Settings,
@@ -117,7 +118,7 @@ fn play_in(
     }
 }
 
-// At a place, with its next record read.
+// The walker at a place, with the position of its next record read.
 fn walker_at(score: &[u8], place: Place, position: u64) -> Walker
     ensures { λ r. ⌜ At (now (score .entry)) position place r ⌝ }
 {
@@ -140,7 +141,7 @@ fn walker_at(score: &[u8], place: Place, position: u64) -> Walker
     }
 }
 
-// The phase reduced where a span begins, and the records acted that stand here, one after the other.
+// Begins a sample: reduces the phase if a span begins here, and lets the records here act, one after the other.
 fn begin(settings: Settings, score: &[u8], walker: Walker, position: u64, offset: usize) -> Walker
     requires { ⌜ Sees (now score) position walker ⌝ }
     ensures { λ r. ⌜ At (now (score .entry)) position (begunFrom settings (now (score .entry)) (position + offset) (placeIn walker)) r ⌝ }
@@ -169,21 +170,21 @@ fn settled(state: State, begins: bool) -> State
     state
 }
 
-// Whether the next record stands at an offset.
+// Whether the next record is at an offset.
 fn stands_at(walker: Walker, offset: usize) -> bool
     ensures { λ r. ⌜ r ≡ standsIn walker offset ⌝ }
 {
     walker.waits & (walker.due == offset)
 }
 
-// How many samples after a multiple of 64.
+// How many samples after a multiple of 64 a sample is.
 fn into_block(position: u64, offset: usize) -> u64
     ensures { λ r. ⌜ r ≡ (position + offset) % 64 ⌝ }
 {
     (position % BLOCK + offset as u64 % BLOCK) % BLOCK
 }
 
-// The offset of the next multiple of 64, of the next record, or of the part's end, whichever is first.
+// The offset of the next multiple of 64, of the next record, or of the end of the part, whichever comes first.
 fn span_end(walker: Walker, position: u64, offset: usize, length: usize) -> usize
     requires { ⌜ offset < length ⌝ }
     ensures { λ r. ⌜ FirstAfter (beginsIn walker position) offset length r ⌝ }
@@ -196,7 +197,7 @@ fn span_end(walker: Walker, position: u64, offset: usize, length: usize) -> usiz
     end
 }
 
-// The offset of the next multiple of 64, or of the part's end.
+// The offset of the next multiple of 64, or of the end of the part.
 fn block_end(position: u64, offset: usize, length: usize) -> usize
     requires { ⌜ offset < length ⌝ }
     ensures { λ r. ⌜ FirstAfter (isMark position) offset length r ⌝ }
@@ -209,7 +210,7 @@ fn block_end(position: u64, offset: usize, length: usize) -> usize
     offset + left
 }
 
-// One span: the waveform's inner loop over the part, then the envelope's level and the velocity over what it wrote.
+// One span: the waveform's inner loop fills the part, then each value is multiplied by the level and the velocity.
 fn sound(wave: &[f64], settings: Settings, state: State, part: &mut [f64]) -> State
     requires { ⌜ Serves (now wave) ⌝ }
     ensures { λ r. ⌜ Sounded settings state (now (part .entry)) (now (part .exit)) r ⌝ }

@@ -1,6 +1,9 @@
--- An event does what the calls of 01 do: of a voice and an envelope block that have what the state has, the voice's call and the envelope's, where they are done, leave what the state has after the event. The voice's
--- `note_off` alone decides whether the envelope is released. The phase is left by an on and an off and set to 0 by a reset. On a state within its limits, whatever its phase, and with a note and a velocity to 127
--- both calls are done; and a fresh state has what a new voice and a new block have. Assumes nothing.
+-- An event does what 01's calls do. Take a voice and an envelope block that have the fields of the state: if the
+-- voice's call and the envelope's are done, they leave the fields that the state has after the event.
+-- The voice's `note_off` alone decides whether the envelope is released. An on and an off keep the phase, and a reset
+-- sets it to 0.
+-- On a state within its limits, whatever its phase, and with note and velocity up to 127 both calls are done; and a
+-- fresh state has the fields of a new voice and a new block. Assumes nothing.
 use mathlib.Core.Path.{_≡_, refl, sym, ap, _∙_}
 use mathlib.Core.Bool.{Bool, true, false, cond, _&&_}
 use mathlib.Core.List.{List}
@@ -42,7 +45,7 @@ use Rattle.state.specs.State.{concert, freshOf, liftedBy, actOf}
 use Rattle.state.specs.Calls.{Alike, voiceCall, envelopeCall, phaseThen}
 use Rattle.state.proofs.Limits.{is-true, Kept, EventIn}
 
--- ---- a call that is done leaves what it is to leave
+-- ---- what a call leaves that is done
 voice-left : (refusals : List Refusal) (before after : VoiceState) → changedOr refusals before after .answer ≡ Done 0 → changedOr refusals before after .voice ≡ after
 voice-left refusals before after d = rw (none-refused refusals _ _ (λ (r : Changed). r .answer) 0 (λ why. refl) d) refl
 
@@ -52,7 +55,7 @@ off-left refusals r before after d = rw (none-refused refusals _ _ (λ (r : Off)
 block-left : (b : EnvelopeBlock) (e : Envelope) → changedOf b e .answer ≡ Done 0 → changedOf b e .block .envelope ≡ e
 block-left b e d = rw (none-refused (unless (isEnvelope (b .envelope)) Argument) _ _ (λ (r : Processed). r .answer) 0 (λ why. refl) d) refl
 
--- ---- the numbers of either width
+-- ---- frequency and velocity as f32 and as f64
 same-pitch : concert ≡ voice.concert
 unfolding ofBits
 same-pitch = refl
@@ -69,7 +72,7 @@ same-one = lit1-is binary64 ∙ sym (lit1-is binary32)
 
 -- ---- the events
 module _ (g : Settings) (v : State) (w : VoiceState) (b : EnvelopeBlock) (a : Alike v w b) where
-  -- a key was lifted and these keys are left: the block c is b, released where the voice is
+  -- a key is lifted, and `keys` are left: block c is b, released if the voice is
   left-alike : (keys : Keys) (off : NoteOff) (c : EnvelopeBlock) → c .envelope ≡ cond (isReleased off) (releasedOf (b .envelope)) (b .envelope) → Alike (liftedBy v keys off) (heardOf w keys off) c
   left-alike keys Released c e = record { keys = refl; frequency = a .frequency; velocity = a .velocity; envelope = ap releasedOf (a .envelope) ∙ sym e }
   left-alike keys (FellBack note velocity) c e = record { keys = refl; frequency = refl; velocity = refl; envelope = a .envelope ∙ sym e }
@@ -80,7 +83,7 @@ module _ (g : Settings) (v : State) (w : VoiceState) (b : EnvelopeBlock) (a : Al
   off-block true d = block-left b (releasedOf (b .envelope)) d
   off-block false d = refl
 
-  -- both lift the same keys
+  -- voice and state lift the same keys
   lift-is : (note : ℕ) → actOf g v (event.Lift note) ≡ liftedBy v (liftedOf (w .keys) note .keys) (liftedOf (w .keys) note .off)
   unfolding actOf
   lift-is note = ap (λ (keys : Keys). liftedBy v (liftedOf keys note .keys) (liftedOf keys note .off)) (a .keys)
@@ -92,7 +95,7 @@ module _ (g : Settings) (v : State) (w : VoiceState) (b : EnvelopeBlock) (a : Al
       let o = off-left (unless (isVoice w && isMidi note) Argument) (isReleased (l .off)) w (heardOf w (l .keys) (l .off)) d in
       rw (lift-is note, o .0) (left-alike (l .keys) (l .off) (envelopeCall w b (event.Lift note) .block) (off-block (voice.noteOffOf w note .released) f ∙ rw (o .1) refl))
 
-  -- where both calls are done, they leave what the event does
+  -- if both calls are done, they leave what the event does
   pub calls-act : (e : Event) → voiceCall w e .answer ≡ Done 0 → envelopeCall w b e .answer ≡ Done 0 → Alike (actOf g v e) (voiceCall w e .voice) (envelopeCall w b e .block)
   unfolding actOf
   calls-act (event.Strike note velocity) d f =
@@ -107,7 +110,7 @@ module _ (g : Settings) (v : State) (w : VoiceState) (b : EnvelopeBlock) (a : Al
   calls-act (event.Lift note) d f = lift-alike note d f
   calls-act event.Reset d f = let left = voice-left (unless (isVoice w) Argument) w voice.newOf d in record { keys = rw left refl; frequency = rw left same-pitch; velocity = rw left same-naught; envelope = rw (block-left b stages.freshOf f) refl }
 
-  -- whether the envelope is released is what the voice's note_off returned
+  -- the envelope is released exactly if the voice's note_off returned true
   pub released-decides : (note : ℕ) → voice.noteOffOf w note .answer ≡ Done 0 → actOf g v (event.Lift note) .envelope ≡ cond (voice.noteOffOf w note .released) (releasedOf (v .envelope)) (v .envelope)
   released-decides note d =
       let l = liftedOf (w .keys) note in
@@ -134,7 +137,7 @@ phase-then g v event.Reset = refl
 pub fresh-alike : (acted : ℕ) (attack decay sustain release : Float) → Alike (freshOf acted) voice.newOf (envelope.newOf attack decay sustain release)
 fresh-alike acted attack decay sustain release = record { keys = refl; frequency = same-pitch; velocity = same-naught; envelope = refl }
 
--- ---- the calls are done
+-- ---- both calls are done
 module _ (P : Float → Type 0) (v : State) (k : Kept P v) (w : VoiceState) (b : EnvelopeBlock) (a : Alike v w b) where
   voice-in : isVoice w ≡ true
   unfolding isVoice

@@ -1,5 +1,5 @@
--- The floats of a state are values of an f64, and every step keeps that, of any score: what reading an entry back from its bits wants. The sustain setting is one, which is what owning it tells.
--- Assumes nothing.
+-- The floats of a state are values of an f64, and every step keeps that, for any score: what reading an entry back from
+-- its bits needs. The sustain setting is taken to be a value of an f64, as every f64 of a program is. Assumes nothing.
 use mathlib.Core.Bool.{cond}
 use mathlib.Core.List.{List}
 use Prim.Native.Nat.{ℕ}
@@ -33,7 +33,7 @@ pub record Fitting (v : State) : Type 0 where
   pub velocity-fits : T (fits binary64 (v .velocity))
   pub envelope-held : Held (v .envelope)
 
--- ---- what is set
+-- ---- pitches, velocities, a reduced phase and a clamped sustain setting
 pitch-fits : (n : ℕ) → T (fits binary64 (frequencyOf n))
 pitch-fits n = fits-widens (frequencyOf n) (frequency-fits n)
 

@@ -1,5 +1,6 @@
--- How far the phase climbs between two reductions: a sample adds at most 12,544 / 8,000 * TAU, which is below 10, so j samples after a reduction the phase is at most rung j of a ladder of tens.
--- Rung 64, which is 650, is below 1,000. Assumes nothing.
+-- How far the phase grows between two reductions. A sample adds at most 12,544 / 8,000 * TAU radians, which is below
+-- 10, so j samples after a reduction the phase is at most `ladder j`, 10 + 10 j radians.
+-- After 64 samples that is 650, below the limit of 1,000. Assumes nothing.
 use mathlib.Core.Path.{_≡_, refl}
 use mathlib.Core.Logic.{⊎-elim}
 use mathlib.Core.Bool.{Bool, true, false, not}
@@ -31,7 +32,7 @@ use Rattle.waveform.proofs.Values.{Near, phase-near}
 use Rattle.state.proofs.Limits.{pitch-nonneg}
 
 -- ---- the ladder
--- 10, 20, 30, ..
+-- 10 + 10 j
 abbrev pub ladder : ℕ → Float
 ladder j = phaseFrom ten ten j
 
@@ -46,7 +47,7 @@ rung-near j =
 pub rung-nonneg : (j : ℕ) → T (nonneg (ladder j))
 rung-nonneg j = rung-near j .p-nonneg
 
--- a rung further up is not below
+-- a later bound is not lower
 pub rungs-rise : (i j : ℕ) → i ≤ j → T (le (ladder i) (ladder j))
 unfolding run phaseFrom
 rungs-rise i zero h = let z : i ≡ 0 = omega arith in rw z (unfold ofBits in unfold le in tt)
@@ -54,7 +55,7 @@ rungs-rise i (suc j) h =
     ⊎-elim (λ e. rw e (fle-refl (ladder (suc j)) (nonneg→finite (ladder (suc j)) (rung-nonneg (suc j)))))
     (λ l. fle-trans (ladder i) (ladder j) (ladder j ⊕ ten) (rungs-rise i j (le-of-suc-le-suc l)) (add-grows binary64 (ladder j) ten (rung-near j .p-fits) (rung-nonneg j) ten-nonneg)) (eq-or-lt-of-le h)
 
--- the uppermost that is needed
+-- the highest bound that is needed
 last-below : T (lt (ladder 64) thousand)
 unfolding run phaseFrom ofBits add lt
 last-below = tt
@@ -63,11 +64,11 @@ last-below = tt
 le-lt : (x y z : Float) → T (finite x) → T (finite z) → T (le x y) → T (lt y z) → T (lt x z)
 le-lt x y z p q h l = by-contra (lt x z) (λ (n : T (not (lt x z))). lt-not-le y z l (fle-trans z x y (not-lt-le x z p q n) h))
 
--- what is on a rung to 64 is below 1,000
+-- a phase under a bound up to `ladder 64` is below 1,000
 pub rung-below : (j : ℕ) (x : Float) → j ≤ 64 → T (finite x) → T (le x (ladder j)) → T (lt x thousand)
 rung-below j x h k l = le-lt x (ladder 64) thousand k (unfold ofBits in tt) (fle-trans x (ladder j) (ladder 64) l (rungs-rise j 64 h)) last-below
 
--- TAU is on every rung, and 0
+-- TAU and 0 are under every bound
 tau-on : (j : ℕ) → T (le tau (ladder j))
 unfolding run phaseFrom
 tau-on j = fle-trans tau ten (ladder j) (unfold ofBits in unfold le in tt) (rungs-rise 0 j (omega arith))
@@ -80,7 +81,7 @@ naught-on j = fle-trans naught ten (ladder j) (unfold ofBits in unfold le in tt)
 tau-nonneg : T (nonneg tau)
 tau-nonneg = unfold ofBits in tt
 
--- a phase that is not negative, an f64 or not, is reduced to TAU at most
+-- a phase that is not negative, an f64 or not, is reduced to at most TAU
 module _ (p : Float) (h : T (nonneg p)) where
   abbrev rest : Float
   rest = rem binary64 p tau
@@ -113,7 +114,7 @@ slow = ofBits binary64 0x40bf_4000_0000_0000
 abbrev steep : Float
 steep = highestPitch binary64 ⊘ slow ⊗ tau
 
--- a rate as a float
+-- a rate as a float is at least 8,000
 rate-slow : (rate : ℕ) → T (isRate rate) → T (le slow (ofInt binary64 (pos rate)))
 unfolding ofInt isRate
 rate-slow rate h = rw whole (round-mono binary64 8000 1 rate 1 (lit< tt) (lit< tt) (nat.mul-le-mul-right 1 (leb→le 8000 rate (and-l (leb 8000 rate) (leb rate 192000) h))))
@@ -149,7 +150,7 @@ module _ (frequency : Float) (rate : ℕ) (f : T (isPitch binary64 frequency)) (
   unfolding incrementOf
   pace-nonneg = under (incrementOf frequency rate) ten (mul-ge0 binary64 (frequency ⊘ ofInt binary64 (pos rate)) tau ratio-nonneg tau-nonneg) (nonneg→finite ten ten-nonneg) pace-le
 
--- one sample is one rung
+-- a sample leads from one bound to the next
 module _ (j : ℕ) (p step : Float) (h : T (nonneg p)) (l : T (le p (ladder j))) (s : T (nonneg step)) (t : T (le step ten)) where
   pub next-rung : T (le (p ⊕ step) (ladder (suc j)))
   unfolding run phaseFrom

@@ -1,31 +1,31 @@
--- Laws on what this crate defines.
+-- Laws of what this crate defines.
 -- cut anywhere: j samples and then k are j + k
 pub mod RunsOn
--- the states at the marks, likewise
+-- entries: j and then k are j + k
 pub mod Entries
--- what is made depends on the records in between alone
+-- what is made depends only on the records between
 pub mod Depends
--- the number of records acted is never heard
+-- no sample depends on the number of records acted
 pub mod ButActed
--- and is the number of records below the position
+-- that number is the number of records below the position
 pub mod Acted
--- what every step keeps holds through every sample
+-- a property that the steps keep is true at every sample
 pub mod Lasting
--- the floats of a state are values of an f64, through every step
+-- the floats of a state are values of an f64 after every step
 pub mod Fits
--- and the keys' arrays are of 16
+-- the arrays of the keys have 16 places after every step
 pub mod Arrays
--- the limits of a state, part by part, and that events keep them
+-- the limits of a state part by part, and that events keep them
 pub mod Limits
 -- an event does what the calls of 01 do
 pub mod Calls
--- how far the phase climbs between two reductions
+-- how far the phase grows between two reductions
 pub mod Ladder
--- what holds of the phase through every sample, all else being in its limits
+-- a property of the phase at every sample, if all other fields are within their limits
 pub mod Through
--- through every sample the limits are kept
+-- the limits are kept at every sample
 pub mod Stays
--- every sample is finite, and a velocity of 0 is heard as nothing
+-- every sample is finite, and with velocity 0 it is 0
 pub mod Silence
 -- two outcomes of a public function are equal
 pub mod Unique

@@ -1,5 +1,7 @@
--- The limits of a state, part by part, and that every event of an accepted score keeps them. A state is `Kept P` where its phase has P and all else is within its limits: an event leaves the phase or sets it to 0, so
--- what P is does not matter to it. What is within the limits has no NaN and no infinity. Assumes nothing.
+-- The limits of a state part by part, and that every event of an accepted score keeps them. A state is `Kept P` if P is
+-- true of its phase and all other fields are within their limits. An event keeps the phase or sets it to 0, so the law
+-- is the same for every P that is true of 0.
+-- A state within the limits has no NaN and no infinity. Assumes nothing.
 use mathlib.Core.Path.{_≡_, refl, sym, subst}
 use mathlib.Core.Bool.{Bool, true, false, not, cond, _&&_}
 use mathlib.Core.List.{List, []}
@@ -43,7 +45,7 @@ use Rattle.state.specs.State.{freshOf, eventFor, eventOf, liftedBy, actO
 use Rattle.domain.specs.Domain.{thousand, isRadians, highestPitch, isPitch}
 use Rattle.state.specs.Limits.{inLimits, mostActed, isState}
 
--- a test that passes is true, and the other way
+-- a test that holds is true, and the converse
 pub is-true : (b : Bool) → T b → b ≡ true
 is-true true t = refl
 
@@ -105,7 +107,7 @@ module _ (v : State) where
       (and-i (phased && shaped && pitched) loud (and-i (phased && shaped) pitched (and-i phased shaped (k .phase-in) (k .envelope-in)) (k .pitch-in)) (k .velocity-in))
       (k .keys-in))
 
-  -- a state is within the limits, and no more records acted than an entry has room for
+  -- a state passes the test if it is within the limits and its number of records acted fits in 48 bits
   pub state-in : isState v ≡ true → inLimits v ≡ true
   unfolding isState
   state-in e = is-true (inLimits v) (and-l (inLimits v) (leb (v .acted) mostActed) (from-true (isState v) e))
@@ -131,7 +133,7 @@ no-nan nan h = h
 no-nan (inf s) h = tt
 no-nan (fin s m e) h = tt
 
--- 0 ≤ x, by the literal
+-- 0 ≤ x, with the two forms of 0
 from-literal : (x : Float) → T (le naught x) → T (le nought x)
 from-literal x h = rw lit0-is at h
 
@@ -188,7 +190,7 @@ loudness-in v h = go (loudness.velocity-in v h)
     go t = rw (lit0-is binary64, lit1-is binary64) (rw (lit0-is binary32, lit1-is binary32) at t)
 
 -- ---- events
--- what an event may be: a note and a velocity to 127
+-- the events that may occur: note and velocity up to 127
 abbrev pub EventIn : Event → Type 0
 EventIn (event.Strike n v) = (n ≤ 127) × (v ≤ 127)
 EventIn (event.Lift n) = n ≤ 127
@@ -217,7 +219,7 @@ accepted-events g s m a i h =
     let r = all .fine i (omega arith) .right in
     event-in (recordAt s i .kind) (byteAt s i 7) (byteAt s i 8) (omega (arith, r .note-right, most-in (byteAt s i 6))) (omega (arith, r .velocity-right, most-in (byteAt s i 6)))
 
--- an event keeps the limits, and what holds of the phase if it holds of 0
+-- an event keeps the limits, and a property of the phase that is true of 0
 module _ (g : Settings) (P : Float → Type 0) (p : P naught) (v : State) (k : Kept P v) where
   lift-keeps : (l : Keys) (off : NoteOff) → T (isKeys l) → BackRanged off → Kept P (liftedBy v l off)
   lift-keeps l Released h b = record { phase-in = k .phase-in; envelope-in = released-keeps (v .envelope) (k .envelope-in); pitch-in = k .pitch-in; velocity-in = k .velocity-in; keys-in = h }
@@ -237,6 +239,6 @@ module _ (g : Settings) (P : Float → Type 0) (p : P naught) (v : State) (k : K
   act-keeps (event.Lift n) h = let l = lifted-keeps (v .keys) n (k .keys-in) in lift-keeps (liftedOf (v .keys) n .keys) (liftedOf (v .keys) n .off) (l .within) (l .back)
   act-keeps event.Reset h = fresh-keeps P p _
 
--- so it keeps the limits of a state
+-- an event keeps the limits of a state
 pub act-in : (g : Settings) (v : State) (e : Event) → EventIn e → inLimits v ≡ true → inLimits (actOf g v e) ≡ true
 act-in g v e h i = kept-in (actOf g v e) (act-keeps g PhaseIn naught-phase v (in-kept v i) e h)

@@ -1,5 +1,7 @@
--- What a sample sounds like. 01, "The score": "A note-on with velocity 0 plays silent, as in the Rust." Of a state within its limits every sample is finite, and where the velocity is 0 it is
--- 0, with either sign; a key struck with velocity 0 gives such a state. The phase and the sustain setting are values of an f64, which is what owning them tells. Assumes nothing.
+-- Samples of a state within its limits are finite, and with velocity 0 they are +0 or -0. 01, "The score": "A note-on
+-- with velocity 0 plays silent, as in the Rust."
+-- A key struck with velocity 0 gives such a state. Phase and sustain setting are taken to be values of an f64, as every
+-- f64 of a program is. Assumes nothing.
 use mathlib.Core.Path.{_≡_, refl, _∙_}
 use mathlib.Core.Logic.{_⊎_, inl, inr}
 use mathlib.Core.Bool.{Bool, true, false, _&&_}

@@ -1,6 +1,10 @@
--- The limits are kept from a fresh state through every sample, and from any state within them at a multiple of 64, so at every mark, on. 01, "Making sample n": "If n is a multiple of 64 or a record has position n, phase
--- is reduced by TAU." So at such a position it does not count what the phase was; then it climbs a rung a sample, and is reduced again before the 65th. From any state within them, at any position, all but the phase stays
--- within its limits, and no float becomes a NaN or an infinity. The sustain setting is a value of an f64, which is what owning it tells. Assumes nothing.
+-- The limits are kept at every sample from the fresh state on, and from any state within them at a multiple of 64 on,
+-- so from the start of every section. 01, "Making sample n": "If n is a multiple of 64 or a record has position n,
+-- phase is reduced by TAU." So at such a position it does not matter what the phase was; then each sample adds at most
+-- 10, and the next reduction comes after at most 64 samples.
+-- From any state within the limits, at any position, all fields but the phase stay within their limits, and no float
+-- becomes a NaN or an infinity. The sustain setting is taken to be a value of an f64, as every f64 of a program is.
+-- Assumes nothing.
 use mathlib.Core.Path.{_≡_, refl}
 use mathlib.Core.Bool.{true}
 use mathlib.Core.List.{List}
@@ -35,17 +39,17 @@ use Rattle.state.proofs.Limits.{Kept, PhaseIn, AllFinite, weaken, in-ke
 use Rattle.state.proofs.Ladder.{ladder, rung-below, naught-on, reduced-on, reduced-nonneg, next-rung, next-nonneg}
 use Rattle.state.proofs.Through.{Carried, reduced-keeps, run-keeps, run-begins}
 
--- ---- where the phase is
+-- ---- the range of the phase
 -- j samples after a reduction
 pub record On (j : ℕ) (x : Float) : Type 0 where
   pub not-negative : T (nonneg x)
   pub not-above : T (le x (ladder j))
 
--- after sample m is begun: it climbed from the last multiple of 64
+-- after sample m is begun: as far as the phase grows from the last multiple of 64
 abbrev pub Since : ℕ → Float → Type 0
 Since m x = On (m % 64) x
 
--- before it is begun: anywhere below 1,000 where it is about to be reduced, and else it climbed
+-- before sample m is begun: anything below 1,000 if the phase is about to be reduced, else as far as it grows
 pub record Before (m : ℕ) (x : Float) : Type 0 where
   pub phase : PhaseIn x
   pub climbed : (m % 64 ≡ 0 → ⊥) → T (le x (ladder (m % 64)))
@@ -57,7 +61,7 @@ on-phase j x h o =
 reduced-at : (j : ℕ) (x : Float) → PhaseIn x → On j (reduceOf x)
 reduced-at j x t = record { not-negative = reduced-nonneg x (phase-nonneg x t); not-above = reduced-on x (phase-nonneg x t) j }
 
--- one sample is one rung, and the 64th is the last
+-- a sample leads from one bound to the next, and after 64 samples comes a reduction
 climbs : Carried Before Since
 climbs =
     record {
@@ -82,7 +86,7 @@ climbs =
 pub reduce-in : (v : State) → inLimits v ≡ true → inLimits (reducedOf v) ≡ true
 reduce-in v l = kept-in (reducedOf v) (reduced-keeps PhaseIn PhaseIn v (λ t. on-phase 0 (reduceOf (v .phase .0)) (omega arith) (reduced-at 0 (v .phase .0) t)) (in-kept v l))
 
--- ---- anywhere: to 2^60, where a step no longer moves it
+-- ---- without a reduction: at most 2^60, where adding 10 no longer changes the phase
 pub record Far (x : Float) : Type 0 where
   pub not-negative : T (nonneg x)
   pub not-far : T (le x far)
@@ -119,13 +123,13 @@ module _ (g : Settings) (ok : settingsOk g ≡ true) (w : T (fits binary64 (g .a
     pub limits-kept : (k : ℕ) → inLimits (stateFrom g s n v k) ≡ true
     limits-kept k = let u = stateFrom g s n v k in kept-in u (weaken (Before (n + k)) PhaseIn u (λ b. b .phase) (run-keeps Before Since climbs g ok w s m a n v start k))
 
-    -- and the state that makes the sample
+    -- the state after a sample is begun
     pub begun-kept : (k : ℕ) → inLimits (begun g s (n + k) (stateFrom g s n v k)) ≡ true
     begun-kept k =
         let u = begun g s (n + k) (stateFrom g s n v k) in
         kept-in u (weaken (Since (n + k)) PhaseIn u (on-phase ((n + k) % 64) (u .phase .0) (omega arith)) (run-begins Before Since climbs g ok w s m a n v start k))
 
-  -- from a mark
+  -- from the start of a section
   pub mark-kept : (mark : ℕ) (v : State) → inLimits v ≡ true → (k : ℕ) → inLimits (stateFrom g s (mark * 4096) v k) ≡ true
   mark-kept mark v l k = limits-kept (mark * 4096) (omega arith) v l k
 
@@ -147,6 +151,6 @@ module _ (g : Settings) (ok : settingsOk g ≡ true) (w : T (fits binary64 (g .a
     pub others-begun : (k : ℕ) → Kept Far (begun g s (n + k) (stateFrom g s n v k))
     others-begun k = run-begins Anywhere Anywhere drifts g ok w s m a n v begins k
 
-    -- so nothing becomes a NaN or an infinity
+    -- so no field becomes a NaN or an infinity
     pub finite-kept : (k : ℕ) → AllFinite (stateFrom g s n v k)
     finite-kept k = let u = stateFrom g s n v k in kept-finite Far u (λ o. o .not-negative) (others-kept k)

@@ -1,5 +1,7 @@
--- What holds of the phase through every sample, with all else within its limits, under accepted settings and by an accepted score. A property of the phase is carried where it holds of 0, of a reduced phase, and of one that
--- grew by at most 10; it may depend on the position, and be another before a sample is begun than after. The sustain setting is a value of an f64, which is what owning it tells. Assumes nothing.
+-- A property of the phase at every sample, if all other fields are within their limits, under accepted settings and for
+-- an accepted score. The property must be true of 0, of a reduced phase, and of a phase that grew by at most 10.
+-- It may depend on the position, and be another before a sample is begun than after. The sustain setting is taken to be
+-- a value of an f64, as every f64 of a program is. Assumes nothing.
 use mathlib.Core.Path.{_≡_}
 use mathlib.Core.Bool.{true, false, _&&_}
 use mathlib.Core.List.{List}
@@ -51,8 +53,8 @@ module _ (g : Settings) (ok : settingsOk g ≡ true) (w : T (fits binary64 (g .a
         keys-in = k .keys-in;
       }
 
--- ---- samples, one after the other
--- P before sample m is begun, Q after
+-- ---- consecutive samples
+-- P before sample m is begun, Q after that
 pub record Carried (P Q : ℕ → Float → Type 0) : Type 0 where
   pub zeroed : (m : ℕ) → Q m naught
   pub reduced : (m : ℕ) (x : Float) → P m x → Q m (reduceOf x)

@@ -1,7 +1,11 @@
--- The limits of a state. 01, "The shelf": "An entry is a state if phase is at least 0 and below 1,000, stage_time 0 to 11, levels and velocity 0 to 1, frequency above 0 and at most 12,544, active note 0 to 127
--- or 255, gate 1 exactly when it is not 255, held count at most 16, pairs in range, and the rest of these words zero." Ranges are comparisons of floats: a NaN is outside, and -0 counts as 0, so that a frequency of
--- -0 is refused. No agreement of stage, level, note and keys is asked. Stricter than 01's words by one clause: the records acted fit in the 48 bits that an entry has for them. It is harmless: a score has at most
--- 4,096 records, so that a state with more acted differs from every score, and 8 or 10 is given anyway. Definitions only.
+-- The limits of a state. 01, "The shelf": "An entry is a state if phase is at least 0 and below 1,000, stage_time 0 to
+-- 11, levels and velocity 0 to 1, frequency above 0 and at most 12,544, active note 0 to 127 or 255, gate 1 exactly
+-- when it is not 255, held count at most 16, pairs in range, and the rest of these words zero."
+-- A range is a comparison of floats: a NaN is outside, and -0 counts as 0, so that a frequency of -0 is refused.
+-- Whether stage, level, note and keys agree with each other is not tested.
+-- Stricter than 01 by one clause: the records acted fit in the 48 bits that an entry has for them. This refuses no
+-- more: a score has at most 4,096 records, so a state with more acted differs from every score, and 8 or 10 is given
+-- anyway. Definitions only.
 use mathlib.Core.Bool.{Bool, _&&_}
 use Prim.Native.Nat.{ℕ}
 use lib.Dec.{leb}
@@ -13,7 +17,7 @@ use Rattle.envelope.specs.Limits.{isEnvelope}
 use Rattle.voice.specs.Keys.{isKeys}
 use Rattle.state.specs.declared.State.{State}
 
--- what sounds is within its limits
+-- all fields but the number of records acted are within their limits
 unfoldable pub inLimits : State → Bool
 inLimits v = isRadians (v .phase .0) && isEnvelope (v .envelope) && isPitch binary64 (v .frequency) && within naught one (v .velocity) && isKeys (v .keys)
 

@@ -1,4 +1,5 @@
--- What a render takes for settings. 01, number 6: "rate, waveform's duty or an ADSR setting outside the domain". One test for all of them. Definitions only.
+-- The settings that a render accepts. 01, number 6: "rate, waveform's duty or an ADSR setting outside the domain". One
+-- test for all of them. Definitions only.
 use mathlib.Core.Bool.{Bool, _&&_}
 use Rattle.domain.specs.Domain.{isRate}
 use Rattle.envelope.specs.Limits.{isAdsr}

@@ -1,6 +1,8 @@
--- The state, and the four steps of a sample. 01, "Making sample n": "phase is reduced by TAU. Then the records at n act. On: voice and envelope `note_on`. Off: voice `note_off`, and the envelope's where it
--- returned true. Reset: voice, envelope and phase to their fresh state. Then the sample is oscillator value * envelope level * velocity, left to right, and both advance. Frequency is always the voice's own
--- (440 when fresh)." A reset goes on counting the records acted, itself included. Definitions only.
+-- The state, and the four steps of a sample. 01, "Making sample n": "phase is reduced by TAU. Then the records at n
+-- act. On: voice and envelope `note_on`. Off: voice `note_off`, and the envelope's where it returned true. Reset:
+-- voice, envelope and phase to their fresh state. Then the sample is oscillator value * envelope level * velocity, left
+-- to right, and both advance. Frequency is always the voice's own (440 when fresh)."
+-- A reset does not set the number of records acted to 0: it is counted as one more. Definitions only.
 use mathlib.Core.Bool.{Bool, true, cond}
 use Prim.Native.Nat.{ℕ, _+_}
 use lib.Dec.{ltb}
@@ -30,15 +32,16 @@ use Rattle.state.specs.declared.Event.the-variants as event
 abbrev pub concert : Float
 concert = ofBits binary64 0x407b_8000_0000_0000
 
--- one record more has acted, as far as a u64 counts; a score has 4,096 at most
+-- one more record has acted, as far as a u64 counts; a score has at most 4,096 records
 abbrev pub counted : ℕ → ℕ
 counted acted = cond (ltb acted 18446744073709551615) (acted + 1) acted
 
--- the fresh state, with the number of records that have acted
+-- the fresh state, with the number of records acted
 abbrev pub freshOf : ℕ → State
 freshOf acted = record { phase = radians naught; envelope = envelope.freshOf; frequency = concert; velocity = naught; keys = freshKeys; acted = acted }
 
--- ---- the state with a part of it changed. A field more is named in these, in `freshOf`, in `withActed` of ButActed.antt and in shelf's `stateOf`, which say all fields
+-- ---- the state with some fields changed. Who adds a field to `State` adds it to these definitions, to `freshOf`, to
+-- `withActed` of ButActed.antt and to `stateOf` of the crate `shelf`, which name all fields
 abbrev pub withPhase : State → Float → State
 withPhase v p = record { phase = radians p; envelope = v .envelope; frequency = v .frequency; velocity = v .velocity; keys = v .keys; acted = v .acted }
 
@@ -49,7 +52,7 @@ withEnvelope v e = record { phase = v .phase; envelope = e; frequency = v .frequ
 abbrev pub soundedOf : State → ℕ → ℕ → State
 soundedOf v note velocity = record { phase = v .phase; envelope = v .envelope; frequency = frequencyOf note; velocity = velocityOf velocity; keys = v .keys; acted = v .acted }
 
--- these keys are held, and one record more has acted
+-- these keys are held, and one more record has acted
 abbrev pub heldOf : State → Keys → State
 heldOf v keys = record { phase = v .phase; envelope = v .envelope; frequency = v .frequency; velocity = v .velocity; keys = keys; acted = counted (v .acted) }
 
@@ -58,7 +61,8 @@ abbrev pub reducedOf : State → State
 reducedOf v = withPhase v (reduceOf (v .phase .0))
 
 -- ---- act
--- what a record does: an on strikes a key (note, velocity), an off lifts a key (note), a reset resets; a lift releases only where the voice says so. No setting changes that today
+-- what a record does: an on strikes a key (note, velocity), an off lifts a key (note), a reset resets. A lift releases
+-- the envelope only if the voice's note_off returns true. No setting changes that today
 abbrev pub eventFor : Kind → ℕ → ℕ → Event
 eventFor On note velocity = event.Strike note velocity
 eventFor Off note velocity = event.Lift note
@@ -67,16 +71,17 @@ eventFor Reset note velocity = event.Reset
 abbrev pub eventOf : Settings → Record → Event
 eventOf g r = eventFor (r .kind) (r .note) (r .velocity)
 
--- whether a key that goes down in this state triggers the envelope: today every one does
+-- whether striking a key triggers the envelope: today always
 abbrev pub triggers : Settings → State → Bool
 triggers g v = true
 
--- the note sounds, struck with this velocity
+-- the key is struck: its note sounds with this velocity
 abbrev pub struckOf : Settings → State → ℕ → ℕ → State
 struckOf g v note velocity =
     withEnvelope (soundedOf (heldOf v (pressedOf (v .keys) note velocity)) note velocity) (cond (triggers g v) (triggeredOf (v .envelope)) (v .envelope))
 
--- a key went up, and these keys are left: the voice is released, and with it the envelope; or it falls back to a held note, or goes on as it was
+-- a key is lifted, and these keys are left: voice and envelope are released, or a held note sounds, or nothing else
+-- changes
 abbrev pub liftedBy : State → Keys → NoteOff → State
 liftedBy v keys Released = withEnvelope (heldOf v keys) (releasedOf (v .envelope))
 liftedBy v keys (FellBack note velocity) = soundedOf (heldOf v keys) note velocity
@@ -88,11 +93,11 @@ actOf g v (event.Lift note) = let l = liftedOf (v .keys) note in liftedBy v (l .
 actOf g v event.Reset = freshOf (counted (v .acted))
 
 -- ---- the sample, and the advance
--- the envelope one sample on; its level is the sample's
+-- the envelope after the next sample; its level is the sample's
 abbrev pub steppedOf : Settings → State → Envelope
 steppedOf g v = stepOf (clampedOf (g .adsr)) (sampleTimeOf (g .rate)) (v .envelope)
 
--- radians a sample
+-- the phase's growth, in radians a sample
 abbrev pub paceOf : Settings → State → Float
 paceOf g v = incrementOf (v .frequency) (g .rate)
 

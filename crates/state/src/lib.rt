@@ -1,6 +1,6 @@
-// The voice's state, and the four steps that make a sample (01, "Making sample n"): reduce the phase, let a record act, take the
-// sample, advance. Everything that a render, a continuing call and a re-render do is these steps, counted from sample zero.
-// Which record acts when is said in specs/Heart.antt, and done by the crates above.
+// The voice's state, and the four steps that make a sample (01, "Making sample n"): reduce the phase, let records act,
+// take the sample, advance. A render, a continuing call and a re-render are these steps, counted from sample zero.
+// specs/Heart.antt defines which record acts when; the crates above do it.
 ghost use mathlib.Core.Path.{_≡_};
 ghost use Rattle.voice.specs.Keys.{liftedOf};
 ghost use Rattle.state.specs.Limits.{inLimits, isState};
@@ -16,15 +16,15 @@ use voice::keys::NoteOff;
 use waveform::Radians;
 use waveform::Waveform;
 
-// What stays the same through a render: the rate in Hz, the choice of waveform, and the envelope's settings.
+// What does not change during a render: the rate in Hz, the choice of waveform, and the envelope's settings.
 pub struct Settings {
     pub rate: u32,
     pub waveform: Waveform,
     pub adsr: Adsr,
 }
 
-// What changes: the oscillator's phase, the envelope, the voice's frequency in Hz and velocity from 0 to 1, its held keys,
-// and how many records of the score have acted.
+// What changes from sample to sample: the oscillator's phase, the envelope, the voice's frequency in Hz and velocity
+// from 0 to 1, the held keys, and how many records of the score have acted.
 pub struct State {
     pub phase: Radians,
     pub envelope: Envelope,
@@ -34,15 +34,15 @@ pub struct State {
     pub acted: u64,
 }
 
-// What a record does: it strikes a key (note, velocity), lifts a key (note), or sets all that sounds back to its fresh state.
-// Whether a lift releases the envelope is for the voice to say.
+// What a record does: it strikes a key (note, velocity), lifts a key (note), or sets all that sounds to its fresh
+// state. Whether a lift releases the envelope depends on the held keys.
 pub enum Event {
     Strike(u8, u8),
     Lift(u8),
     Reset,
 }
 
-// Whether a render takes these settings.
+// Whether a render accepts these settings.
 pub fn is_settings(settings: Settings) -> bool
     ensures { λ r. ⌜ r ≡ settingsOk settings ⌝ }
 {
@@ -59,14 +59,14 @@ pub fn is_state(state: State) -> bool
     in_limits(state) & (acted <= 0xffff_ffff_ffff)
 }
 
-// Before sample zero.
+// The state before sample zero.
 pub fn fresh() -> State
     ensures { λ r. ⌜ r ≡ freshOf 0 ⌝ }
 {
     at_rest(0)
 }
 
-// The phase less its whole cycles; TAU itself for a negative phase too small to move it.
+// The phase modulo TAU, from 0 to TAU. TAU itself is reached if the remainder is negative and too small to change TAU.
 pub fn reduce(state: State) -> State
     ensures { λ r. ⌜ r ≡ reducedOf state ⌝ }
 {
@@ -76,7 +76,7 @@ pub fn reduce(state: State) -> State
     next
 }
 
-// What a record of a score does: an on strikes its note's key, an off lifts it, a reset resets. No setting changes that today.
+// An on strikes the key of its note, an off lifts that key, a reset resets. No setting changes that today.
 pub fn event_of(settings: Settings, given: Record) -> Event
     ensures { λ r. ⌜ r ≡ eventOf settings given ⌝ }
 {
@@ -110,7 +110,7 @@ pub fn sample_of(settings: Settings, state: State) -> f64
     value * stepped(settings, state).level * state.velocity
 }
 
-// Oscillator and envelope go on by one sample.
+// Oscillator and envelope advance by one sample.
 pub fn advance(settings: Settings, state: State) -> State
     ensures { λ r. ⌜ r ≡ advanceOf settings state ⌝ }
 {
@@ -123,7 +123,7 @@ pub fn advance(settings: Settings, state: State) -> State
     next
 }
 
-// Whether what sounds is within its limits.
+// Whether all fields but the number of records acted are within their limits.
 fn in_limits(state: State) -> bool
     ensures { λ r. ⌜ r ≡ inLimits state ⌝ }
 {
@@ -171,7 +171,7 @@ fn lift(state: State, note: u8) -> State
     left(state, keys, off)
 }
 
-// The state after a key went up and these keys are left.
+// The state after a key is lifted: `keys` are left, and `off` is what the lift does to the sound.
 fn left(state: State, keys: Keys, off: NoteOff) -> State
     ensures { λ r. ⌜ r ≡ liftedBy state keys off ⌝ }
 {
@@ -197,7 +197,7 @@ fn sounded(state: State, note: u8, velocity: u8) -> State
     next
 }
 
-// These keys are held, and one record more has acted.
+// These keys are held, and one more record has acted.
 fn held(state: State, keys: Keys) -> State
     ensures { λ r. ⌜ r ≡ heldOf state keys ⌝ }
 {
@@ -207,7 +207,7 @@ fn held(state: State, keys: Keys) -> State
     next
 }
 
-// The envelope one sample on.
+// The envelope after the next sample.
 fn stepped(settings: Settings, state: State) -> Envelope
     ensures { λ r. ⌜ r ≡ steppedOf settings state ⌝ }
 {

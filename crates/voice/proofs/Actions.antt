@@ -1,4 +1,4 @@
--- The actions on the keys: lifting one by its three cases, and that each keeps the limits. Assumes nothing.
+-- The actions on the keys: the three cases of lifting a key, and that every action keeps the limits. Assumes nothing.
 use mathlib.Core.Path.{_≡_, refl}
 use mathlib.Core.Bool.{Bool, true, false, false≢true, cond}
 use mathlib.Core.List.{List, [], _∷_, _++_}
@@ -17,7 +17,7 @@ use Rattle.voice.specs.declared.keys.Keys.{Keys}
 use Rattle.voice.specs.declared.keys.AfterLift.{AfterLift}
 use Rattle.voice.proofs.Limits.{Ranged, AllRanged, keys-sound, held-ranged, held-few, holds-limits, held-again}
 
--- ---- lifting n, where ps are the held pairs of other notes
+-- ---- lifting n
 module _ (k : Keys) (n : ℕ) where
   -- n does not sound: only the held keys change
   pub lift-keeps-sound : isSounding (k .active) n ≡ false → liftedOf k n ≡ record { keys = keysOf (k .active) (k .gate) (others n (heldOf k)); off = NoChange }
@@ -28,7 +28,7 @@ module _ (k : Keys) (n : ℕ) where
   unfolding liftedOf withoutOf
   sounded e = rw (e, held-again (k .active) (k .gate) (others n (heldOf k))) refl
 
-  -- n sounds and no other is held: silence, and none held
+  -- n sounds and no other note is held: no note sounds, and none is held
   pub lift-releases : isSounding (k .active) n ≡ true → others n (heldOf k) ≡ [] → liftedOf k n ≡ record { keys = keysOf Silent false []; off = Released }
   lift-releases e h = rw (sounded e, h) refl
 
@@ -37,7 +37,7 @@ module _ (k : Keys) (n : ℕ) where
       → liftedOf k n ≡ record { keys = keysOf (Note (lastOf p ps .note)) (k .gate) (p ∷ ps); off = FellBack (lastOf p ps .note) (lastOf p ps .velocity) }
   lift-falls-back p ps e h = rw (sounded e, h) refl
 
--- ---- lists in range stay so
+-- ---- lists of pairs in range
 snoc-ranged : (ps : List Pair) (p : Pair) → AllRanged ps → Ranged p → AllRanged (ps ++ p ∷ [])
 unfolding AllRanged
 snoc-ranged [] p r q = (q, tt)
@@ -80,7 +80,7 @@ unfolding lastOf AllRanged
 last-ranged p [] r = r .0
 last-ranged p (q ∷ ps) r = last-ranged q ps (r .1)
 
--- ---- the limits are kept
+-- ---- every action keeps the limits
 pub pressed-keeps : (k : Keys) (n v : ℕ) → T (isKeys k) → n ≤ 127 → v ≤ 127 → T (isKeys (pressedOf k n v))
 unfolding pressedOf
 pressed-keeps k n v t hn hv =
@@ -88,7 +88,7 @@ pressed-keeps k n v t hn hv =
     holds-limits (Note n) true (pushed (heldOf k) p) (and-i (leb n 127) true (le→leb n 127 hn) tt)
     (pushed-few (heldOf k) p (held-few k t)) (pushed-ranged (heldOf k) p (held-ranged k t) (record { note-in = hn; velocity-in = hv }))
 
--- the note and the velocity that a fall back gives
+-- the note and the velocity of a fall back are at most 127
 abbrev pub BackRanged : NoteOff → Type 0
 BackRanged Released = Unit
 BackRanged (FellBack n v) = (n ≤ 127) × (v ≤ 127)
@@ -98,7 +98,7 @@ pub record LiftKept (l : AfterLift) : Type 0 where
   pub within : T (isKeys (l .keys))
   pub back : BackRanged (l .off)
 
--- a note sounds only with the gate up
+-- a note of keys within the limits sounds only with the gate up
 gate-up : (a : ActiveNote) (g : Bool) (n : ℕ) → T (isSound a g) → isSounding a n ≡ true → T g
 gate-up Silent g n s e = absurd (false≢true e)
 gate-up (Note m) g n s e = and-r (leb m 127) g s

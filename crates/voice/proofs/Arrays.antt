@@ -1,4 +1,5 @@
--- The loops over one array: clearing it from the end, closing it up, and judging it. Each law is one turn, or what the first or the last turn leaves. Assumes nothing.
+-- The loops over one array: clearing it from the end, closing it up, and testing it. A law for each turn, and one each
+-- for what is true before the first and after the last. Assumes nothing.
 use mathlib.Core.Path.{_≡_, refl, ap, sym, _∙_}
 use mathlib.Core.Bool.{Bool, true, false, _&&_}
 use mathlib.Core.List.{List, [], _∷_, _++_, append-assoc, append-nil}
@@ -13,11 +14,11 @@ use Rattle.voice.specs.Keys.{padded, atMost, isFilled}
 use Rattle.voice.specs.Inner.{closedUp}
 
 -- ---- clearing
--- nothing is cleared yet
+-- before the first turn nothing is cleared
 pub padded-all : (xs : List ℕ) → length xs ≡ 16 → xs ≡ padded (take 16 xs)
 padded-all xs h = rw (take-all 16 xs (omega arith), h) (sym (append-nil xs))
 
--- one byte more becomes 0, at i
+-- a turn clears the byte at i
 clears : (xs : List ℕ) (i : ℕ) → length xs ≡ 16 → i < 16 → set (padded (take (suc i) xs)) i 0 ≡ padded (take i xs)
 clears xs i h l =
     let s : i < length xs = omega arith in
@@ -27,12 +28,12 @@ clears xs i h l =
     let z = replicate {A = ℕ} (16 - suc i) 0 in
     rw (m, n, take-suc xs i 0 s, append-snoc (take i xs) (getD xs i 0) z, set-at (take i xs) (getD xs i 0) z 0 i n, k) refl
 
--- the same from the place after it
+-- the turn at i - 1, for an i above 0
 pub padded-clears : (xs : List ℕ) (i : ℕ) → length xs ≡ 16 → 0 < i → i ≤ 16 → set (padded (take i xs)) (i - 1) 0 ≡ padded (take (i - 1) xs)
 padded-clears xs zero h p l = absurd (omega arith)
 padded-clears xs (suc i) h p l = rw (sub-one (suc i)) (clears xs i h l)
 
--- ---- closing up: xs without the byte at i, and then from m on as it was
+-- ---- closing up: xs without the byte at i, and from m on unchanged
 module _ (xs : List ℕ) (i : ℕ) where
   abbrev front : ℕ → List ℕ
   front m = take i xs ++ drop (suc i) (take (suc m) xs)
@@ -43,14 +44,14 @@ module _ (xs : List ℕ) (i : ℕ) where
       let b : length (take (suc m) xs) ≡ suc m = length-take-le (suc m) xs (omega arith) in
       rw (length-append (take i xs) (drop (suc i) (take (suc m) xs)), length-drop (suc i) (take (suc m) xs), a, b) (omega arith)
 
-  -- nothing has moved yet
+  -- before the first turn no byte has moved
   pub closed-up-starts : i < length xs → xs ≡ closedUp i i xs
   unfolding closedUp
   closed-up-starts l =
       let b : length (take (suc i) xs) ≡ suc i = length-take-le (suc i) xs (omega arith) in
       rw (drop-of-length-le (take (suc i) xs) {i = suc i} (omega arith), append-nil (take i xs)) (sym (take-append-drop i xs))
 
-  -- one byte more moves down
+  -- a turn moves one byte down
   pub closed-up-moves : (j : ℕ) → i ≤ j → suc j < length xs → set (closedUp i j xs) j (getD (closedUp i j xs) (j + 1) 0) ≡ closedUp i (j + 1) xs
   unfolding closedUp
   closed-up-moves j h l =
@@ -63,7 +64,7 @@ module _ (xs : List ℕ) (i : ℕ) where
       rw (take-suc xs (suc j) 0 l, drop-append-le (suc i) (take (suc j) xs) (a ∷ []) (omega arith)) (sym (append-assoc (take i xs) (drop (suc i) (take (suc j) xs)) (a ∷ []))) in
       rw (moved, add-one j, grown, drop-cons xs j 0 (omega arith), set-at (front j) (getD xs j 0) (drop (suc j) xs) a j n) (sym (append-snoc (front j) a (drop (suc j) xs)))
 
-  -- what is in front of m is xs to there, without the byte at i
+  -- the first m bytes are the first m + 1 of xs without the byte at i
   pub closed-up-front : (m : ℕ) → i ≤ m → m < length xs → take m (closedUp i m xs) ≡ take i xs ++ drop (suc i) (take (suc m) xs)
   unfolding closedUp
   closed-up-front m h l = take-at (front m) (drop m xs) m (front-length m h l)
@@ -72,8 +73,8 @@ module _ (xs : List ℕ) (i : ℕ) where
   unfolding closedUp
   closed-up-length m h l = rw (length-append (front m) (drop m xs), length-drop m xs, front-length m h l) (omega arith)
 
--- ---- judging
--- what is allowed at a place with c still held from there on
+-- ---- testing
+-- the limit of the next byte, if c more bytes are held
 abbrev pub limitOf : ℕ → ℕ
 limitOf zero = 0
 limitOf (suc c) = 127
@@ -90,7 +91,7 @@ limit-unused c i h =
     let e : c - i ≡ 0 = omega arith in
     rw e refl
 
--- the byte x, and then the rest
+-- the test of the byte x, and of the bytes after it
 filled-turn : (c x : ℕ) (xs : List ℕ) → isFilled c (x ∷ xs) ≡ (leb x (limitOf c) && isFilled (c - 1) xs)
 unfolding atMost
 filled-turn zero x xs = refl
@@ -100,7 +101,7 @@ filled-turn (suc c) x xs = rw (sub-one (suc c)) (and-assoc (leb x 127) (atMost 1
     and-assoc true b d = refl
     and-assoc false b d = refl
 
--- before place i: it decides, or what is left after it does
+-- at place i: the byte fails the test, or the bytes after it decide
 module _ (xs : List ℕ) (c i : ℕ) (h : i < length xs) where
   pub filled-goes-on : getD xs i 0 ≤ limitOf (c - i) → isFilled (c - i) (drop i xs) ≡ isFilled (c - (i + 1)) (drop (i + 1) xs)
   filled-goes-on l =
@@ -110,7 +111,7 @@ module _ (xs : List ℕ) (c i : ℕ) (h : i < length xs) where
   pub filled-stops : limitOf (c - i) < getD xs i 0 → isFilled (c - i) (drop i xs) ≡ false
   filled-stops l = rw (drop-cons xs i 0 h, filled-turn (c - i) (getD xs i 0) (drop (suc i) xs), lt-leb (getD xs i 0) (limitOf (c - i)) l) refl
 
--- at the end nothing is left to judge
+-- at the end no byte is left to test
 pub filled-ends : (xs : List ℕ) (c i : ℕ) → length xs ≤ i → isFilled c (drop i xs) ≡ true
 unfolding atMost
 filled-ends xs c i h = rw (drop-of-length-le xs {i = i} h, take-nil {A = ℕ} c, drop-nil {A = ℕ} c) refl

@@ -1,4 +1,5 @@
--- The list of the held keys, and the keys that hold a list: what each function over the keys is to show. Assumes nothing.
+-- The list of the held keys, and the keys made of a list: what the proof of each function over the keys needs.
+-- Assumes nothing.
 use mathlib.Core.Path.{_≡_, refl, _∙_}
 use mathlib.Core.Bool.{Bool, true, false}
 use mathlib.Core.List.{List, [], _∷_, _++_}
@@ -17,7 +18,7 @@ use Rattle.voice.proofs.Arrays.{closed-up-front}
 use Rattle.voice.proofs.Pairs.{unused, pairs-length, pairs-most, pairs-notes, pairs-velocities, pairs-append, pairs-take, pairs-drop, pairs-at}
 use Rattle.voice.proofs.Removal.{omit}
 
--- two arrays of 16, and how many of their pairs are held
+-- two arrays of 16 places
 module _ (ns vs : List ℕ) (hn : length ns ≡ 16) (hv : length vs ≡ 16) where
   -- the first c pairs
   abbrev first : ℕ → List Pair
@@ -26,7 +27,7 @@ module _ (ns vs : List ℕ) (hn : length ns ≡ 16) (hv : length vs ≡ 16) wher
   same-length : (c : ℕ) → length (take c ns) ≡ length (take c vs)
   same-length c = rw (length-take c ns, length-take c vs, hn, hv) refl
 
-  -- up to 16 there are c of them, and never more than 16
+  -- up to 16 there are c pairs, and there are never more than 16
   pub first-length : (c : ℕ) → c ≤ 16 → length (first c) ≡ c
   first-length c h = pairs-length (take c ns) (take c vs) (same-length c) ∙ length-take-le c ns (omega arith)
 
@@ -36,7 +37,7 @@ module _ (ns vs : List ℕ) (hn : length ns ≡ 16) (hv : length vs ≡ 16) wher
   pub first-full : (c : ℕ) → 16 ≤ c → first c ≡ first 16
   first-full c h = rw (take-all c ns (omega arith), take-all c vs (omega arith), take-all 16 ns (omega arith), take-all 16 vs (omega arith)) refl
 
-  -- as many as there are
+  -- the pairs do not change if c is cut to the number of pairs
   pub first-cut : (c : ℕ) → first (length (first c)) ≡ first c
   first-cut c = go (leb c 16) refl
     where
@@ -46,11 +47,11 @@ module _ (ns vs : List ℕ) (hn : length ns ≡ 16) (hv : length vs ≡ 16) wher
           let l : 16 ≤ c = omega (arith, leb-false c 16 e) in
           rw (first-full c l, first-length 16 (omega arith)) refl
 
-  -- the keys that hold them have both arrays cleared from c on
+  -- the keys made of the first c pairs have both arrays cleared from c on
   pub first-held : (a : ActiveNote) (g : Bool) (c : ℕ) → c ≤ 16 → record { active = a; gate = g; notes = padded (take c ns); velocities = padded (take c vs); count = c } ≡ keysOf a g (first c)
   first-held a g c h = rw (pairs-notes (take c ns) (take c vs) (same-length c), pairs-velocities (take c ns) (take c vs) (same-length c), first-length c h) refl
 
-  -- one pair more
+  -- one more pair at the end
   pub first-pushed : (c n v : ℕ) → c < 16 → pairs (take (c + 1) (set ns c n)) (take (c + 1) (set vs c v)) ≡ first c ++ (record { note = n; velocity = v } ∷ [])
   unfolding pairs
   first-pushed c n v h =
@@ -63,7 +64,7 @@ module _ (ns vs : List ℕ) (hn : length ns ≡ 16) (hv : length vs ≡ 16) wher
   pub pushed-stays : (c n v : ℕ) → 16 ≤ length (first c) → first (length (first c)) ≡ pushed (first c) (record { note = n; velocity = v })
   pushed-stays c n v h = rw (first-cut c, le-ltb (length (first c)) 16 h) refl
 
-  -- both arrays closed up at i: the pair there is left out
+  -- both arrays closed up at i: the pair at i is left out
   pub first-closed : (i m : ℕ) → i ≤ m → m < 16 → pairs (take m (closedUp i m ns)) (take m (closedUp i m vs)) ≡ omit i (first (suc m))
   first-closed i m h l =
       let ns' = take (suc m) ns in
@@ -71,7 +72,7 @@ module _ (ns vs : List ℕ) (hn : length ns ≡ 16) (hv : length vs ≡ 16) wher
       rw (closed-up-front ns i m h (omega arith), closed-up-front vs i m h (omega arith), pairs-append (take i ns) (take i vs) (drop (suc i) ns') (drop (suc i) vs') (same-length i))
       (rw (pairs-take i ns' vs', take-take i (suc m) ns (omega arith), take-take i (suc m) vs (omega arith), pairs-drop (suc i) ns' vs') refl)
 
--- ---- the last held
+-- ---- the last held pair
 last-is : (p : Pair) (ps : List Pair) → lastOf p ps ≡ getD (p ∷ ps) (length ps) unused
 unfolding lastOf
 last-is p [] = refl
@@ -85,7 +86,7 @@ pub fall-last : (k : Keys) (ps : List Pair) → (length ps ≡ 0 → ⊥) → fa
 fall-last k [] h = absurd (h refl)
 fall-last k (p ∷ ps) h = rw (sub-one (suc (length ps)), last-is p ps) refl
 
--- with a key held, the last is the pair before the end of the held ones
+-- if a key is held, the last pair is at index length - 1 of both arrays, where length is that of the held list
 pub held-last : (k : Keys) → (length (heldOf k) ≡ 0 → ⊥)
     → fallBackTo k (heldOf k) ≡ fellBackTo k (record { note = getD (k .notes) (length (heldOf k) - 1) 0; velocity = getD (k .velocities) (length (heldOf k) - 1) 0 })
 held-last k h =

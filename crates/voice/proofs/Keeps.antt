@@ -1,4 +1,5 @@
--- The voice stays within the shelf's limits, whatever is called: so an honest state is never refused. And what a release and a reset leave. Assumes nothing.
+-- Every call keeps the voice within the shelf's limits, so a state that comes from `new` is never refused. And what a
+-- release and a reset leave. Assumes nothing.
 use mathlib.Core.Path.{_≡_, refl}
 use mathlib.Core.Bool.{Bool, true, false, false≢true, _&&_}
 use mathlib.Core.List.{List, [], _∷_}
@@ -25,7 +26,7 @@ use Rattle.voice.specs.declared.Off.{Off}
 use Rattle.voice.proofs.Actions.{BackRanged, pressed-keeps, lifted-keeps}
 use Rattle.voice.proofs.Loudness.{velocity-in}
 
--- ---- the test by its parts, there and back
+-- ---- the test from its parts, and the parts from the test
 voice-i : (s : VoiceState) → T (isKeys (s .keys)) → T (isLoud (s .velocity)) → T (isPitch binary32 (s .frequency)) → T (isVoice s)
 unfolding isVoice
 voice-i s k v f = and-i (isKeys (s .keys) && isLoud (s .velocity)) (isPitch binary32 (s .frequency)) (and-i (isKeys (s .keys)) (isLoud (s .velocity)) k v) f
@@ -43,7 +44,7 @@ module _ (s : VoiceState) (t : T (isVoice s)) where
   unfolding isVoice
   voice-pitched = and-r (isKeys (s .keys) && isLoud (s .velocity)) (isPitch binary32 (s .frequency)) t
 
--- ---- what sounds is within the limits
+-- ---- velocity and frequency of a note are within the limits
 pitched : (n : ℕ) → n ≤ 127 → T (isPitch binary32 (frequencyOf n))
 unfolding ofBits
 pitched n h = frequency-in n (omega arith)
@@ -60,7 +61,7 @@ pub new-in : T (isVoice newOf)
 unfolding isVoice isKeys atMost ofBits le lt
 new-in = tt
 
--- ---- a refusal hands the state back, and what is done is within the limits
+-- ---- a refused call hands the state back, and a done one leaves a state within the limits
 module _ (s : VoiceState) (t : T (isVoice s)) where
   pub note-on-keeps : (n v : ℕ) → T (isVoice (noteOnOf s n v .voice))
   note-on-keeps n v =
@@ -108,7 +109,7 @@ unfolding run
 run-keeps s [] t = t
 run-keeps s (c ∷ cs) t = run-keeps (after s c) cs (after-keeps s c t)
 
--- from `new`, through any calls, refused ones too, the state is accepted
+-- from `new`, after any calls, refused ones too, the state is within the limits
 pub stays : (cs : List Call) → T (isVoice (run newOf cs))
 stays cs = run-keeps newOf cs new-in
 

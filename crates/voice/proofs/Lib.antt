@@ -1,21 +1,21 @@
--- What holds of the keys and the voice beyond their contracts, in the order to read it.
+-- What is proved of the keys and the voice beyond their contracts, in reading order.
 -- the loops over one array
 pub mod Arrays
 -- two lists side by side
 pub mod Pairs
--- the walk that drops every entry of a note, on the list of pairs
+-- the loop that drops every pair of a note, on the list of pairs
 pub mod Removal
 -- two arrays of 16 as the list of the held keys
 pub mod Held
--- the walk over both arrays
+-- the loop over both arrays
 pub mod Walk
--- the limits of the keys, and the list that they hold
+-- the limits of the keys, and their held list
 pub mod Limits
--- pressing and lifting a key keep the limits
+-- striking and lifting a key keep the limits
 pub mod Actions
 -- a velocity as a factor
 pub mod Loudness
--- from an accepted state every call hands back an accepted one; what a release and a reset leave
+-- from a state within the limits every call leaves one; what a release and a reset leave
 pub mod Keeps
 -- two outcomes of a public function are equal
 pub mod Unique

@@ -1,4 +1,5 @@
--- The limits of the keys: what they say of the held list, and that the keys that hold a list in range are within them. Assumes nothing.
+-- The limits of the keys: what they say of the held list, and that keys made of a list in range are within them.
+-- Assumes nothing.
 use mathlib.Core.Path.{_≡_, refl, ap, sym, _∙_}
 use mathlib.Core.Bool.{Bool, _&&_}
 use mathlib.Core.List.{List, [], _∷_, _++_, map}
@@ -52,7 +53,7 @@ module _ (k : Keys) (t : T (isKeys k)) where
   unfolding isKeys
   velocities-in = and-r (sounding && counted && notes-filled) velocities-filled t
 
--- ---- what is at most 0 is 0, and zeros are
+-- ---- bytes that are at most 0 are zeros, and zeros pass
 zeros-are : (xs : List ℕ) → T (atMost 0 xs) → xs ≡ replicate (length xs) 0
 unfolding atMost
 zeros-are [] t = refl
@@ -100,7 +101,7 @@ past c i xs t h =
 pub unused-zero : (k : Keys) (i : ℕ) → T (isKeys k) → k .count ≤ i → (getD (k .notes) i 0 ≡ 0) × (getD (k .velocities) i 0 ≡ 0)
 unused-zero k i t h = (past (k .count) i (k .notes) (notes-in k t) h, past (k .count) i (k .velocities) (velocities-in k t) h)
 
--- ---- the keys that hold a list in range are within the limits
+-- ---- keys made of a list in range are within the limits
 notes-at-most : (ps : List Pair) → AllRanged ps → T (atMost 127 (map noteOf ps))
 unfolding atMost AllRanged
 notes-at-most [] r = tt
@@ -127,8 +128,8 @@ holds-limits a g ps s l r =
     (and-i (isSound a g && leb c 16) fn (and-i (isSound a g) (leb c 16) s (le→leb c 16 l)) (padded-filled (map noteOf ps) c (length-map ps noteOf) (notes-at-most ps r)))
     (padded-filled (map velocityIn ps) c (length-map ps velocityIn) (velocities-at-most ps r))
 
--- ---- there and back
--- what is held by the keys that hold ps is ps
+-- ---- from keys to list and back
+-- the held list of the keys made of ps is ps
 pub held-again : (a : ActiveNote) (g : Bool) (ps : List Pair) → heldOf (keysOf a g ps) ≡ ps
 held-again a g ps =
     rw (take-at (map noteOf ps) _ (length ps) (length-map ps noteOf), take-at (map velocityIn ps) _ (length ps) (length-map ps velocityIn)) (pairs-again ps)
@@ -138,7 +139,7 @@ filled-again c xs h l t =
     let z = zeros-are (drop c xs) (and-r (atMost 127 (take c xs)) (atMost 0 (drop c xs)) t) in
     rw (length-take-le c xs (omega arith)) (ap (λ (n : ℕ). take c xs ++ replicate n 0) (sym (length-drop c xs ∙ ap (λ (n : ℕ). n - c) h)) ∙ ap (λ (d : List ℕ). take c xs ++ d) (sym z) ∙ take-append-drop c xs)
 
--- keys within the limits, their arrays of 16, are the keys that hold their own list
+-- keys within the limits, with arrays of 16, are the keys made of their own held list
 module _ (k : Keys) (hn : length (k .notes) ≡ 16) (hv : length (k .velocities) ≡ 16) (t : T (isKeys k)) where
   same-length : length (take (k .count) (k .notes)) ≡ length (take (k .count) (k .velocities))
   same-length = rw (length-take (k .count) (k .notes), length-take (k .count) (k .velocities), hn, hv) refl

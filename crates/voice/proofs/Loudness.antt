@@ -1,4 +1,5 @@
--- A velocity as a factor: from 0 to 1 up to 127, and never a NaN. One test over the 256 bytes, carried to each. Assumes nothing.
+-- A velocity as a factor: 0 to 127 give 0 to 1, and no byte gives a NaN. One test over the 256 bytes, carried to each.
+-- Assumes nothing.
 use mathlib.Core.Path.{_≡_, refl, sym, subst}
 use mathlib.Core.Bool.{Bool, true, false, not, _&&_, _||_}
 use Prim.Native.Nat.{ℕ, zero, suc, _≤_, _<_}
@@ -10,7 +11,7 @@ use lib.Ieee.Fits.{and-i, and-l, and-r, div-fits, fits-widens}
 use Rattle.floats.specs.Range.{lit0, lit1}
 use Rattle.voice.specs.Voice.{velocityOf, isLoud}
 
--- the test f passes at each number below n
+-- the test f holds at each number below n
 abbrev below : (ℕ → Bool) → ℕ → Bool
 below f zero = true
 below f (suc n) = below f n && f n
@@ -30,7 +31,7 @@ all-right : T (below right 256)
 unfolding velocityOf ofInt ofBits div le lt eq round
 all-right = tt
 
--- what is at least 0 is no NaN
+-- a number that is at least 0 is no NaN
 no-nan : (x : Float) → T (le (lit0 binary32) x) → T (not (isNan x))
 unfolding ofBits le lt eq isNan
 no-nan nan h = h
@@ -41,12 +42,12 @@ module _ (v : ℕ) (h : v < 256) where
   least : T (le (lit0 binary32) (velocityOf v))
   least = and-l (le (lit0 binary32) (velocityOf v)) (leb 128 v || le (velocityOf v) (lit1 binary32)) (at right 256 all-right v h)
 
-  -- so the cast to an f64 loses nothing
+  -- the cast to an f64 loses nothing
   pub velocity-widens : T (fits binary64 (velocityOf v) && not (isNan (velocityOf v)))
   unfolding velocityOf
   velocity-widens = and-i (fits binary64 (velocityOf v)) (not (isNan (velocityOf v))) (fits-widens (velocityOf v) (div-fits binary32 _ _)) (no-nan (velocityOf v) least)
 
--- from 0 to 1
+-- 0 to 127 give 0 to 1
 pub velocity-in : (v : ℕ) → v ≤ 127 → T (isLoud (velocityOf v))
 velocity-in v h =
     let ok = at right 256 all-right v (omega arith) in

@@ -1,4 +1,4 @@
--- Two lists side by side: cut, joined and taken apart again. Assumes nothing.
+-- Two lists side by side: cut, joined and separated again. Assumes nothing.
 use mathlib.Core.Path.{_≡_, refl, ap, sym}
 use mathlib.Core.List.{List, [], _∷_, _++_, map}
 use Prim.Native.Nat.{ℕ, zero, suc, _≤_, _<_}
@@ -6,7 +6,7 @@ use native.Mathlib.Omega.{arith}
 use lib.ListN.{length, take, drop, getD}
 use Rattle.voice.specs.Keys.{Pair, noteOf, velocityIn, pairs}
 
--- ---- of one length, both lists are there whole
+-- ---- lists of one length
 pub pairs-length : (ns vs : List ℕ) → length ns ≡ length vs → length (pairs ns vs) ≡ length ns
 unfolding pairs
 pairs-length [] vs h = refl
@@ -33,14 +33,14 @@ pairs-append [] (v ∷ vs) ns' vs' h = absurd (omega arith)
 pairs-append (n ∷ ns) [] ns' vs' h = absurd (omega arith)
 pairs-append (n ∷ ns) (v ∷ vs) ns' vs' h = ap (λ (l : List Pair). record { note = n; velocity = v } ∷ l) (pairs-append ns vs ns' vs' (omega arith))
 
--- ---- of any lengths, there are no more pairs than notes
+-- ---- lists of any lengths: no more pairs than notes
 pub pairs-most : (ns vs : List ℕ) → length (pairs ns vs) ≤ length ns
 unfolding pairs
 pairs-most [] vs = omega arith
 pairs-most (n ∷ ns) [] = omega arith
 pairs-most (n ∷ ns) (v ∷ vs) = omega (arith, pairs-most ns vs)
 
--- ---- the first i, those after them, and the one at i
+-- ---- the first i pairs, the pairs after them, and the pair at i
 pub pairs-take : (i : ℕ) (ns vs : List ℕ) → take i (pairs ns vs) ≡ pairs (take i ns) (take i vs)
 unfolding pairs
 pairs-take zero ns vs = refl
@@ -70,7 +70,7 @@ pairs-at i (n ∷ ns) [] h = absurd (omega arith)
 pairs-at zero (n ∷ ns) (v ∷ vs) h = refl
 pairs-at (suc i) (n ∷ ns) (v ∷ vs) h = pairs-at i ns vs (omega arith)
 
--- ---- a list of pairs, taken apart and joined again
+-- ---- a list of pairs, separated and joined again
 pub pairs-again : (ps : List Pair) → pairs (map noteOf ps) (map velocityIn ps) ≡ ps
 unfolding pairs
 pairs-again [] = refl

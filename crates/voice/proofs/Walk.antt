@@ -1,4 +1,5 @@
--- The walk of `without` over both arrays: what it will leave is what the definition leaves of the pairs that were held. One law a turn. Assumes nothing.
+-- The loop of `without` over both arrays: before each turn, what it will leave is what the definition leaves of the
+-- pairs that were held. One law for each turn. Assumes nothing.
 use mathlib.Core.Path.{_≡_, refl, ap, sym, _∙_}
 use mathlib.Core.List.{List}
 use Prim.Native.Nat.{ℕ, suc, _+_, _-_, _≤_, _<_}
@@ -13,7 +14,7 @@ use Rattle.voice.proofs.Pairs.{unused, pairs-at}
 use Rattle.voice.proofs.Removal.{omit, walked, walked-drops, walked-keeps, walked-ends}
 use Rattle.voice.proofs.Held.{first-length, first-closed}
 
--- c₀ pairs of the arrays ns₀ and vs₀ were held; now c of ns and vs are, and the first i of them are to be kept
+-- c₀ pairs of the arrays ns₀ and vs₀ were held; now c pairs of ns and vs are, and the first i of them are known to stay
 pub record Walks (n : ℕ) (ns₀ vs₀ : List ℕ) (c₀ : ℕ) (ns vs : List ℕ) (c i : ℕ) : Type 0 where
   pub inside : i ≤ c
   pub few : c ≤ 16
@@ -31,7 +32,7 @@ module _ (n : ℕ) (ns₀ vs₀ : List ℕ) (c₀ : ℕ) (ns vs : List ℕ) (c i
       let l : i < length (pairs (take c ns) (take c vs)) = rw (first-length ns vs (w .notes-long) (w .velocities-long) c (w .few)) h in
       ap noteOf (pairs-at i (take c ns) (take c vs) l) ∙ getD-take c ns i 0 h
 
-  -- an entry of n goes, and the place is visited again
+  -- a pair of n is dropped, and its place is tested again
   pub walk-drops : i < c → getD ns i 0 ≡ n → Walks n ns₀ vs₀ c₀ (closedUp i (c - 1) ns) (closedUp i (c - 1) vs) (c - 1) i
   walk-drops h e =
       let m = c - 1 in
@@ -48,7 +49,7 @@ module _ (n : ℕ) (ns₀ vs₀ : List ℕ) (c₀ : ℕ) (ns vs : List ℕ) (c i
         leaves = w .leaves ∙ sym (walked-drops n i (pairs (take c ns) (take c vs)) l (here h ∙ e)) ∙ ap (λ (ps : List Pair). walked n i ps) closed;
       }
 
-  -- another entry stays
+  -- a pair of another note stays
   pub walk-keeps : i < c → (getD ns i 0 ≡ n → ⊥) → Walks n ns₀ vs₀ c₀ ns vs c (i + 1)
   walk-keeps h e =
       let l : i < length (pairs (take c ns) (take c vs)) = rw (first-length ns vs (w .notes-long) (w .velocities-long) c (w .few)) h in
@@ -60,7 +61,7 @@ module _ (n : ℕ) (ns₀ vs₀ : List ℕ) (c₀ : ℕ) (ns vs : List ℕ) (c i
         leaves = rw (add-one i) (w .leaves ∙ sym (walked-keeps n i (pairs (take c ns) (take c vs)) l (λ (q : noteOf (getD (pairs (take c ns) (take c vs)) i unused) ≡ n). e (sym (here h) ∙ q))));
       }
 
-  -- at the end the pairs that are held are those to be kept
+  -- at the end the pairs that are held are those that stay
   pub walk-ends : c ≤ i → others n (pairs (take c₀ ns₀) (take c₀ vs₀)) ≡ pairs (take c ns) (take c vs)
   walk-ends h =
       let l = first-length ns vs (w .notes-long) (w .velocities-long) c (w .few) in

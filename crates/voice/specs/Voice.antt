@@ -1,7 +1,12 @@
--- The voice of voice.rs, over the held keys. 01, "Notes and velocities are 0 to 127"; "Given states: .. voice .. fields within the shelf's limits", which are "velocity 0 to 1, frequency above 0
--- and at most 12,544" and those of the keys; number 9 for anything else; "any single value as +0 (a yes or no as false), hands back state by value as it came". Frequency and velocity are f32,
--- as in the original: v / 127 and the pitch table. A release keeps both; only a reset makes 440 and 0. No samples are written: count is 0.
--- A given state is judged by every call that takes it, also where the call reads or replaces part of it. Definitions only.
+-- The voice of voice.rs, over the held keys. 01, "Domain of the ported calls": "Notes and velocities are 0 to 127";
+-- "Given states: accumulator phase 0 to 1, increment finite; voice and envelope fields within the shelf's limits".
+-- Those limits: "levels and velocity 0 to 1, frequency above 0 and at most 12,544", and those of the keys.
+-- Anything else is refused with number 9; a refusal returns "any single value as +0 (a yes or no as false), hands back
+-- state by value as it came". No samples are written, so the count of the answer is 0.
+-- Frequency and velocity are f32, as in the original: the table of pitches and v / 127. A release keeps both; only a
+-- reset makes them 440 and 0.
+-- Every call that takes a state judges all of it, also a call that reads or replaces only some of its fields.
+-- Definitions only.
 use mathlib.Core.Bool.{Bool, true, false, _&&_}
 use mathlib.Core.List.{List}
 use Prim.Native.Nat.{ℕ}
@@ -27,22 +32,22 @@ use Rattle.voice.specs.declared.Active.{Active}
 use Rattle.voice.specs.declared.HeldNotes.{HeldNotes}
 use Rattle.voice.specs.Keys.{heldOf, freshKeys, pressedOf, liftedOf, isKeys}
 
--- v / 127, rounded once; an f32, so the same number as an f64
+-- v / 127, rounded once; an f32, and so also an f64
 unfoldable pub velocityOf : ℕ → Float
 velocityOf v = div binary32 (ofInt binary32 (pos v)) (ofBits binary32 0x42fe_0000)
 
--- 440
+-- 440 Hz, the pitch of A in ISO 16
 abbrev pub concert : Float
 concert = ofBits binary32 0x43dc_0000
 
--- ---- the domain
+-- ---- the limits
 abbrev pub isLoud : Float → Bool
 isLoud x = within (lit0 binary32) (lit1 binary32) x
 
 unfoldable pub isVoice : VoiceState → Bool
 isVoice s = isKeys (s .keys) && isLoud (s .velocity) && isPitch binary32 (s .frequency)
 
--- ---- answers, unless the call is refused: then the state as it came, and no or 0 for what was asked
+-- ---- the answers: a refused call hands back the state as it came, and false or 0 for what was asked
 abbrev pub changedOr : List Refusal → VoiceState → VoiceState → Changed
 changedOr refusals before after = firstOf refusals (λ (why : Refusal). record { answer = Refused why; voice = before }) (record { answer = Done 0; voice = after })
 
@@ -57,15 +62,15 @@ abbrev pub countOr : List Refusal → ℕ → HeldNotes
 countOr refusals n = firstOf refusals (λ (why : Refusal). record { answer = Refused why; count = 0 }) (record { answer = Done 0; count = n })
 
 -- ---- what sounds
--- the note n, struck with v
+-- the keys, and note n sounds with velocity v
 abbrev pub struck : Keys → ℕ → ℕ → VoiceState
-struck k n v = record { keys = k; velocity = velocityOf v; frequency = frequencyOf n }
+struck keys n v = record { keys = keys; velocity = velocityOf v; frequency = frequencyOf n }
 
 -- after a key is lifted: only a fall back to another note changes velocity and frequency
 abbrev pub heardOf : VoiceState → Keys → NoteOff → VoiceState
-heardOf s k Released = record { keys = k; velocity = s .velocity; frequency = s .frequency }
-heardOf s k (FellBack n v) = struck k n v
-heardOf s k NoChange = record { keys = k; velocity = s .velocity; frequency = s .frequency }
+heardOf s keys Released = record { keys = keys; velocity = s .velocity; frequency = s .frequency }
+heardOf s keys (FellBack n v) = struck keys n v
+heardOf s keys NoChange = record { keys = keys; velocity = s .velocity; frequency = s .frequency }
 
 abbrev pub isReleased : NoteOff → Bool
 isReleased Released = true

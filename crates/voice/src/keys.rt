@@ -1,18 +1,19 @@
-// The held keys: which note sounds, and the keys that are down, oldest first. voice.rs keeps them as a stack of pairs in `VoiceState`; here
-// they stand by themselves, because a voice in f32 and one in f64 both have them. Every function takes any keys, also those that are none.
+// The held keys: the note that sounds, and the keys that are down, oldest first. voice.rs keeps them in `VoiceState` as
+// a stack of pairs; here they are a struct of their own, because a voice in f32 and a voice in f64 both have one.
+// Every function takes any value of `Keys`, also one outside the limits.
 ghost use mathlib.Core.Path.{_≡_};
 ghost use Prim.Native.Nat.{_≤_, _<_};
 ghost use lib.ListN.{length, take};
 ghost use Rattle.voice.specs.Keys.{pairs, heldOf, padded, keysOf, freshKeys, pressedOf, withoutOf, isSounding, fallBackOf, liftedOf, isSound, isFilled, isKeys};
 ghost use Rattle.voice.specs.Inner.{closedUp};
 
-// The note that sounds.
+// The note that sounds, if one does.
 pub enum ActiveNote {
     Silent,
     Note(u8),
 }
 
-// The note that sounds, whether the gate is up, and the held keys with their velocities: the first `count` of each array.
+// The note that sounds, the gate, and the held keys with their velocities: the first `count` places of each array.
 pub struct Keys {
     pub active: ActiveNote,
     pub gate: bool,
@@ -21,14 +22,14 @@ pub struct Keys {
     pub count: usize,
 }
 
-// What lifting a key does to the sound: it ends, falls back to a note with its velocity, or stays as it was.
+// What lifting a key does to the sound: ends it, falls back to a held note and its velocity, or leaves it as it was.
 pub enum NoteOff {
     Released,
     FellBack(u8, u8),
     NoChange,
 }
 
-// The keys after one is lifted, and what that does to the sound.
+// The keys after one is lifted, and what the lift does to the sound.
 pub struct AfterLift {
     pub keys: Keys,
     pub off: NoteOff,
@@ -47,7 +48,7 @@ pub fn fresh_keys() -> Keys
     }
 }
 
-// A key goes down: it sounds in any case, and is held where fewer than 16 are.
+// A key goes down: its note sounds in any case, and the key is held if fewer than 16 are.
 pub fn pressed(keys: Keys, note: u8, velocity: u8) -> Keys
     ensures { λ r. ⌜ r ≡ pressedOf keys note velocity ⌝ }
 {
@@ -62,7 +63,7 @@ pub fn pressed(keys: Keys, note: u8, velocity: u8) -> Keys
     holding(ActiveNote::Note(note), true, notes, velocities, count)
 }
 
-// A key goes up: every entry of it is dropped. Only if it sounded, the last held key sounds next, or none.
+// A key goes up: every held pair of its note is dropped. If that note sounded, the last held key sounds next, or none.
 pub fn lifted(keys: Keys, note: u8) -> AfterLift
     ensures { λ r. ⌜ r ≡ liftedOf keys note ⌝ }
 {
@@ -76,7 +77,8 @@ pub fn lifted(keys: Keys, note: u8) -> AfterLift
     }
 }
 
-// Keys within the limits: a note from 0 to 127 or none, the gate up exactly where one sounds, at most 16 held, all in range, and the unused pairs 0.
+// Whether keys are within the limits: a note from 0 to 127 with the gate up or none with the gate down, at most 16
+// held, held notes and velocities at most 127, and unused places 0.
 pub fn is_keys(keys: Keys) -> bool
     ensures { λ r. ⌜ r ≡ isKeys keys ⌝ }
 {
@@ -86,7 +88,7 @@ pub fn is_keys(keys: Keys) -> bool
     is_sound(keys) & (count <= 16) & is_filled(notes, count) & is_filled(velocities, count)
 }
 
-// How many keys are held: never more than there is room for.
+// How many keys are held: `count`, but at most 16, the room of the arrays.
 pub fn held_count(keys: Keys) -> usize
     ensures { λ r. ⌜ r ≡ length (heldOf keys) ⌝ }
 {
@@ -97,7 +99,7 @@ pub fn held_count(keys: Keys) -> usize
     count
 }
 
-// Every held entry of a note is dropped, and the others keep their order. The original's walk: after a place is closed up it is visited again.
+// Every held pair of a note is dropped, the others keep their order. As in voice.rs, a closed-up place is tested again.
 fn without(keys: Keys, note: u8) -> Keys
     ensures { λ r. ⌜ r ≡ withoutOf keys note ⌝ }
 {
@@ -119,7 +121,7 @@ fn without(keys: Keys, note: u8) -> Keys
     holding(active, gate, notes, velocities, count)
 }
 
-// The byte at a place is dropped, and those after it, to `last`, move one down; the byte at `last` stays behind.
+// The byte at `at` is dropped, those after it up to `last` move one place down, and the byte at `last` does not change.
 fn close_up(bytes: &mut [u8; 16], at: usize, last: usize)
     requires { ⌜ (at ≤ last) × (last < 16) × (length (now bytes) ≡ 16) ⌝ }
     ensures { λ _. ⌜ now (bytes .exit) ≡ closedUp at last (now (bytes .entry)) ⌝ }
@@ -131,7 +133,7 @@ fn close_up(bytes: &mut [u8; 16], at: usize, last: usize)
     }
 }
 
-// The first `count` pairs are held, and the others are cleared.
+// The keys with the first `count` pairs held; the other places are set to 0.
 fn holding(
     active: ActiveNote,
     gate: bool,
@@ -155,7 +157,7 @@ fn holding(
     }
 }
 
-// The bytes from `count` on become 0.
+// The bytes from index `count` on become 0.
 fn clear(bytes: &mut [u8; 16], count: usize)
     requires { ⌜ (count ≤ 16) × (length (now bytes) ≡ 16) ⌝ }
     ensures { λ _. ⌜ now (bytes .exit) ≡ padded (take count (now (bytes .entry))) ⌝ }
@@ -177,7 +179,7 @@ fn is_sounding(keys: Keys, note: u8) -> bool
     }
 }
 
-// The note that sounded is up: the last held key sounds, or the gate is lowered.
+// The note that sounded was lifted: the last held key sounds next, or the gate goes down.
 fn fallen_back(keys: Keys) -> AfterLift
     ensures { λ r. ⌜ r ≡ fallBackOf keys ⌝ }
 {

@@ -1,6 +1,6 @@
-// voice.rs of the original: one voice for many keys, the last of which sounds. State goes in by value and is handed back; what lies
-// outside the domain is refused (document 01, number 9). The keys themselves are in keys.rt. `midi_note_to_frequency` stands in the
-// crate `pitch`; the traits of the original are left out.
+// voice.rs of the original: one voice for many keys, the last of which sounds. State goes in by value and is handed
+// back; an argument outside the domain is refused (document 01, number 9).
+// The keys are in keys.rt, `midi_note_to_frequency` is in the crate `pitch`; the traits of the original are left out.
 ghost use mathlib.Core.Path.{_≡_};
 ghost use Rattle.answers.specs.Order.{unless};
 ghost use Rattle.answers.specs.declared.Refusal.the-variants.{Argument};
@@ -28,27 +28,27 @@ pub struct Changed {
     pub voice: VoiceState,
 }
 
-// What lifting a key answers: whether the sound is released, and the state after.
+// What lifting a key answers: whether the envelope is to be released, and the state after.
 pub struct Off {
     pub answer: Answer,
     pub released: bool,
     pub voice: VoiceState,
 }
 
-// What a call that asks for a yes or no answers.
+// What `is_active` answers.
 pub struct Active {
     pub answer: Answer,
     pub active: bool,
 }
 
-// What a call that asks for a number of keys answers.
+// What `held_note_count` answers.
 pub struct HeldNotes {
     pub answer: Answer,
     pub count: usize,
 }
 
 impl VoiceState {
-    // Silent, at 440 Hz.
+    // No key down, velocity 0, 440 Hz.
     pub fn new() -> VoiceState
         ensures { λ r. ⌜ r ≡ newOf ⌝ }
     {
@@ -59,7 +59,7 @@ impl VoiceState {
         }
     }
 
-    // A key goes down and sounds.
+    // A key goes down, and its note sounds.
     pub fn note_on(self, note: u8, velocity: u8) -> Changed
         ensures { λ r. ⌜ r ≡ noteOnOf self note velocity ⌝ }
     {
@@ -76,7 +76,7 @@ impl VoiceState {
         )
     }
 
-    // A key goes up. True where it was the active one and no other is held; velocity and frequency are kept.
+    // A key goes up. `released` is true if its note was active and no key is left; then velocity and frequency stay.
     pub fn note_off(self, note: u8) -> Off
         ensures { λ r. ⌜ r ≡ noteOffOf self note ⌝ }
     {
@@ -90,7 +90,7 @@ impl VoiceState {
         )
     }
 
-    // As it was made.
+    // The state of `new`.
     pub fn reset(self) -> Changed
         ensures { λ r. ⌜ r ≡ resetOf self ⌝ }
     {
@@ -114,21 +114,21 @@ impl VoiceState {
     }
 }
 
-// A velocity as a factor: from 0 to 1 up to 127.
+// A velocity from 0 to 127 as a factor from 0 to 1: velocity / 127, rounded once.
 pub fn velocity_of(velocity: u8) -> f32
     ensures { λ r. ⌜ r ≡ velocityOf velocity ⌝ }
 {
     velocity as f32 / 127.0
 }
 
-// The same, widened.
+// `velocity_of` as an f64, exactly: every f32 is also an f64.
 pub fn velocity_of_f64(velocity: u8) -> f64
     ensures { λ r. ⌜ r ≡ velocityOf velocity ⌝ }
 {
     velocity_of(velocity) as f64
 }
 
-// A state within the shelf's limits.
+// Whether a state is within the shelf's limits.
 fn is_voice(voice: VoiceState) -> bool
     ensures { λ r. ⌜ r ≡ isVoice voice ⌝ }
 {
@@ -161,7 +161,7 @@ fn is_released(lift: AfterLift) -> bool
     }
 }
 
-// What sounds after a key is lifted: only a fall back to another note changes velocity and frequency.
+// The state after a key is lifted: only a fall back to another note changes velocity and frequency.
 fn heard(voice: VoiceState, lift: AfterLift) -> VoiceState
     ensures { λ r. ⌜ r ≡ heardOf voice (lift .keys) (lift .off) ⌝ }
 {
@@ -183,7 +183,7 @@ fn heard(voice: VoiceState, lift: AfterLift) -> VoiceState
     }
 }
 
-// The state after, or a refusal with the state as it came.
+// Done with the state after, or refused with the state as it came.
 fn changed_if(ok: bool, before: VoiceState, after: VoiceState) -> Changed
     ensures { λ r. ⌜ r ≡ changedOr (unless ok Argument) before after ⌝ }
 {
@@ -199,7 +199,7 @@ fn changed_if(ok: bool, before: VoiceState, after: VoiceState) -> Changed
     }
 }
 
-// Whether it is released and the state after, or a refusal with no and the state as it came.
+// Done with `released` and the state after, or refused with false and the state as it came.
 fn off_if(ok: bool, released: bool, came: VoiceState, left: VoiceState) -> Off
     ensures { λ r. ⌜ r ≡ offOr (unless ok Argument) released came left ⌝ }
 {
@@ -217,7 +217,7 @@ fn off_if(ok: bool, released: bool, came: VoiceState, left: VoiceState) -> Off
     }
 }
 
-// Yes or no, or a refusal with no.
+// Done with yes or no, or refused with no.
 fn active_if(ok: bool, active: bool) -> Active
     ensures { λ r. ⌜ r ≡ activeOr (unless ok Argument) active ⌝ }
 {
@@ -233,7 +233,7 @@ fn active_if(ok: bool, active: bool) -> Active
     }
 }
 
-// The number, or a refusal with 0.
+// Done with the count, or refused with 0.
 fn count_if(ok: bool, count: usize) -> HeldNotes
     ensures { λ r. ⌜ r ≡ countOr (unless ok Argument) count ⌝ }
 {

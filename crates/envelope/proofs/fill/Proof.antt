@@ -1,5 +1,5 @@
--- `envelope::fill` meets its contract. The loop's invariant: the slice is as long as it was, its first i elements are the first i levels, and `after` is the envelope after i steps.
--- Assumes nothing.
+-- `envelope::fill` meets its contract. The loop's invariant: the slice is as long as it was, its first i elements are
+-- the first i levels, and `after` is the envelope after i steps. Assumes nothing.
 use borrow.Author.Needs.{needs}
 use mathlib.Core.Path.{_≡_, refl, ap, sym, _∙_}
 use Prim.Native.Nat.{_≤_, _<_, _-_, suc}

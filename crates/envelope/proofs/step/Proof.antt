@@ -1,4 +1,4 @@
--- `envelope::step` meets its contract: within a run it is the run's next, else what is said of the stage. Assumes nothing.
+-- `envelope::step` meets its contract: `nextIn` before the end of a stage, else `endedIn`. Assumes nothing.
 use borrow.Author.Needs.{needs}
 use mathlib.Core.Path.{refl, sym, _∙_}
 use Rattle.envelope.proofs.Scaling.{runs, ends}

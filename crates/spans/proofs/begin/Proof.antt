@@ -1,4 +1,5 @@
--- `spans::begin` meets its contract. The loop's invariant: what is left to do gives what all does, and what is seen of the next record is so. Assumes nothing.
+-- `spans::begin` meets its contract. The loop's invariant: the records that are left give the place that all give, and
+-- what was read of the next record agrees with the score. Assumes nothing.
 use borrow.Author.Needs.{needs}
 use mathlib.Core.Path.{_≡_, refl, sym, ap, _∙_}
 use Prim.Native.Nat.{_-_, _+_}

@@ -1,4 +1,5 @@
--- `spans::play_in` meets its contract. The loop's invariant is `Upto` of proofs/Loops.antt, and that what is seen of the next record is so. Assumes nothing.
+-- `spans::play_in` meets its contract. The loop's invariant: `Upto` of proofs/Loops.antt, and what was read of the next
+-- record agrees with the score. Assumes nothing.
 use borrow.Author.Needs.{needs}
 use Prim.Native.Nat.{_-_}
 use native.Mathlib.Omega.{arith}

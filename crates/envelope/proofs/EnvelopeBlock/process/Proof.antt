@@ -1,4 +1,4 @@
--- `envelope::EnvelopeBlock::process` meets its contract: each way out is a law of Outcomes.antt. Assumes nothing.
+-- `envelope::EnvelopeBlock::process` meets its contract: Outcomes.antt has a law for each return. Assumes nothing.
 use borrow.Author.Needs.{needs}
 use mathlib.Core.Path.{refl}
 use mathlib.Core.Bool.{_&&_}

@@ -1,4 +1,5 @@
--- `envelope::levels::hold` meets its contract. The loop's invariant: for settings and an envelope whose level stands, the loop has gone on to sample i. Assumes nothing.
+-- `envelope::levels::hold` meets its contract. The loop's invariant: the stage is Idle or Sustain, and the values up to
+-- i are scaled by its level. Assumes nothing.
 use borrow.Author.Needs.{needs}
 use mathlib.Core.Path.{_≡_, refl, ap, _∙_}
 use Prim.Native.Nat.{ℕ, suc, _+_, _-_, _<_, _≤_}

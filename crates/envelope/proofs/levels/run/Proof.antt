@@ -1,4 +1,5 @@
--- `envelope::levels::run` meets its contract. The loop's invariant: the pass has gone on to sample i, and the envelope is still in the stage of the run. Assumes nothing.
+-- `envelope::levels::run` meets its contract. The loop's invariant: the values up to i are scaled, and the envelope is
+-- still in the stage in which the run began. Assumes nothing.
 use borrow.Author.Needs.{needs}
 use mathlib.Core.Path.{_≡_, refl, sym, ap, _∙_}
 use Prim.Native.Nat.{_≤_, _-_}

@@ -22,7 +22,7 @@ Inv-loop adsr sample-time velocity part₀ envelope₀ stage i₀ part envelope 
 abbrev μ-loop : tie.MeasureT-loop
 μ-loop adsr sample-time velocity part₀ envelope₀ stage i₀ part envelope i = length part₀ - i
 
--- what a slice tells: its length fits a word
+-- the length of a slice fits in 64 bits
 held : (c : tie.Start Inv-loop μ-loop) → Fits w64 (length (c .args .part .now))
 held c = search needs
 

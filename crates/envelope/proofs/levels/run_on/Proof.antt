@@ -1,4 +1,4 @@
--- `envelope::levels::run_on` meets its contract: the two go on, one after the other. Assumes nothing.
+-- `envelope::levels::run_on` meets its contract: `run` goes on where `run_fours` ends. Assumes nothing.
 use borrow.Author.Needs.{needs}
 use native.Mathlib.Nat as nat
 use Rattle.envelope.proofs.levels.run_on.Statement.{statement}

@@ -1,4 +1,5 @@
--- `envelope::levels::scale` meets its contract. The loop's invariant: the first i values are scaled, the others are as they were, and the envelope stands after i samples. Assumes nothing.
+-- `envelope::levels::scale` meets its contract. The loop's invariant: the first i values are scaled, the others are as
+-- they were, and the envelope is the one after i samples. Assumes nothing.
 use borrow.Author.Needs.{needs}
 use borrow.Author.Tests.{not-true}
 use mathlib.Core.Path.{refl, sym, _∙_}

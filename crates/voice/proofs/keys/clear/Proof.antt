@@ -1,4 +1,4 @@
--- `voice::keys::clear` meets its contract: from the end down to i all is 0. Assumes nothing.
+-- `voice::keys::clear` meets its contract. Before each turn all bytes from i on are 0. Assumes nothing.
 use borrow.Author.Needs.{needs}
 use mathlib.Core.Path.{_≡_, refl}
 use Prim.Native.Nat.{_≤_, _-_}

@@ -1,4 +1,4 @@
--- `voice::keys::close_up` meets its contract: to j the bytes have moved. Assumes nothing.
+-- `voice::keys::close_up` meets its contract. Before each turn the bytes up to j have moved. Assumes nothing.
 use borrow.Author.Needs.{needs}
 use mathlib.Core.Path.{_≡_, refl}
 use Prim.Native.Nat.{_≤_, _-_}

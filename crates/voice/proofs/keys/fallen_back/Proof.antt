@@ -1,4 +1,4 @@
--- `voice::keys::fallen_back` meets its contract: the last pair of the list stands before the end of the held bytes. Assumes nothing.
+-- `voice::keys::fallen_back` meets its contract: the last held pair is at index held - 1. Assumes nothing.
 use borrow.Author.Needs.{needs}
 use mathlib.Core.Path.{_≡_, refl, sym, _∙_}
 use Prim.Native.Nat.{_≤_}
@@ -20,7 +20,7 @@ returns c =
 sub-note : tie.Need-sub-note
 sub-note c = search needs
 
--- as many keys as there is room for, at most
+-- at most 16 keys are held
 few : (c : tie.Else1) → c .before .held-count .result ≤ 16
 few c =
     let k = c .before .before .before .before .args .keys in

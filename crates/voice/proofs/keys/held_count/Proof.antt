@@ -1,4 +1,5 @@
--- `voice::keys::held_count` meets its contract: the list of the held pairs is no longer than the arrays. Assumes nothing.
+-- `voice::keys::held_count` meets its contract: the list of the held pairs is no longer than the arrays. Assumes
+-- nothing.
 use borrow.Author.Needs.{needs}
 use mathlib.Core.Path.{_≡_, sym}
 use native.Mathlib.Omega.{arith}

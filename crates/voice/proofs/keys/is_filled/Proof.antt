@@ -1,4 +1,4 @@
--- `voice::keys::is_filled` meets its contract: what is left to judge decides the whole. Assumes nothing.
+-- `voice::keys::is_filled` meets its contract: before each turn the bytes that are left decide. Assumes nothing.
 use borrow.Author.Needs.{needs}
 use mathlib.Core.Logic.{⊎-elim}
 use mathlib.Core.Path.{_≡_, refl, sym, _∙_}

@@ -1,4 +1,4 @@
--- `voice::keys::lifted` meets its contract: by whether the note sounded. Assumes nothing.
+-- `voice::keys::lifted` meets its contract, by whether the note sounded. Assumes nothing.
 use borrow.Author.Needs.{needs}
 use mathlib.Core.Path.{refl, sym}
 use Rattle.voice.specs.Keys.{liftedOf}

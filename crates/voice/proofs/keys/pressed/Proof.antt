@@ -1,4 +1,5 @@
--- `voice::keys::pressed` meets its contract: by either way the arrays hold the pairs of the definition. Assumes nothing.
+-- `voice::keys::pressed` meets its contract: in both branches the arrays have the pairs of the definition. Assumes
+-- nothing.
 use borrow.Author.Needs.{needs}
 use mathlib.Core.Logic.{⊎-elim}
 use mathlib.Core.Path.{_≡_, refl}
@@ -22,7 +23,7 @@ array-write-velocities c = search needs
 add-count : tie.Need-add-count
 add-count c = search needs
 
--- the pairs that are held after the test, by either way
+-- the pairs that are held after the branch
 stored : (c : tie.Joined1) → (c .if1 .count ≤ 16) × (pairs (take (c .if1 .count) (c .if1 .notes)) (take (c .if1 .count) (c .if1 .velocities)) ≡ pushed (heldOf (c .before .before .before .before .args .keys)) (record { note = c .before .before .before .before .args .note; velocity = c .before .before .before .before .args .velocity }))
 stored c =
     let a = c .before .before .before .before .args in

@@ -1,4 +1,5 @@
--- `voice::keys::without` meets its contract: the walk leaves of the arrays what the definition leaves of the list of pairs. Assumes nothing.
+-- `voice::keys::without` meets its contract: the loop leaves in the arrays what the definition leaves of the list of
+-- pairs. Assumes nothing.
 use borrow.Author.Needs.{needs}
 use mathlib.Core.Path.{_≡_, refl, sym}
 use Prim.Native.Nat.{_-_}
