@@ -42,7 +42,7 @@ pub zero-done : (a : Answer) → numbersIn (packedOf a) .number ≡ 0 → (n : �
 zero-done (Done n) z = (n, refl)
 zero-done (Refused r) z = absurd (refused-not-zero r z)
 
--- and conversely
+-- an answer that is done has number 0 in its word
 pub done-zero : (n : ℕ) → numbersIn (packedOf (Done n)) .number ≡ 0
 unfolding packedOf
 done-zero n = omega arith

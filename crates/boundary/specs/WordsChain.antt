@@ -62,8 +62,8 @@ pub record ZeroExactly (a : Asked) (room : List ℕ) (xs : List Step) : Type 0 w
   pub zero-only-if : AllZero (wordsChain a room xs .result) → NoneAddedBelow [] 0 xs
   pub zero-if : NoneAddedBelow [] 0 xs → AllZero (wordsChain a room xs .result)
 
--- ---- the claim: for any settings whose sustain is a value of an f64, as owning an f64 tells, and any twelve words
--- lent to gav_fresh
+-- ---- the claim: for any settings whose sustain is a value of an f64, as every f64 of the code is, and any twelve
+-- words lent to gav_fresh
 pub record WordsPartsAreOne : Type 0 where
   -- for one call or more
   pub one-render : (a : Asked) → T (fits binary64 (a .sustain)) → (room : List ℕ) → length room ≡ entryWords → (x : Step) (xs : List Step) → Grows [] (x ∷ xs) → AllZero (wordsChain a room (x ∷ xs) .result)

@@ -35,7 +35,7 @@ pub record DeskRemade (a : Asked) (new : List ℕ) (m : ℕ) (out : List Float) 
   pub reads : numbersIn (o .result) ≡ numbersOf (Done (length out - m * mark))
   pub left : FromMark out shelf (deskLeft a new) m (o .heard) (o .stored)
 
--- ---- the claim: for any settings whose sustain is a value of an f64, as owning an f64 tells
+-- ---- the claim: for any settings whose sustain is a value of an f64, as every f64 of the code is
 pub record WordsDemand3 : Type 0 where
   pub re-rendered : (a : Asked) → T (fits binary64 (a .sustain)) → (old new : List ℕ) → Taken new → (out : List Float) (shelf : List ℕ) → Lent out shelf → (p : ℕ) → differenceOf old new ≡ At p → p < length out
       → (b : Buffers (length out)) → Zero (deskLeft a old b .result) → entryAt shelf (p / mark) ≡ entryAt (deskLeft a old b .stored) (p / mark)

@@ -72,14 +72,14 @@ module _ {A : Type 0} where
 
 -- ---- the first samples and entries of a render
 module _ (g : Settings) (s : List ℕ) (n : ℕ) where
-  -- its first k samples
+  -- the first k samples of a render of n are a render of k
   pub sound-front : (k : ℕ) → k ≤ n → take k (soundOf g s n) ≡ soundOf g s k
   sound-front k h =
       let d : n ≡ k + (n - k) = omega arith in
       ap (λ (i : ℕ). take k (soundOf g s i)) d ∙ ap (take k) (samples-on g s 0 (freshOf 0) k (n - k))
       ∙ take-at (soundOf g s k) (samplesFrom g s (0 + k) (stateFrom g s 0 (freshOf 0) k) (n - k)) k (samples-length g s 0 (freshOf 0) k)
 
-  -- its first m entries
+  -- the first m entries of a render are the entries of sections 0 to m - 1
   pub shelf-front : (m : ℕ) → m ≤ entriesFor n → take (m * entryWords) (shelvedOf g s n) ≡ shelfOf (entriesFrom g s 0 (freshOf 0) m)
   shelf-front m h =
       let k = entriesFor n - m in

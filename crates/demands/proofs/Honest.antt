@@ -5,7 +5,7 @@
 -- Start from the fresh state at sample 0, or from any state that passes the test at a multiple of 64 (so at the start
 -- of any section) with the right number of records acted. Then the state before each later sample passes the test, has
 -- as many records acted as the score has below that sample, and its words are read as that state. So is every entry
--- that a render leaves. The sustain is a value of an f64, as owning an f64 tells. Assumes nothing.
+-- that a render leaves. The sustain is a value of an f64, as every f64 of the code is. Assumes nothing.
 use mathlib.Core.Path.{_≡_, refl, ap, sym, _∙_}
 use mathlib.Core.Bool.{true}
 use mathlib.Core.List.{List}

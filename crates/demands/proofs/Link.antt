@@ -143,6 +143,6 @@ module _ (g : Settings) (v : State) (p : ℕ) (x : Step) (xs : List Step) where
   pub rest-done : AllDone g v p (x ∷ xs) → AllDone g after onward xs
   rest-done d = let e : _ ≡ _ = ap (λ (o : ChainOutcome). o .answers) (sym (chain-step (first-done d))) ∙ d in cc
 
-  -- and conversely
+  -- the first call done and the rest done: all done
   pub all-done : continueOf g (x .score) v p (x .part) .result .answer ≡ Done (length (x .part)) → AllDone g after onward xs → AllDone g v p (x ∷ xs)
   all-done e d = ap (λ (o : ChainOutcome). o .answers) (chain-step e) ∙ ap (λ (l : List Answer). Done (length (x .part)) ∷ l) d

@@ -108,5 +108,5 @@ pub record PartsAreOne : Type 0 where
   -- for one call or more, any output of that length and any shelf that fits it
   pub one-render : (g : Settings) (x : Step) (xs : List Step) → Grows [] (x ∷ xs) → AllDone g (freshOf 0) 0 (x ∷ xs)
       → (out : List Float) (shelf : List ℕ) → length out ≡ samplesOf (x ∷ xs) → length shelf ≡ wordsFor (length out) → OneRender g (x ∷ xs) out shelf
-  -- under settings in their domain; the sustain is a value of an f64, as owning an f64 tells
+  -- under settings in their domain; the sustain is a value of an f64, as every f64 of the code is
   pub done-exactly : (g : Settings) → settingsOk g ≡ true → T (fits binary64 (g .adsr .sustain)) → (xs : List Step) → AllAccepted xs → Grows [] xs → samplesOf xs ≤ most → DoneExactly g xs

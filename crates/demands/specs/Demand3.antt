@@ -37,7 +37,7 @@ pub record Taken (s : List ℕ) : Type 0 where
   pub records : ℕ
   pub accepted : verdictOf s ≡ Accepted records
 
--- two accepted scores, under settings in their domain; the sustain is a value of an f64, as owning an f64 tells
+-- two accepted scores, under settings in their domain; the sustain is a value of an f64, as every f64 of the code is
 pub record Edit (g : Settings) (old new : List ℕ) : Type 0 where
   pub settings : settingsOk g ≡ true
   pub sustain-fits : T (fits binary64 (g .adsr .sustain))
