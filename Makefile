@@ -12,7 +12,7 @@ PACKAGES = $(shell command -v python3 >/dev/null || echo python3) \
            $(shell command -v sox >/dev/null || echo sox) \
            $(shell command -v sndfile-info >/dev/null || echo sndfile-programs)
 
-# The desk is C over the library, the same for use, under sanitizers and in tests.
+# The desk is C over the library, compiled from the same sources for use, under sanitizers and in tests.
 CC = gcc
 C_FLAGS = -std=c11 -Wall -Wextra -Werror -pedantic -ffp-contract=off -D_XOPEN_SOURCE=700 -Iinclude -Idesk
 SANITIZED = -g -O1 -fsanitize=address,undefined -fno-sanitize-recover=all
@@ -26,7 +26,7 @@ SEED = 1
 # libFuzzer is clang's. No test needs it, so that `make deps` leaves it out.
 CLANG = clang
 
-# The library's version is the header's; the shared library is named for it. What `make install` puts where.
+# The library's version is the header's, and the shared library's name carries it. Where `make install` puts files.
 VERSION := $(shell sed -n 's/^\#define GAV_VERSION //p' include/gavberin.h)
 SHARED = libgavberin.so.$(VERSION)
 PREFIX = /usr/local
@@ -43,7 +43,7 @@ help:
 	@echo 'make judges  run what no gate does: ffmpeg, aplay, JACK and ten minutes of libFuzzer beside the desk and the library'
 	@echo 'make fmt     lay out every .rt and .antt file (rt fmt)'
 	@echo 'make lib     prove what C sees and build it for this processor: build/libgavberin.a and build/libgavberin.so'
-	@echo 'make desk    build the desk, build/desk, and the library that it stands on'
+	@echo 'make desk    build the desk, build/desk, and the library that it needs'
 	@echo 'make man     write the man page of the desk, build/desk.1, from what its verbs say of themselves'
 	@echo 'make install put header, libraries, gavberin.pc, desk and its man page under PREFIX=$(PREFIX), below DESTDIR'
 	@echo 'make demo    build both, render a tune, edit it five times and draw the chart, in build/demo/'
@@ -74,7 +74,7 @@ fmt:
 
 lib: build/libgavberin.a build/libgavberin.so
 
-# Made anew where the code of a crate has changed since; `make lib` itself always asks rt, which proves what has changed.
+# Made again where the code of a crate has changed since; `make lib` always asks rt, which proves what has changed.
 build/proved.a: $(shell find crates -name '*.rt') tools/native-lib $(if $(filter lib,$(MAKECMDGOALS)),always)
 	@tools/native-lib desk $@
 

@@ -4,7 +4,7 @@
 
 #include "original.h"
 
-/* A score with its bytes to change. */
+/* A score with bytes of its own, which may be changed. */
 struct score {
     uint8_t *bytes;
     size_t len;
@@ -21,8 +21,8 @@ render best_render;
 render floor_render;
 
 /* library.c: the calls of the library and of the reference voice, the plain C, on the settings and a shelf of their
- * own: a render by either; one in parts, the samples from a mark on as one part, and a re-render, which gives back its
- * count. */
+ * own: a render by either; a render in parts, the samples from the start of a section on as one part, and a re-render,
+ * which gives back its count. */
 void library_prepare(size_t samples);
 render ours_render, plain_render;
 void ours_continue(const struct gav_settings *settings, const struct score *score, double *out, size_t n, size_t part);
@@ -30,7 +30,7 @@ void ours_from_mark(const struct gav_settings *settings, const struct score *sco
 size_t ours_rerender(const struct gav_settings *settings, const struct score *old, const struct score *new_,
                      double *out, size_t n);
 
-/* scores.c: scores of some keys that hang on a seed alone, and copies of them with room for more bytes. */
+/* scores.c: scores of some keys that depend on a seed alone, and copies of them with room for more bytes. */
 struct keys {
     uint8_t lowest, count;
 };

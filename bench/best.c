@@ -26,10 +26,10 @@ static struct cycle cycles[MOST_CYCLES];
 /* The whole wave, with the 2^30 divided out, which rounds nothing; one entry more for u = 1, which reads as u = 0. */
 static double wave[4098];
 
-/* A function that the compiler makes anew for each code, so that no loop asks for it. */
+/* A function that the compiler specialises for each code, so that no loop tests the code. */
 #define MADE_ANEW static inline __attribute__((always_inline))
 
-/* What lasts for a span: the phase's step, as a part of a cycle too, and how many of them make a radian. */
+/* What lasts for a span: the phase's step, also as a fraction of a cycle, and how many steps make a radian. */
 struct span {
     double step, dt, one_less_dt, pace, duty, velocity;
 };
@@ -134,7 +134,7 @@ static inline bool is_before(uint32_t code, const struct span *s, double u) {
     return u > s->one_less_dt || (code != GAV_SAWTOOTH && fract(shifted(code, s, u)) > s->one_less_dt);
 }
 
-/* Samples between two edges. As u grows, those that are corrected stand at their beginning and at their end. */
+/* Samples between two edges. As u grows, the corrected samples are the first and the last of them. */
 MADE_ANEW void piece(uint32_t code, bool before, const struct span *s, struct samples at) {
     const double velocity = s->velocity;
     const struct cycle cycle = *at.cycle; /* a copy that no store to out can change */
@@ -154,7 +154,7 @@ static inline struct samples from(struct samples at, size_t i, size_t n) {
     return (struct samples){at.cycle, at.phases + i, at.levels + i, at.out + i, n};
 }
 
-/* A first guess at an index, which is mended by looking: how many steps so many radians are. */
+/* A first guess at an index, which is then corrected by tests: how many steps so many radians are. */
 static inline size_t guess(const struct span *s, double radians, size_t n) {
     double steps = radians * s->pace;
     return steps <= 0.0 ? 0 : steps < (double)(int)n ? (size_t)(int)steps : n;
@@ -186,7 +186,7 @@ MADE_ANEW void cycle_of(uint32_t code, const struct span *s, struct samples at) 
     piece(code, false, s, from(at, m, at.n - m));
 }
 
-/* TAU in two parts, of which so many as a span has cycles are exact. */
+/* TAU as a sum of two floats, whose multiples by any number of cycles of a span are exact. */
 #define TAU_LOW 0x1a3p-47
 #define TAU_HIGH (TAU - TAU_LOW)
 #define LESS_THAN_INV_TAU 0.1591549430918953 /* so that no cycle is guessed that has not begun */

@@ -16,8 +16,8 @@ double check_time(const struct score *score, uint64_t check(const uint8_t *, siz
     return median(times, repetitions);
 }
 
-/* There is no call for the comparison alone: a re-render of two equal scores makes two checks and it, and nothing else.
- */
+/* No call makes the comparison alone: a re-render of two equal scores makes two checks and the comparison, and nothing
+ * else. */
 static double comparison_time(struct bench *b, const struct score *one, const struct score *other) {
     double times[MOST_REPETITIONS];
     for (size_t i = 0; i < b->repetitions; i++) {

@@ -4,7 +4,7 @@
 #include <stdio.h>
 #include <stdlib.h>
 
-/* A key is struck at the last sample: the last mark is where the re-render starts. */
+/* A key is struck at the last sample: the re-render starts at the last section. */
 static struct score edit_end(const struct bench *b) {
     struct score edited = copy_score(&b->score, RECORD);
     put_record(edited.bytes + b->score.len, (uint32_t)(b->samples - 1), ON, 60, 100);
@@ -77,6 +77,6 @@ void measure_edits(struct bench *b) {
          "(as a\n"
          "re-render of two equal scores)");
     printf("%-12s %12s %12s %12s %19s\n", "from", "samples", "us", "us owed", "ratio, <= 1.05");
-    measure_edit(b, "last mark", edit_end(b));
+    measure_edit(b, "last section", edit_end(b));
     measure_edit(b, "middle", edit_middle(b));
 }

@@ -41,7 +41,8 @@ static struct score room_for(size_t len) {
     exit(2);
 }
 
-/* Record i is somewhere in part i of as many parts of the length; one in eight stands where the one before it does. */
+/* The length is cut into as many ranges as there are records, and record i is in range i; one in eight records is at
+ * the position of the record before it. */
 struct score make_score(uint64_t seed, struct keys range, size_t records, size_t samples) {
     struct tune tune = {{seed}, range, 0, {0}};
     struct score score = room_for(RECORD * records);

@@ -1,9 +1,9 @@
-/* What the library says, in words: a range of numbers at a time, and what is wrong at the place that it names. */
+/* What the library says, in words: one function for a range of numbers, with what is wrong at the answer's place. */
 #include "desk.h"
 
 #include <string.h>
 
-/* Bytes of a score that are looked at to tell a text. */
+/* How many bytes of a score are looked at to recognise a text. */
 #define TEXT_SEEN 32u
 
 /* A refusal, its number counted from the first of its range. */
@@ -14,7 +14,7 @@ struct refusal {
     const struct asked *asked;
 };
 
-/* Whether it begins like the text that scores are made from. */
+/* Whether the file begins like the text that scores are made from. */
 static bool is_text(const struct score *score) {
     if (score->len == 0 || memcmp(score->at, "VN", score->len < 2 ? 1 : 2) == 0) return false;
     for (size_t i = 0; i < score->len && i < TEXT_SEEN; i++) {
@@ -116,7 +116,7 @@ static const char *entry_words(const struct refusal *r, struct why *why) {
     return r->asked->shelf_path;
 }
 
-/* Who finds words for which numbers; the others have the library's own. */
+/* Which function has words for which numbers; the other numbers get the library's words. */
 static const struct range {
     unsigned first, last;
     const char *(*words)(const struct refusal *refusal, struct why *why);

@@ -9,7 +9,7 @@
 
 bool is_help(const char *word) { return strcmp(word, "--help") == 0 || strcmp(word, "-h") == 0; }
 
-/* Where the value of the option goes; NULL where the verb has no such option. */
+/* The place of the option's value; NULL where the verb has no such option. */
 static const char **place_of_value(const struct arguments *takes, const char *name) {
     for (const struct option *option = takes->options; option->name; option++) {
         if (strcmp(option->name, name) == 0) return option->value;
@@ -17,7 +17,7 @@ static const char **place_of_value(const struct arguments *takes, const char *na
     return takes->settings ? setting_text(takes->settings, name) : NULL;
 }
 
-/* Takes the option that stands at *given, by itself or before a '='; *given is then at its last word. */
+/* Takes the option at *given, whose value follows a '=' or is the next word; *given is then at its last word. */
 static bool take_option(char ***given, const struct arguments *takes, struct why *why) {
     const char *word = **given, *equals = strchr(word, '=');
     size_t len = equals ? (size_t)(equals - word) : strlen(word);
@@ -36,7 +36,7 @@ static bool take_option(char ***given, const struct arguments *takes, struct why
     return true;
 }
 
-/* Whether a word asks for help where an option or an operand may stand; what follows an option is its value. */
+/* Whether a word asks for help in the place of an option or an operand; the word after an option is its value. */
 static bool asks_for_help(char **given, const struct arguments *takes) {
     for (; *given && strcmp(*given, "--") != 0; given++) {
         if (is_help(*given)) return true;

@@ -1,4 +1,4 @@
-/* Numbers in bytes, low byte first; floats as their bits; and a sum that tells damage. */
+/* Numbers in bytes, low byte first; floats as their bits; and a sum that shows damage. */
 #include "desk.h"
 
 #include <string.h>
@@ -29,15 +29,15 @@ double from_bits(uint64_t bits) {
     return value;
 }
 
-/* A step of the sum. It is one to one in the sum and in the word, so that one changed word always changes the sum. The
-   shift brings high bits down, and the second multiplication spreads them by carries that depend on the data: what a
-   flipped top bit leaves is no fixed pattern, which the same flips of the next word would always undo. */
+/* A step of the sum. It is one-to-one in the sum and in the word, so that one changed word always changes the sum. The
+   shift brings high bits down, and the second multiplication spreads them by carries that depend on the data: a flipped
+   top bit leaves no fixed pattern, which a fixed change of the next word would always undo. */
 static uint64_t add_word(uint64_t sum, uint64_t word) {
     sum = (sum ^ word) * UINT64_C(0x9E3779B97F4A7C15);
     return (sum ^ sum >> 32) * UINT64_C(0xD6E8FEB86659FD93);
 }
 
-/* 8 bytes a step, from a start that holds the length; zeros fill the last word. */
+/* 8 bytes a step, from a start that depends on the length; the last word is padded with zeros. */
 uint64_t sum_of(const uint8_t *at, size_t len) {
     uint64_t sum = UINT64_C(0xcbf29ce484222325) ^ len;
     uint8_t last[8] = {0};

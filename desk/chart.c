@@ -14,7 +14,7 @@ struct chart_call {
 
 typedef void put_chart(FILE *out, const void *from);
 
-/* A draft of the drawing or of the table, whole on the disk; written to memory first. */
+/* A draft of the drawing or of the table, whole on the disk; the text is made in memory first. */
 static bool write_draft(struct draft *draft, const char *path, put_chart *put, const void *from, struct why *why) {
     char *text = NULL;
     size_t len = 0;
@@ -27,7 +27,7 @@ static bool write_draft(struct draft *draft, const char *path, put_chart *put, c
     return done;
 }
 
-/* Both files are whole on the disk before either takes its name. A table that has no file goes to standard output. */
+/* Both files are whole on the disk before either takes its name. A table without a file goes to standard output. */
 static bool write_files(const struct chart_call *c, put_chart *draw, put_chart *table, const void *from,
                         struct why *why) {
     struct draft drawn = NO_DRAFT, tabled = NO_DRAFT;
@@ -43,7 +43,7 @@ static bool write_files(const struct chart_call *c, put_chart *draw, put_chart *
     return done;
 }
 
-/* What is read is never written over. */
+/* No file that is read is written over. */
 static bool stay_apart(const struct chart_call *c, struct why *why) {
     if (!names_file(c->svg_path, why) || (c->table_path && !names_file(c->table_path, why))) return false;
     const char *const read[] = {c->beside.score_path, c->beside.wav_path, c->beside.shelf_path};

@@ -42,8 +42,8 @@ bool read_pad(struct setting_texts *texts, const char *edits_text, const char *l
     uint64_t edits;
     double late;
     if (!read_sound(texts, &pad->settings, why) || !read_edits(edits_text, late_text, &edits, &late, why)) return false;
-    /* A rate that the library will refuse still needs a window of a sample, and no more than it would need at the
-     * highest. */
+    /* A rate that the library will refuse still needs a window of one sample or more, and of no more than at 192,000
+     * Hz. */
     uint32_t given = pad->settings.rate, rate = given < 8000 ? 8000 : given > 192000 ? 192000 : given;
     pad->window = rate / WINDOWS_A_SECOND;
     pad->samples = PAD_POINTS * pad->window;
@@ -74,7 +74,7 @@ static void fill_seconds(const struct pad_chart *chart, struct curves *curves) {
     }
 }
 
-/* Both ways in a panel: the old one under ours. */
+/* Both ways in a panel: the old way is drawn first, under ours. */
 static void add_curves(struct panel *panel, size_t points, const double *across, const double *old,
                        const double *ours) {
     panel->curves = 2;

@@ -6,7 +6,7 @@
 
 #define WINDOWS_A_SECOND 10u
 #define COLOR "#1f5fa8"
-/* So many characters of a file's name fit in the drawing's heading. */
+/* How many characters of a file's name fit in the drawing's heading. */
 #define MOST_SHOWN 40
 
 static size_t count_differing(const struct from_zero *z, size_t first, size_t samples) {
@@ -31,7 +31,7 @@ static struct wav_row measure(const struct from_zero *z, size_t first, size_t sa
     };
 }
 
-/* Beside silence a window has no percent: it is drawn at the largest value. */
+/* Where only the render is silent a window has no percent: it is drawn at the largest value. */
 static void lift_off_silence(struct wav_chart *chart) {
     double largest = 0;
     for (size_t i = 0; i < chart->points; i++) largest = fmax(largest, chart->percent[i]);
@@ -61,7 +61,7 @@ bool wav_chart_make(const struct from_zero *z, struct wav_chart *chart, struct w
     return true;
 }
 
-/* The last part of a path, which may be shown in full. */
+/* The last name of a path, without its folder. */
 static const char *shown(const char *path) {
     return strcmp(path, "-") == 0 ? "standard input" : path + folder_of(path);
 }

@@ -1,5 +1,5 @@
-/* Writing under a temporary name, so that a failure leaves the old file whole. The temporary file has one name for a
-   target and is locked while a desk is at work on the target. */
+/* Writing under a temporary name, so that a failure leaves the old file whole. The temporary name is the same for every
+   draft of a target, and the file is locked while a desk works on the target. */
 #include "desk.h"
 
 #include <errno.h>
@@ -9,7 +9,7 @@
 #include <sys/stat.h>
 #include <unistd.h>
 
-/* A lock is tried again where the file behind it was just renamed or removed by another desk. */
+/* A lock is tried again where another desk has just renamed or removed the locked file. */
 #define MOST_TRIES 100u
 
 enum lock { LOCKED, GONE, TAKEN };
@@ -23,7 +23,7 @@ static mode_t new_mode(void) {
     return 0666 & ~mask;
 }
 
-/* The file that a path names, through links, there or not; and the mode, owner and group that the new one gets. */
+/* The file that a path names, through links, which need not exist; and the mode, owner and group of the new file. */
 static bool find_target(struct draft *draft, struct why *why) {
     struct stat found;
     const char *path = draft->path;
@@ -61,7 +61,7 @@ static char *temporary_name(const char *target) {
     return temporary;
 }
 
-/* Blocks the signals that end a program, but for those that it was started to ignore. */
+/* Blocks the signals that end a program, but for those that were ignored from its start. */
 static void let_signals_wait(struct draft *draft) {
     sigset_t ending;
     struct sigaction now;
@@ -82,8 +82,8 @@ static bool told_to_end(void) {
     return told;
 }
 
-/* Opens the temporary file, there or not; nothing but an ordinary file with one name, of the caller's or of the
-   target's owner, is taken. */
+/* Opens the temporary file, or makes it; only an ordinary file with one name that the caller or the target's owner owns
+   is taken. */
 static enum lock open_temporary(const struct draft *draft, int *fd, struct why *why) {
     struct stat found;
     *fd = open(draft->temporary, O_RDWR | O_CREAT | O_NOFOLLOW | O_NONBLOCK | O_CLOEXEC, 0600);
@@ -104,17 +104,17 @@ static enum lock open_temporary(const struct draft *draft, int *fd, struct why *
     return TAKEN;
 }
 
-/* Whether the open file is the one that has the temporary name: another hand may have removed or replaced it. */
+/* Whether the open file is the one that has the temporary name: another process may have removed or replaced it. */
 static bool has_its_name(const struct draft *draft, int fd) {
     struct stat mine, named;
     return fstat(fd, &mine) == 0 && lstat(draft->temporary, &named) == 0 && mine.st_dev == named.st_dev &&
            mine.st_ino == named.st_ino;
 }
 
-/* Locks the whole file. It is a lock by fcntl, since such a lock names the process that holds it. */
+/* Locks the whole file by fcntl, since such a lock names the process that holds it. */
 static enum lock lock_file(const struct draft *draft, int fd, struct why *why) {
     struct flock lock = {.l_type = F_WRLCK, .l_whence = SEEK_SET};
-    /* A lock on a file that has another name by now, or none, is none. */
+    /* A lock on a file that has lost the temporary name locks nothing. */
     if (fcntl(fd, F_SETLK, &lock) == 0) return has_its_name(draft, fd) ? LOCKED : GONE;
     if (errno != EACCES && errno != EAGAIN) {
         refuse(why, "%s: %s, where it would be written first, cannot be locked: %s", draft->path, draft->temporary,
@@ -125,14 +125,14 @@ static enum lock lock_file(const struct draft *draft, int fd, struct why *why) {
     if (lock.l_pid > 0) {
         refuse(why, "another desk (process %ld) is at work on %s", (long)lock.l_pid, draft->path);
     } else {
-        /* A process elsewhere, as behind a network, has no number here. */
+        /* A process on another machine, over a network file system, has no number here. */
         refuse(why, "another desk is at work on %s", draft->path);
     }
     return TAKEN;
 }
 
-/* The temporary file, locked. A lock by fcntl goes with the first closing of any descriptor of its file, so that the
-   file is opened here alone, and the descriptor stays open to the end. */
+/* The temporary file, locked. A lock by fcntl is lost when any descriptor of its file is closed, so the file is opened
+   only here, and the descriptor stays open to the end. */
 static bool take_temporary(struct draft *draft, struct why *why) {
     for (unsigned tries = 0; tries < MOST_TRIES; tries++) {
         int fd;
@@ -163,7 +163,7 @@ bool draft_open(struct draft *draft, const char *path, struct why *why) {
     }
     let_signals_wait(draft);
     if (!take_temporary(draft, why)) return false;
-    /* What a killed desk left goes. */
+    /* Drops what a killed desk left. */
     if (ftruncate(draft->fd, 0) == 0) return true;
     return refuse(why, "%s: cannot be written: %s", path, strerror(errno));
 }
@@ -173,8 +173,8 @@ bool draft_write(struct draft *draft, const void *at, size_t len, struct why *wh
     return refuse(why, "%s: cannot be written: %s", draft->path, strerror(errno));
 }
 
-/* Where the owner cannot be kept, since the caller may not give files away or the file system has no owners, the group
-   is tried by itself; where that fails too, the file stays the caller's. */
+/* Where the owner cannot be kept, since the caller may not give files away or the file system has no owners, only the
+   group is set; where that fails too, the file stays the caller's. */
 static void keep_owner(const struct draft *draft) {
     bool kept = fchown(draft->fd, draft->owner, draft->group) == 0 || fchown(draft->fd, (uid_t)-1, draft->group) == 0;
     (void)kept;
@@ -195,7 +195,7 @@ static int open_folder(const char *target) {
     return fd;
 }
 
-/* Brings a folder's names to the disk. A folder that may not be read cannot be asked to do so. */
+/* Brings a folder's names to the disk. A folder that may not be read cannot be synced, and is left. */
 static bool sync_folder(const char *target) {
     int fd = open_folder(target);
     if (fd < 0) return errno == EACCES;
@@ -206,7 +206,7 @@ static bool sync_folder(const char *target) {
     return synced;
 }
 
-/* What has the temporary name now may be another desk's, and is not renamed. */
+/* A file that has taken the temporary name meanwhile may be another desk's, and is not renamed. */
 static bool is_kept(const struct draft *draft, struct why *why) {
     if (has_its_name(draft, draft->fd)) return true;
     return refuse(why, "%s: %s, where it was written first, was removed or replaced meanwhile; %s is not written",
@@ -226,7 +226,7 @@ bool draft_publish(struct draft *draft, struct why *why) {
 }
 
 void draft_drop(struct draft *draft) {
-    /* Only the holder of the lock may remove the file, and no other file of its name; the lock goes last. */
+    /* Only the holder of the lock removes the file, and no other file of its name; the lock is released last. */
     if (draft->fd >= 0 && draft->temporary && has_its_name(draft, draft->fd)) unlink(draft->temporary);
     if (draft->fd >= 0) close(draft->fd);
     free(draft->temporary);
@@ -239,7 +239,7 @@ void draft_drop(struct draft *draft) {
 
 bool pair_open(struct pair *pair, const char *wav_path, const char *shelf_path, struct why *why) {
     *pair = NO_PAIR;
-    /* Every desk takes the WAV first, so that of two at one pair one gets both. */
+    /* Every desk locks the WAV first, so that of two desks at one pair one gets both files. */
     return draft_open(&pair->wav, wav_path, why) && (!shelf_path || draft_open(&pair->shelf, shelf_path, why));
 }
 
@@ -247,13 +247,13 @@ static bool write_one(struct draft *draft, const struct bytes *bytes, struct why
     return !bytes->at || (draft_write(draft, bytes->at, bytes->len, why) && draft_seal(draft, why));
 }
 
-/* Neither takes its name where one of them is gone. */
+/* Neither file takes its name where the draft of one was removed or replaced. */
 static bool both_kept(const struct pair *pair, const struct bytes *wav, const struct bytes *shelf, struct why *why) {
     return (!wav->at || is_kept(&pair->wav, why)) && (!shelf->at || is_kept(&pair->shelf, why));
 }
 
-/* Where the shelf cannot take its name after the WAV has, it is still the old score's, and says so of the WAV by its
-   sums; the same edit can be made again. */
+/* Where the shelf cannot take its name after the WAV has, the old score's shelf stays; its sums show that the WAV is
+   not its own, and the same edit can be made again. */
 static bool publish_both(struct pair *pair, const struct bytes *wav, const struct bytes *shelf, struct why *why) {
     if ((!wav->at || draft_publish(&pair->wav, why)) && (!shelf->at || draft_publish(&pair->shelf, why))) return true;
     if (pair->wav.temporary || !shelf->at || !pair->shelf.temporary) return false;

@@ -5,7 +5,7 @@
 #include <math.h>
 #include <string.h>
 
-/* Beyond these a gain is a slip of the hand; within them every sample stays finite. */
+/* Decibels: a gain beyond them is a mistake; within them every sample stays finite. */
 #define MOST_GAIN 200
 
 static bool read_bits(const char *text, unsigned *bits, struct why *why) {

@@ -9,7 +9,7 @@
 #include <sys/stat.h>
 #include <unistd.h>
 
-/* As many links in a row, and as many bytes in one, as Linux follows. */
+/* The most links in a row, and the most bytes in one, that Linux follows. */
 #define MOST_LINKS 40u
 #define MOST_LINK 4096u
 
@@ -39,7 +39,7 @@ bool is_own_name(const char *path) {
     return own;
 }
 
-/* What has a temporary name is gone when a desk is at work beside it, and so is not read. */
+/* A file with a temporary name may vanish while another desk works, and so is not read. */
 static int open_input(const char *path, struct why *why) {
     if (is_standard_input(path)) return STDIN_FILENO;
     if (is_own_name(path)) {
@@ -94,7 +94,7 @@ bool read_file(const char *path, size_t most, struct bytes *file, struct why *wh
     return fine;
 }
 
-/* Writes all, or answers false with errno set; waits where the other end is full for now. */
+/* Writes all, or answers false with errno set; waits while a pipe or a device is full. */
 bool write_all(int fd, const void *at, size_t len) {
     const uint8_t *from = at;
     while (len > 0) {
@@ -117,7 +117,7 @@ size_t folder_of(const char *path) {
     return slash ? (size_t)(slash - path) + 1 : 0;
 }
 
-/* Where a link leads, to be freed: a name that does not begin at the root is one in the link's own folder. */
+/* Where a link leads, to be freed: a name that does not begin with a slash is in the link's own folder. */
 static char *end_of_link(const char *link) {
     char text[MOST_LINK + 1];
     ssize_t len = readlink(link, text, MOST_LINK);
@@ -135,7 +135,7 @@ char *behind_links(const char *path) {
     char *name = strdup(path);
     for (unsigned links = 0; name && links <= MOST_LINKS; links++) {
         struct stat found;
-        /* A name of no file at all is the last one, too. */
+        /* A name of no file ends the row of links, too. */
         if (lstat(name, &found) != 0 || !S_ISLNK(found.st_mode)) return name;
         char *next = end_of_link(name);
         free(name);
@@ -150,7 +150,7 @@ static bool same_inode(const struct stat *one, const struct stat *other) {
     return one->st_dev == other->st_dev && one->st_ino == other->st_ino;
 }
 
-/* The folder in which the file would be made that a name ends in. */
+/* The folder in which a file of that name would be made. */
 static bool look_at_folder(const char *name, struct stat *folder) {
     size_t len = folder_of(name);
     char *path = len ? strndup(name, len) : strdup(".");
@@ -159,7 +159,7 @@ static bool look_at_folder(const char *name, struct stat *folder) {
     return found;
 }
 
-/* Whether two names without a file would be of one: in the same folder, and with the same last name. */
+/* Whether two names of no file would name one: in the same folder, and with the same last name. */
 static bool same_new_file(const char *one, const char *other) {
     struct stat a, b;
     char *ends[] = {behind_links(one), behind_links(other)};

@@ -1,14 +1,15 @@
-/* A WAV, and beside it the render of its score from sample zero: what verify tells of and chart draws. The settings and
-   the length are those of the shelf, where one is given; else the options', with the rate and the length of the WAV. */
+/* A WAV, and the render of its score from sample zero: verify tells their differences, chart draws them. The settings
+   and the length are those of the shelf, where one is given; else the options', with the rate and the length of the
+   WAV. */
 #include "desk.h"
 
 #include <stdlib.h>
 #include <string.h>
 
-/* The settings are said once: by the shelf, or by options. */
+/* The settings come from the shelf or from options, not from both. */
 static bool take_settings(struct from_zero *z, struct why *why) {
     for (size_t i = 0; z->shelf_path && i < COUNT_OF(z->texts.of); i++) {
-        if (z->texts.of[i]) return misuse(why, "beside --shelf stand no settings and no length: the shelf has them");
+        if (z->texts.of[i]) return misuse(why, "with --shelf no settings and no length are given: the shelf has them");
     }
     return read_settings(&z->texts, &z->settings, why);
 }
@@ -36,7 +37,7 @@ static bool load_shelf(struct from_zero *z, struct why *why) {
     return sound_make(&z->zero, z->about.samples, why);
 }
 
-/* A rate and a length that no option gives are the WAV's. */
+/* Where no option gives a rate or a length, the WAV's is taken. */
 static bool take_length(struct from_zero *z, struct why *why) {
     size_t samples = z->wav.samples;
     if (!*setting_text(&z->texts, "--rate")) z->settings.rate = z->wav.rate;
@@ -46,7 +47,7 @@ static bool take_length(struct from_zero *z, struct why *why) {
     return sound_make(&z->zero, samples, why);
 }
 
-/* The render's samples as a WAV of these bits holds them. */
+/* The render's samples, rounded as a WAV of these bits has them. */
 static bool render(struct from_zero *z, struct why *why) {
     struct asked asked = {.old_path = z->score_path,
                           .old_score = &z->score,

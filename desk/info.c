@@ -9,7 +9,7 @@ static bool begins_with(const struct bytes *file, const char *mark, size_t len) 
     return file->len >= len && memcmp(file->at, mark, len) == 0;
 }
 
-/* A line of what a file is: a name for the eye and for grep, and the words that follow. */
+/* A line of what a file is: a name for a reader and for grep; the words follow. */
 static void put_name(const char *name) { printf("  %-9s ", name); }
 
 static void tell_records(const struct score *score) {
@@ -28,14 +28,14 @@ static void tell_length(size_t samples, uint32_t rate) {
     printf("\n");
 }
 
-/* What cannot be printed of its name is a '?'. */
+/* A byte of the chunk's name that cannot be printed is a '?'. */
 static void tell_chunk(const struct chunk *chunk, size_t at) {
     put_name("chunk");
     for (size_t i = 0; i < 4; i++) putchar(chunk->name[i] >= ' ' && chunk->name[i] <= '~' ? chunk->name[i] : '?');
     printf(", %zu bytes at byte %zu\n", chunk->size, at);
 }
 
-/* The chunks beside those that every WAV of the desk has. */
+/* The chunks other than those that every WAV of the desk has. */
 static void tell_chunks(const struct bytes *file) {
     struct chunk chunk;
     for (size_t at = WAV_CHUNKS; at < file->len && wav_chunk(file->at, file->len, at, &chunk); at = chunk.next) {
@@ -44,7 +44,7 @@ static void tell_chunks(const struct bytes *file) {
     }
 }
 
-/* The first sample that is no finite number; how many samples there are where all are. */
+/* The index of the first sample that is no finite number; the number of samples where all are finite. */
 static size_t first_wild(const double *values, size_t samples) {
     size_t at = 0;
     while (at < samples && isfinite(values[at])) at++;
@@ -66,7 +66,7 @@ static bool tell_values(const struct bytes *file, const struct wav *wav, struct 
     return true;
 }
 
-/* Why the desk does not go on from it, where it does not: that is no fault of the file. */
+/* Why the desk cannot go on from the WAV, where it cannot: that is no fault of the file. */
 static void tell_other(const struct bytes *file, const struct wav *wav) {
     struct why reason = {.status = DONE};
     if (wav->gain[0]) {
@@ -104,7 +104,7 @@ static bool tell_shelf(const char *path, const struct bytes *file, struct why *w
     put_settings(stdout, &about.settings);
     printf("\n");
     tell_length(about.samples, about.settings.rate);
-    put_name("marks");
+    put_name("sections");
     printf("%zu %s of %d words, one each %d samples\n", entries, counted(entries, "entry", "entries"), GAV_STATE_WORDS,
            GAV_MARK);
     put_name("WAV");
@@ -117,8 +117,7 @@ static bool tell_shelf(const char *path, const struct bytes *file, struct why *w
     return true;
 }
 
-/* A score as the desk holds one has room for a record more than it may have; a longer file is cut there, and refused.
- */
+/* struct score has room for one record more than a score may have; a longer file is cut there, and refused. */
 static bool tell_score(const char *path, const struct bytes *file, struct why *why) {
     struct score score = {.len = file->len < sizeof score.at ? file->len : sizeof score.at};
     if (score.len > 0) memcpy(score.at, file->at, score.len);
@@ -128,7 +127,7 @@ static bool tell_score(const char *path, const struct bytes *file, struct why *w
     return true;
 }
 
-/* What is left can be a text; where it is none, the file is none of all. */
+/* A file that is no WAV, shelf or score can be a text of a score; else it is none of these. */
 static bool tell_text(const char *path, const struct bytes *file, struct why *why) {
     struct score score;
     if (file->len > MOST_TEXT) return refuse(why, "it is no WAV, shelf or score, and too long for a text of one");
@@ -164,7 +163,7 @@ const struct verb info_verb = {
     .summary = "tells what a file is: a WAV, a shelf, a score, or a text of one",
     .help = "desk info FILE\n"
             "Tells what the file is, its kind first. Of a WAV: format, length, peak, and chunks of other programs;\n"
-            "of a shelf: version, settings, length, marks (entries) and the records of its score; of a score, or of\n"
+            "of a shelf: version, settings, length, sections and the records of its score; of a score, or of\n"
             "a text that `desk make` takes: its records. A file that is damaged, or none of these, ends with status\n"
             "1 and what is wrong. FILE may be - for standard input.\n",
     .run = run_info,

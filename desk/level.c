@@ -1,4 +1,4 @@
-/* How loud samples are: the peak, the level of a stretch, and how far a level is from another. */
+/* How loud samples are: the peak, the level of some samples, and how far a level is from another. */
 #include "desk.h"
 
 #include <math.h>
@@ -11,7 +11,7 @@ struct peak peak_of(const double *from, size_t samples) {
     return peak;
 }
 
-/* The root of the mean square. */
+/* The root mean square. */
 double level_of(const double *from, size_t samples) {
     double sum = 0;
     for (size_t i = 0; i < samples; i++) sum += from[i] * from[i];
@@ -20,7 +20,7 @@ double level_of(const double *from, size_t samples) {
 
 bool is_off_silence(double level, double reference) { return level > 0 && !(reference > 0); }
 
-/* The quotient is rounded, and would be a little below -100 of some references; no level is less than nothing. */
+/* The quotient is rounded, and would be a little below -100 for some references; no level is below 0. */
 double percent_off(double level, double reference) {
     if (!(reference > 0)) return level > 0 ? 100 : 0;
     double percent = 100 * (level - reference) / reference;
@@ -41,7 +41,7 @@ void put_peak(FILE *out, struct peak peak, uint32_t rate, bool whole) {
     }
     fprintf(out, "%.6g at sample %zu", peak.level, peak.at);
     if (rate > 0) fprintf(out, " (%.3f s)", (double)peak.at / rate);
-    /* Rounded up, so that a gain of so much less is enough. The lowest whole number is a step below -1, and no clip. */
+    /* Rounded up, so that a gain lower by that is enough. The lowest whole number, a step below -1, is not clipped. */
     if (peak.level > 1 && !whole) {
         fprintf(out, "; a player clips above 1, and this is %.2f dB above", ceil(2000 * log10(peak.level)) / 100);
     }

@@ -36,7 +36,7 @@ static const char *first_control(const char *word) {
     return word;
 }
 
-/* No name has a control character: a terminal would obey it, and a line of what is told would end there. */
+/* No argument has a control character: a terminal would obey it, and a printed line would end there. */
 static bool are_plain(char **words, struct why *why) {
     for (size_t i = 1; words[i]; i++) {
         const char *at = first_control(words[i]);
@@ -47,7 +47,7 @@ static bool are_plain(char **words, struct why *why) {
     return true;
 }
 
-/* What was printed has to arrive. */
+/* A write error of standard output is a refusal. */
 static bool flush_output(struct why *why) {
     errno = 0;
     if (fflush(stdout) == 0 && !ferror(stdout)) return true;
@@ -65,7 +65,7 @@ static int end(const char *verb, bool done, struct why *why) {
     return why->status;
 }
 
-/* `desk help`, `desk help VERB`, and the same by --help and -h. */
+/* `desk help`, `desk help VERB`, also as --help and -h. */
 static int help(char **given, struct why *why) {
     const struct verb *verb = given[0] ? find_verb(given[0]) : NULL;
     bool known = verb || !given[0] || is_help(given[0]);
@@ -86,7 +86,7 @@ static int run(const struct verb *verb, char **given, struct why *why) {
     return end(verb->name, true, why);
 }
 
-/* A stream that was closed gives its number to no file: nothing can be read from it, nor written. */
+/* Keeps the number of a standard stream that was closed from a file: such a stream can neither be read nor written. */
 static void keep_stream_numbers(void) {
     for (int fd = STDIN_FILENO; fd <= STDERR_FILENO; fd++) {
         if (fcntl(fd, F_GETFD) < 0 && open("/dev/null", fd == STDIN_FILENO ? O_WRONLY : O_RDONLY) < 0) return;
@@ -95,7 +95,7 @@ static void keep_stream_numbers(void) {
 
 int main(int argc, char **argv) {
     static struct why why = {.status = DONE};
-    /* A reader that goes away and a file that may not grow are errors of a write, and told as such. */
+    /* A reader that goes away and a file that may not grow are then errors of a write. */
     signal(SIGPIPE, SIG_IGN);
     signal(SIGXFSZ, SIG_IGN);
     keep_stream_numbers();

@@ -1,9 +1,9 @@
 /* The pad of the chart, and its edits in two ways.
 
-   The pad is a chord whose keys all go down at sample zero, while the level falls slowly. Each edit lets the highest
-   key go at a later place, so that the pitch falls to the key below it and the level falls on. Ours is the re-render.
-   The old way started each edit from a state that was some milliseconds past the cut. Both are held to a render of the
-   same score from sample zero, never to the render before. */
+   The pad is a chord whose keys all go down at sample zero, while the level falls slowly. Each edit lifts the highest
+   key that is still down, at a later position than the edit before, so that the pitch falls to the key below it and the
+   level falls on. Ours is the re-render. The old way started each edit from a state that was some milliseconds past the
+   cut. Both are compared with a render of the same score from sample zero, never with the render before. */
 #include "desk.h"
 
 #include <stdlib.h>
@@ -13,7 +13,8 @@
 #define KEY_STEP 2u
 enum { ON = 1, OFF = 2 };
 
-/* The scores before and after an edit; zero's and our sound; the old way's samples, and its state at its last cut. */
+/* The scores before and after an edit; the sounds of the render from zero, of ours and of the old way; `unheard` is for
+   samples that nobody hears; the old way's state, at its last cut. */
 struct pad_edit {
     const struct pad *pad;
     struct score before, after;
@@ -24,7 +25,7 @@ struct pad_edit {
 
 static unsigned key_of(unsigned number) { return LOWEST_KEY + KEY_STEP * number; }
 
-/* Where an edit puts its record, edits being counted from 1. */
+/* The position of the record that an edit adds; edits are counted from 1. */
 static size_t place_of(const struct pad *pad, unsigned edit) { return edit * (pad->samples / (pad->edits + 1)); }
 
 static void make_score(const struct pad *pad, unsigned edits, struct score *score) {
@@ -45,8 +46,8 @@ static bool judged(const struct pad_edit *e, uint64_t said, struct why *why) {
     return accepted(said, &asked, why);
 }
 
-/* The old way: the state at the cut, and from there on as late as the old way was, over a stretch with no records; that
-   state is then lent at the cut's own position. */
+/* The old way: the state at the cut is carried on, without records, for as many samples as the old way was late; the
+   state after them is then given at the cut's own position. */
 static bool edit_the_old_way(struct pad_edit *e, size_t cut, struct why *why) {
     const struct gav_settings *s = &e->pad->settings;
     double *unheard = e->unheard.at;

@@ -57,7 +57,7 @@ static bool read_play(char **given, struct play *p, struct why *why) {
     return read_score(p->path, &p->score, why) && read_length(&texts, &p->settings, &p->score, &p->samples, why);
 }
 
-/* A sound that is too long is refused before a sample of it is heard: no samples past the most are asked for. */
+/* A sound that is too long is refused before a sample of it is written, by a call for no samples past the most. */
 static bool fits(const struct play *p, struct why *why) {
     struct state state = voice_fresh();
     if (p->samples <= GAV_MOST_SAMPLES) return true;

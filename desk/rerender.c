@@ -3,8 +3,8 @@
 
 #include <stdlib.h>
 
-/* The files as they were read, and the shelf as it will be. foreign: sections behind the mark that were of another
-   sound, neither the old score's nor the new one's. */
+/* The files as they were read, and the shelf as it will be. foreign: how many of the sections rendered again were of
+   another sound, neither the old score's nor the new one's. */
 struct rerender {
     const char *new_path, *wav_path, *shelf_path;
     struct score after;
@@ -54,7 +54,8 @@ static bool rerender_sound(struct rerender *r, struct why *why) {
     return accepted(said, &asked, why);
 }
 
-/* What is not made anew has to be as the shelf says: all that stands before the mark, and all where nothing is made. */
+/* Every section that is not rendered again must have the shelf's sum: those before the first that is, or all where none
+   is. */
 static bool rest_is_kept(const struct rerender *r, struct why *why) {
     size_t mark = r->about.samples - r->count, stay = (mark + GAV_MARK - 1) / GAV_MARK, differ = 0, first = 0;
     for (size_t i = stay; i-- > 0;) {
@@ -72,7 +73,7 @@ static bool rest_is_kept(const struct rerender *r, struct why *why) {
                   differ, counted(differ, "differs", "differ"));
 }
 
-/* Puts the new samples of a section; whether what stood there was of another sound. */
+/* Writes the new samples of a section; whether the samples there were of another sound. */
 static bool replace_section(struct rerender *r, size_t section) {
     size_t first = section * GAV_MARK, samples = section_end(r->wav.samples, section) - first;
     uint64_t before = section_sum(&r->wav, r->wav_file.at, section);
@@ -80,7 +81,7 @@ static bool replace_section(struct rerender *r, size_t section) {
     return before != shelf_sum(r->shelf_file.at, section) && before != section_sum(&r->wav, r->wav_file.at, section);
 }
 
-/* What stands before the mark keeps its bytes; from there on the new samples stand. */
+/* Sections before the first that is rendered again keep their bytes; the others get the new samples. */
 static bool make_wav(struct rerender *r, struct why *why) {
     size_t first = (r->about.samples - r->count) / GAV_MARK;
     r->wav_file.len = wav_without_peak(r->wav_file.at, r->wav_file.len);
@@ -89,7 +90,7 @@ static bool make_wav(struct rerender *r, struct why *why) {
     return true;
 }
 
-/* An edit past the end changes no sample and no entry, but the score that the shelf is of. */
+/* An edit past the end changes no sample and no entry, only the score in the shelf. */
 static bool write_files(struct rerender *r, struct why *why) {
     struct bytes nothing = {.at = NULL};
     if (r->equal) return true;
@@ -102,7 +103,7 @@ static bool write_files(struct rerender *r, struct why *why) {
 static void tell_foreign(const struct rerender *r) {
     size_t sections = sections_of(r->about.samples) - (r->about.samples - r->count) / GAV_MARK;
     if (r->foreign == 0) return;
-    printf("%s: %zu of %zu %s behind the mark %s of another sound; %s the new score's now\n", r->wav_path, r->foreign,
+    printf("%s: %zu of %zu %s rendered again %s of another sound; %s the new score's now\n", r->wav_path, r->foreign,
            sections, counted(sections, "section", "sections"), counted(r->foreign, "was", "were"),
            counted(r->foreign, "it is", "they are"));
 }
@@ -160,15 +161,15 @@ const struct verb rerender_verb = {
     .summary = "renders an edited score into the WAV and the shelf of the old one",
     .help =
         "desk rerender NEW OUT.wav --shelf FILE\n"
-        "Brings OUT.wav and the shelf from the score that the shelf is of to the score NEW. Only samples from the "
-        "last\n"
-        "mark (every 4096 samples) at or before the first changed record on are rendered; the bytes before stay as\n"
-        "they came, and are compared with the shelf's sums of them. So both files are then what a render of NEW from\n"
-        "sample zero with the shelf's settings and length gives. The length stays: records of NEW at or past the end\n"
-        "are not heard, and are told. NEW may be - for standard input.\n"
+        "Brings OUT.wav and the shelf from the score that the shelf is of to the score NEW. A section is 4096\n"
+        "samples, counted from sample zero. Only the section that holds the first changed record and those after it\n"
+        "are rendered again; those before it stay as they came, and are compared with the shelf's sums of them. So\n"
+        "both files are then what a render of NEW from sample zero with the shelf's settings and length gives. The\n"
+        "length stays: records of NEW at or past the end are not heard, and are told. NEW may be - for standard\n"
+        "input.\n"
         "A shelf that is damaged, or of another length, rate or bits than the WAV, is named, and nothing is written.\n"
-        "A WAV that is not the shelf's is named where it differs before the mark, and nothing is written; what lies\n"
-        "behind the mark is made anew, and told where it was of another sound. Chunks of other programs stay, but for\n"
+        "A WAV that is not the shelf's is named where it differs in a section that stays, and nothing is written; a\n"
+        "section that is rendered again is told where it was of another sound. Chunks of other programs stay, but for\n"
         "PEAK, which new samples make wrong.\n",
     .run = run_rerender,
 };

@@ -1,4 +1,4 @@
-/* A score as the desk holds it, and what of it is not heard. */
+/* A score as the desk holds it, and its records past the end, which are not heard. */
 #include "desk.h"
 
 #include <string.h>

@@ -3,7 +3,7 @@
 
 #include <string.h>
 
-/* More words than any good line has are counted no further. */
+/* One word more than any good line has; more are not counted. */
 #define MOST_WORDS 5u
 
 struct word {
@@ -43,7 +43,7 @@ static bool is_word(struct word word, const char *text) {
     return word.len == strlen(text) && memcmp(word.at, text, word.len) == 0;
 }
 
-/* A word for a message: its first bytes, what cannot be printed as '?'. */
+/* A word for a message: its first 32 bytes, with '?' for a byte that cannot be printed. */
 static const char *shown(struct word word, char room[33]) {
     size_t len = word.len < 32 ? word.len : 32;
     for (size_t i = 0; i < len; i++) room[i] = word.at[i] >= ' ' && word.at[i] <= '~' ? (char)word.at[i] : '?';
@@ -57,7 +57,7 @@ static bool whole_number(struct word word, const char *what, const char *unit, u
     *value = 0;
     for (size_t i = 0; i < word.len; i++) {
         if (word.at[i] < '0' || word.at[i] > '9') {
-            return refuse(why, "\"%s\" is no whole number, where %s stands", shown(word, room), what);
+            return refuse(why, "\"%s\" is no whole number, where %s belongs", shown(word, room), what);
         }
         *value = 10 * *value + (uint64_t)(word.at[i] - '0');
         if (*value > most) {
@@ -94,9 +94,9 @@ static bool take_record(struct reading *reading, const struct word *words, struc
     return true;
 }
 
-/* The line `records N`, which stands before every record. */
+/* The line `records N`, which comes before every record. */
 static bool take_head(struct reading *reading, struct word count, const struct score *score, struct why *why) {
-    if (reading->head_line || score->len) return refuse(why, "`records` stands once, before every record");
+    if (reading->head_line || score->len) return refuse(why, "`records` is given once, before every record");
     reading->head_line = reading->line;
     return whole_number(count, "the number of records", "", MOST_RECORDS, &reading->head_count, why);
 }

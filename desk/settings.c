@@ -1,5 +1,5 @@
-/* The voice's settings: one table says which option reads each, where it stands in the struct and in a shelf's head,
-   and what is told of it. Then the length of a sound. */
+/* The voice's settings: one table has for each setting its option, its field of the struct, its word of a shelf's head
+   and the words for it. Then the length of a sound. */
 #include "desk.h"
 
 #include <math.h>
@@ -9,7 +9,7 @@
 enum kind { WHOLE, WAVE, NUMBER, LENGTH };
 
 /* An option with several fields has a row for each, one after the other, and its text has commas between them. The
-   length of a sound is an option beside the settings: it stands in neither the struct nor the head. */
+   length of a sound is an option beside the settings: it has no field of the struct and no word of the head. */
 struct setting {
     const char *option;
     enum kind kind;
@@ -44,7 +44,7 @@ static const struct setting rows[] = {
      .name = "duty",
      .unit = "",
      .form = "--duty D",
-     .help = "of a pulse: the part of a cycle that is high, 0 to 1 (0.5)"},
+     .help = "of a pulse: the fraction of a cycle that is high, 0 to 1 (0.5)"},
     {.option = "--adsr",
      .kind = NUMBER,
      FIELD(attack),
@@ -67,7 +67,7 @@ static const struct setting rows[] = {
 
 _Static_assert(ROWS <= MOST_SETTING_OPTIONS, "a text for each row");
 
-/* Names by code; a code that is not here is of no waveform. */
+/* Names by code; no waveform has a code that is not here. */
 static const struct wave {
     uint32_t code;
     const char *name;
@@ -151,7 +151,7 @@ static bool read_field(const struct setting *row, const char *text, struct gav_s
     } else if (row->kind == WAVE) {
         read = read_wave(row->option, text, &word, why);
     } else {
-        /* A unit stands behind its number with a blank. */
+        /* A unit begins with the blank that separates it from its number. */
         read = read_whole(row->option, row->unit + strspn(row->unit, " "), text, UINT32_MAX, &word, why);
     }
     if (read) set_field(row, settings, word);
@@ -196,7 +196,7 @@ bool read_settings(const struct setting_texts *texts, struct gav_settings *setti
     return true;
 }
 
-/* As few digits as give the number again. */
+/* As few digits as are read back as the same number. */
 static void put_number(FILE *out, double value) {
     char text[32];
     int digits = 1;
@@ -260,13 +260,13 @@ bool get_setting_words(const uint8_t *head, struct gav_settings *settings, struc
     return true;
 }
 
-/* A number of samples, rounded up; one too many where it is beyond counting. */
+/* A number of samples, rounded up; GAV_MOST_SAMPLES + 1 where it is above GAV_MOST_SAMPLES. */
 static size_t whole_samples(double samples) {
     return samples <= GAV_MOST_SAMPLES ? (size_t)ceil(samples) : (size_t)GAV_MOST_SAMPLES + 1;
 }
 
-/* A release after the last record, its time as the voice clamps it. None of a score without records, or of one that is
-   refused: that is what is to be told of it, and not its length. */
+/* The last record's position and a release, its time as the voice clamps it. 0 for a score without records, or for one
+   that is refused: the refusal is told, and not the length. */
 static size_t natural_length(const struct gav_settings *settings, const struct score *score) {
     size_t records = score->len / RECORD_BYTES;
     if (records == 0 || gav_check_score(score->at, score->len) != 0) return 0;

@@ -10,9 +10,10 @@
        6        words of an entry
        7        words beside an entry, 1
        8 to 31  the settings, each at the word that settings.c gives it; the others are 0
-       32 ..    for each section of 4,096 samples begun: the entry, then the sum of the section's bytes in the WAV
+       32 ..    for each section (4,096 samples, the last perhaps fewer): the entry, then the sum of the section's bytes
+                in the WAV
        then     the score, and zeros to a whole word
-       last     the sum of all the bytes before it, by which damage is seen */
+       last     the sum of all the bytes before it, which shows damage */
 #include "desk.h"
 
 #include <stdlib.h>
@@ -32,7 +33,7 @@ size_t section_end(size_t samples, size_t section) {
     return samples - first < GAV_MARK ? samples : first + GAV_MARK;
 }
 
-/* Where the words of a section stand, and where the score does. */
+/* The byte at which a section's words begin, and that of the score. */
 static size_t section_at(size_t section) { return HEAD + 8 * SECTION_WORDS * section; }
 
 static size_t score_at(size_t samples) { return section_at(sections_of(samples)); }
@@ -82,7 +83,7 @@ bool shelf_bytes(const struct shelf_file *about, const struct sound *sound, cons
 
 bool shelf_begins(const uint8_t *file, size_t len) { return len >= 8 && memcmp(file, magic, 8) == 0; }
 
-/* A shelf of another version is told as such whatever its sum, since that version may have another sum. */
+/* Another version is told whatever the shelf's sum is, since that version may have another sum. */
 static bool look_at_version(uint64_t layout, struct why *why) {
     if (layout == SHELF_LAYOUT) return true;
     return refuse(
@@ -92,7 +93,7 @@ static bool look_at_version(uint64_t layout, struct why *why) {
         layout > SHELF_LAYOUT ? "a later" : "an earlier", (unsigned long long)layout, SHELF_LAYOUT);
 }
 
-/* Its own marks: the magic word, the length, the version, the sum, and then the voice's version. */
+/* What shows a whole shelf of this desk: the magic word, the version, the length, the sum, then the voice's version. */
 static bool look_at_marks(const uint8_t *file, size_t len, struct why *why) {
     if (!shelf_begins(file, len)) {
         return refuse(why, "it is no shelf of the desk: it does not begin with %s", magic);
@@ -101,8 +102,7 @@ static bool look_at_marks(const uint8_t *file, size_t len, struct why *why) {
     if (len > SHELF_MOST) return refuse(why, "it is damaged: it is longer than %zu bytes", (size_t)SHELF_MOST);
     if (len < HEAD + 8) return refuse(why, "it is damaged: it is cut short after %zu bytes", len);
     if (sum_of(file, len - 8) != get_u64(file + len - 8)) {
-        return refuse(why, "it is damaged or cut short: the sum of its %zu bytes is not the one that stands at its end",
-                      len);
+        return refuse(why, "it is damaged or cut short: the sum of its %zu bytes is not the one at its end", len);
     }
     uint64_t voice = get_u64(file + 8 * VOICE);
     if (voice == gav_version()) return true;

@@ -1,4 +1,4 @@
-/* A drawing of levels: how many percent they are off, in panels side by side that share one range of percents. */
+/* A drawing of how many percent levels are off, in panels side by side that share one range of percents. */
 #include "desk.h"
 
 #include <math.h>
@@ -7,10 +7,10 @@
 #define HEIGHT 200.0
 /* A little room at a panel's top. */
 #define HEADROOM 12.0
-/* A level cannot be less than nothing. */
+/* No level is below 0. */
 #define LOWEST_PERCENT (-100.0)
 
-/* The percents that a drawing shows, in whole steps; nought is one of them. */
+/* The percents that a drawing shows, in whole steps from 0 on; 0 is within the range. */
 struct range {
     double highest, lowest, step;
 };
@@ -50,7 +50,7 @@ static struct range range_of(const struct drawing *drawing) {
     return range;
 }
 
-/* A text that may hold a path, whose bytes may be anything: what is not plain there is drawn as '?'. */
+/* A text that may hold a path, whose bytes may be anything: a byte that is no printable ASCII is drawn as '?'. */
 static void put_text(FILE *out, const char *text) {
     for (; *text; text++) {
         if (*text == '&' || *text == '<' || *text == '>') {

@@ -26,7 +26,7 @@ struct found {
 
 static double seconds_at(const struct found *f, size_t sample) { return (double)sample / f->beside.settings.rate; }
 
-/* A difference that is no number is larger than all. */
+/* A NaN counts as larger than every other difference. */
 static bool is_larger(double difference, double than) {
     return !isnan(than) && (isnan(difference) || difference > than);
 }
@@ -44,7 +44,7 @@ static void compare(struct found *f) {
     }
 }
 
-/* How far the level of so many samples from one on is from that of the render, in words. */
+/* How far the level of `samples` samples from `first` on is from that of the render, in words. */
 static const char *level_words(const struct found *f, size_t first, size_t samples, char room[OFF_ROOM]) {
     return off_words(level_of(f->beside.held + first, samples), level_of(f->beside.zero.at + first, samples), room);
 }
@@ -73,7 +73,7 @@ static void tell_samples(struct found *f) {
                "in the section of the first difference");
 }
 
-/* What the WAV's head says, and the shelf or the options say otherwise. */
+/* Where the WAV's head and the shelf or the options disagree. */
 static void tell_head(struct found *f) {
     const struct from_zero *z = &f->beside;
     const char *by = z->shelf_path ? z->shelf_path : "an option";
@@ -88,7 +88,7 @@ static void tell_head(struct found *f) {
     }
 }
 
-/* The first record in which two scores part. */
+/* The index of the first record in which two scores differ. */
 static size_t part_at(const struct score *one, const struct score *other) {
     size_t at = 0;
     while (at < one->len && at < other->len && one->at[at] == other->at[at]) at++;

@@ -4,7 +4,7 @@
 #include <stdlib.h>
 #include <string.h>
 
-/* Zeros for the samples and the shelf. At most one sample too many is asked for, and the library refuses that. */
+/* Zeros for the samples and the shelf. At most GAV_MOST_SAMPLES + 1 are asked for, which the library refuses. */
 bool sound_make(struct sound *sound, size_t samples, struct why *why) {
     size_t words = gav_shelf_words(samples);
     *sound = (struct sound){.samples = samples, .words = words};

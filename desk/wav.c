@@ -27,7 +27,7 @@ static uint8_t *put_two(uint8_t *at, uint32_t low, uint32_t high) {
     return at + 4;
 }
 
-/* A fmt of floats has two bytes more, which say that none follow. */
+/* A fmt chunk of floats has two bytes more, which say that no extension follows. */
 static uint8_t *put_fmt(uint8_t *at, const struct wav *wav) {
     uint32_t frame = wav->bits / 8;
     at = put_chunk(at, "fmt ", is_float(wav->bits) ? 18 : 16);
@@ -71,7 +71,7 @@ size_t wav_head(const struct wav *wav, uint8_t head[WAV_HEAD_MOST]) {
 /* The whole number that is the level 1. */
 static double full_scale(unsigned bits) { return bits == 16 ? 32767 : 8388607; }
 
-/* The bits of a sample in a WAV; what is above 1 is cut off there in whole numbers, which have no more. */
+/* The bits of a sample in a WAV; as a whole number a sample beyond -1 or 1 is cut off there. */
 static uint64_t word_of(unsigned bits, double value) {
     uint32_t word;
     if (bits == 64) return bits_of(value);

@@ -5,7 +5,7 @@
 #include <stdlib.h>
 #include <string.h>
 
-/* What stands for the middle of words that are too long: the reason stands at their end. */
+/* Written in place of the middle of a text that is too long: the reason is at its end. */
 #define LEFT_OUT " [..] "
 
 /* Keeps words, as they are or without their middle. */

@@ -1,7 +1,7 @@
 /* A live host in C: keys are played while the sound is made, in buffers of the odd lengths that a driver asks for. The
- * keys come as text on standard input, as `desk list` prints a score, and each is known to the voice only from the
- * buffer on that it falls into. Writes the samples to standard output as they stand in memory, one channel of doubles.
- * They are those of one render of the whole score.
+ * keys come as text on standard input, as `desk list` prints a score, and the voice gets each key only with the buffer
+ * that the key falls into. Writes the samples to standard output as they are in memory, one channel of doubles. The
+ * samples are those of one render of the whole score.
  *
  *     cc -O2 examples/live.c $(pkg-config --cflags --libs gavberin) -o live
  *     ./live 288000 <tune.txt >tune.f64
@@ -15,7 +15,7 @@
 #include <string.h>
 
 #define MOST_KEYS 4096
-#define LONGEST 512 /* samples of a buffer at most */
+#define LONGEST 512 /* the most samples of a buffer */
 #define LEN(list) (sizeof(list) / sizeof *(list))
 
 struct key {
@@ -32,7 +32,7 @@ struct live {
     size_t len;
 };
 
-/* A key becomes the next record of the score. There is room: no more than MOST_KEYS are read. */
+/* A key becomes the next record of the score, which has room: at most MOST_KEYS keys are read. */
 static void press(struct live *live, const struct key *key) {
     uint8_t *record = live->score + live->len;
     record[0] = 0x56;
@@ -53,7 +53,7 @@ static uint64_t fill(struct live *live, double *buffer, size_t n) {
     return said;
 }
 
-/* What is too large for a byte is as large as a byte can be, and the library refuses it. */
+/* A value above 255 becomes 255, which the library refuses. */
 static uint8_t byte_of(unsigned value) { return (uint8_t)(value < 255 ? value : 255); }
 
 /* The keys of a text; a line that is no key is passed over. */

@@ -1,5 +1,5 @@
 /* A host in C: renders the score on standard input from sample zero, and writes its samples to standard output as they
- * stand in memory, one channel of doubles.
+ * are in memory, one channel of doubles.
  *
  *     cc -O2 examples/render.c $(pkg-config --cflags --libs gavberin) -o render
  *     ./render 288000 <tune.score >tune.f64
@@ -11,7 +11,7 @@
 #include <stdio.h>
 #include <stdlib.h>
 
-/* A byte more than a score may have, so that the library refuses what is too long. */
+/* One byte more than a score may have, so that the library refuses a longer file. */
 static uint8_t score[40961];
 
 int main(int argc, char **argv) {

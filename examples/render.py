@@ -1,6 +1,6 @@
 #!/usr/bin/env python3
 """A host in Python: renders the score on standard input from sample zero, and writes its samples to standard output as
-they stand in memory, one channel of doubles.
+they are in memory, one channel of doubles.
 
     examples/render.py 288000 <tune.score >tune.f64
 

@@ -1,35 +1,39 @@
-/* Gavberin for C and C++: a proved synthesiser voice with one oscillator, an envelope and held notes. What each call does is
- * stated and proved in crates/desk; docs/INDEX.md is the index. `make lib` builds build/libgavberin.a and
- * build/libgavberin.so, `make install` puts them where a compiler finds them; examples/ has three hosts. Only gav_words and
- * what is inline below are plain C and not proved.
+/* Gavberin for C and C++: a proved synthesiser voice with one oscillator, an envelope and held notes. What each call
+ * does is stated and proved in crates/desk; docs/INDEX.md is the index. `make lib` builds build/libgavberin.a and
+ * build/libgavberin.so, `make install` puts them where a compiler finds them; examples/ has three hosts. Only gav_words
+ * and what is inline below are plain C and not proved.
  *
  * Compile a host with -ffp-contract=off, which keeps its own arithmetic on samples as it is written (on Arm a compiler
  * fuses by default, and other bits come out), and link it with the library and -lm.
  *
- * The answer of a call is one uint64_t: bits 0 to 7 its number, 8 to 31 its place, 32 to 63 its count (gav_number, gav_place
- * and gav_count read them, gav_words has words for it). Number 0, GAV_DONE, is done. A refusal has count 0 and changes no
- * buffer. The numbers are those of enum gav_answer below. Where several hold, the first in this order is given: 6, 7, the
- * old or only score, the new score, then 8 or 10; 9 after 6. In a score 1 comes first, then record by record 2, 3, 4, 5.
+ * The answer of a call is one uint64_t: bits 0 to 7 its number, 8 to 31 its place, 32 to 63 its count (gav_number,
+ * gav_place and gav_count read them, gav_words has words for it). Number 0, GAV_DONE, is done. A refusal has count 0
+ * and changes no buffer. The numbers are those of enum gav_answer below. Where several hold, the first in this order is
+ * given: 6, 7, the old or only score, the new score, then 8 or 10; 9 after 6. In a score 1 comes first, then record by
+ * record 2, 3, 4, 5.
  *
  * The caller's duties, which no call can test:
  *  - a pointer leads to as many elements as its length says, and is null only where that length is 0;
  *  - it is aligned to its elements: double and uint64_t to 8 bytes;
- *  - a buffer that is written (one whose pointer is not const) overlaps no other of the same call. Those that are only read
- *    may overlap: the old and the new score of a re-render may be one buffer;
+ *  - a buffer that is written (one whose pointer is not const) overlaps no other of the same call. Those that are only
+ *    read may overlap: the old and the new score of a re-render may be one buffer;
  *  - nothing else writes to a buffer during a call, and nothing else reads one that is written;
  *  - the processor's arithmetic is as C starts it: it rounds to nearest, and keeps numbers near 0 as they are.
  *
- * What a call takes: nothing from the heap, no system call, at most 64 KB of stack (measured: 40 KB, and 7 KB but for a sine
- * of 1,024 samples or more), more only where a call says so, and time in proportion to the records and samples that it is
- * given. Calls keep nothing between them, so any number of threads may call at once, on buffers of their own. So a call may
- * stand in the callback of a sound driver.
+ * What a call takes: nothing from the heap, no system call, at most 64 KB of stack (measured: 40 KB, and 7 KB but for a
+ * sine of 1,024 samples or more), more only where a call says so, and time in proportion to the records and samples
+ * that it is given. Calls keep nothing between them, so any number of threads may call at once, on buffers of their
+ * own, and the callback of a sound driver may call.
  *
- * A NaN that stands in a lent buffer of doubles and that a call leaves as it came is proved to be a NaN afterwards, and not
- * which one: the proof's account of floats has one NaN. That its sign and payload stay too is tested, not proved.
+ * A NaN in a lent buffer of doubles that a call leaves as it came is proved to be a NaN afterwards, and not which one:
+ * the proof's account of floats has one NaN. That its sign and payload stay too is tested, not proved.
  *
- * A score is records of 10 bytes: 56 4E (hex), position (4 bytes, low byte first, in samples), kind (1 on, 2 off, 3 reset),
- * note (0 to 127), velocity (0 to 127), 00. Positions never fall, a reset has note and velocity 0, and there are at most
- * 4,096 records.
+ * A score is records of 10 bytes: 56 4E (hex), position (4 bytes, low byte first, in samples), kind (1 on, 2 off, 3
+ * reset), note (0 to 127), velocity (0 to 127), 00. Positions never fall, a reset has note and velocity 0, and there
+ * are at most 4,096 records.
+ *
+ * An output is divided into sections of 4,096 samples, the last of which may be short: section k starts at sample
+ * 4096k. The shelf of an output has an entry for each section: the state before the section's first sample.
  *
  * A state, and an entry of a shelf, is GAV_STATE_WORDS words, a float as its 64 bits (IEEE 754 binary64):
  *    0       phase of the oscillator, a float: radians, 0 or more and below 1,000
@@ -37,8 +41,8 @@
  *    2       level of the envelope, a float: 0 to 1
  *    3       time in the stage, a float: seconds, 0 to 11
  *    4       level that the release began from, a float: 0 to 1
- *    5       bits 0 to 7 the note that sounds, 255 for none; bit 8 the gate, 1 exactly where a note sounds; bits 9 to 15
- *            how many keys are held, 0 to 16; bits 16 to 63 how many records of the score have acted
+ *    5       bits 0 to 7 the note that sounds, 255 for none; bit 8 the gate, 1 exactly where a note sounds; bits 9 to
+ *            15 how many keys are held, 0 to 16; bits 16 to 63 how many records of the score have acted
  *    6       frequency, a float: Hz, above 0 and at most 12,544
  *    7       velocity, a float: 0 to 1
  *    8..11   the held keys, oldest first, four a word from bit 0 up, 16 bits each: note in the lower 8, velocity in the
@@ -56,11 +60,11 @@ extern "C" {
 #endif
 
 /* The version of what this header declares; gav_version gives the library's. It grows with every change of a call's
- * arguments or of the number of words of a state, so a host and a library of one version fit each other. The shared library
- * is named for it: libgavberin.so.1. */
+ * arguments or of the number of words of a state, so a host and a library of one version fit each other. The shared
+ * library's name carries the version: libgavberin.so.1. */
 #define GAV_VERSION 1
 
-/* Codes of a waveform. */
+/* The codes of the waveforms. */
 #define GAV_SINE 0
 #define GAV_SQUARE 1
 #define GAV_SAWTOOTH 2
@@ -68,15 +72,15 @@ extern "C" {
 #define GAV_PULSE 4
 
 #define GAV_STATE_WORDS 12         /* words of a state, and of an entry of a shelf */
-#define GAV_MARK 4096              /* samples from one entry of a shelf to the next */
-#define GAV_MOST_SAMPLES 16777216  /* samples of an output at most */
+#define GAV_MARK 4096              /* samples of a section: from one entry of a shelf to the next */
+#define GAV_MOST_SAMPLES 16777216  /* the most samples of an output */
 #define GAV_LIST_ROOM 102413       /* bytes that every listing fits in */
 
-/* The numbers of an answer. The place is the record's index for those of a record, else 0. */
+/* The numbers of an answer. The place is the record's index where the number is of a record, else 0. */
 enum gav_answer {
     GAV_DONE = 0,              /* the count is what the call says below */
     GAV_SCORE_LENGTH = 1,      /* the score's length is no multiple of 10, or it has more than 4,096 records */
-    GAV_SCORE_MARK = 2,        /* a record of the score: it does not begin with 56 4E (hex) */
+    GAV_SCORE_MARK = 2,        /* a record of the score: its mark, the first two bytes, is not 56 4E (hex) */
     GAV_SCORE_KIND = 3,        /* a record of the score: its kind is not 1, 2 or 3 */
     GAV_SCORE_FIELD = 4,       /* a record of the score: a field is out of range, or the last byte is not 0 */
     GAV_SCORE_ORDER = 5,       /* a record of the score: its position is below that of the record before */
@@ -98,14 +102,14 @@ static inline unsigned gav_number(uint64_t answer) { return (unsigned)(answer & 
 static inline uint32_t gav_place(uint64_t answer) { return (uint32_t)(answer >> 8 & 0xffffff); }
 static inline uint32_t gav_count(uint64_t answer) { return (uint32_t)(answer >> 32); }
 
-/* What an answer says, in English, for a person who is told "refused NUMBER at place PLACE: WORDS". Any answer has words,
- * one that no call gives too. They stay where they are, and end with a 0 byte. Not proved. */
+/* What an answer says, in English, for a person who is told "refused NUMBER at place PLACE: WORDS". Any answer has
+ * words, even one that no call gives. The words end with a 0 byte and need not be freed. Not proved. */
 const char *gav_words(uint64_t answer);
 
 /* GAV_VERSION of the library that is linked. */
 uint32_t gav_version(void);
 
-/* The words of the shelf for an output of n samples: an entry for every 4,096 begun. */
+/* The words of the shelf for an output of n samples: an entry for each section. */
 static inline size_t gav_shelf_words(size_t n) { return (n / GAV_MARK + (n % GAV_MARK != 0)) * GAV_STATE_WORDS; }
 
 /* Whether a score is accepted: 0, or 1 to 5 with the place. The count is 0.
@@ -117,15 +121,15 @@ uint64_t gav_check_score(const uint8_t *score, size_t score_len);
  * code:  GAV_SINE to GAV_PULSE, 0 to 4; above is 6
  * phase: in cycles, 0 to 1; else 9
  * dt:    cycles a sample, 0 to 4, for a sine too; else 9
- * duty:  the part of a cycle that a pulse is high, 0 to 1; else 6. Read for GAV_PULSE alone */
+ * duty:  the fraction of a cycle that a pulse is high, 0 to 1; else 6. Read for GAV_PULSE alone */
 double gav_sample(uint32_t code, double phase, double dt, double duty);
 uint64_t gav_sample_says(uint32_t code, double phase, double dt, double duty);
 
-/* The settings, which the three calls below take first, one by one and in this order. A host has them in a struct, and calls
- * gav_render_with, gav_rerender_with and gav_continue_with, which stand below each call.
+/* The settings, which the three calls below take first, one by one and in this order. A host that keeps the settings in
+ * a struct calls gav_render_with, gav_rerender_with and gav_continue_with, each of which follows its call.
  * rate:    samples a second, 8,000 to 192,000; else 6
  * code:    GAV_SINE to GAV_PULSE, 0 to 4; above is 6
- * duty:    the part of a cycle that a pulse is high, 0 to 1; else 6. Read for GAV_PULSE alone
+ * duty:    the fraction of a cycle that a pulse is high, 0 to 1; else 6. Read for GAV_PULSE alone
  * attack, decay, release: seconds; any number, taken as at least 0.001 and at most 10. A NaN is 6
  * sustain: a level; any number, taken as at least 0 and at most 1. A NaN is 6 */
 struct gav_settings {
@@ -133,15 +137,15 @@ struct gav_settings {
     double duty, attack, decay, sustain, release;
 };
 
-/* What the desk takes where no option is given: struct gav_settings settings = GAV_SETTINGS_DEFAULT; */
+/* The settings that the desk takes where no option is given: struct gav_settings settings = GAV_SETTINGS_DEFAULT; */
 #define GAV_SETTINGS_DEFAULT {48000, GAV_SAWTOOTH, 0.5, 0.01, 0.1, 0.7, 0.3}
 
-/* Renders a score: n samples from sample zero, and their shelf. The count is n. It leaves no end state: for that use
- * gav_continue.
+/* Renders a score: n samples from sample zero, and their shelf. The count is n. The end state is not given: for that
+ * use gav_continue.
  * score, score_len: the score; records at n or later are legal
  * out, n:           the samples, 0 to GAV_MOST_SAMPLES; else 7. All are written
- * shelf, words:     gav_shelf_words(n) words exactly; else 7. All are written: entry k, from word GAV_STATE_WORDS * k on, is
- *                   the state before sample 4096k */
+ * shelf, words:     gav_shelf_words(n) words exactly; else 7. All are written: entry k, from word GAV_STATE_WORDS * k
+ *                   on, is the state before sample 4096k */
 uint64_t gav_render(uint32_t rate, uint32_t code, double duty, double attack, double decay, double sustain, double release,
                     const uint8_t *score, size_t score_len, double *out, size_t n, uint64_t *shelf, size_t words);
 
@@ -151,12 +155,13 @@ static inline uint64_t gav_render_with(const struct gav_settings *s, const uint8
                       shelf, words);
 }
 
-/* Makes the output and shelf of an old score those of a new one, under the same settings: it starts at the last mark at or
- * before the first changed record, and writes from there to the end. The count is the samples from that mark on; 0, and
- * nothing written, where the scores are equal or the first change lies at n or later.
+/* Makes the output and shelf of an old score those of a new one, under the same settings: starts at the section that
+ * holds the position of the first changed record, and writes from the start of that section to the end. The count is
+ * the samples written; 0, and nothing written, where the scores are equal or the first change lies at n or later.
  * old, old_len:   the score that out and shelf were rendered of
  * new_, new_len:  the score to render now; it may be the same buffer
- * out, n; shelf, words: as for gav_render, holding what it or the last gav_rerender left. What lies before the mark stays */
+ * out, n; shelf, words: as for gav_render, holding what gav_render or the last gav_rerender left. What lies before the
+ *                       section stays */
 uint64_t gav_rerender(uint32_t rate, uint32_t code, double duty, double attack, double decay, double sustain, double release,
                       const uint8_t *old, size_t old_len, const uint8_t *new_, size_t new_len, double *out, size_t n,
                       uint64_t *shelf, size_t words);
@@ -168,11 +173,12 @@ static inline uint64_t gav_rerender_with(const struct gav_settings *s, const uin
                         new_len, out, n, shelf, words);
 }
 
-/* Renders the next part, from a state. Parts of any lengths, one after the other from gav_fresh at position 0, under the same
- * settings and a score that grows only at its end, are the samples of one gav_render of the last score; a record that is
- * added below the position already reached is 10. The count is n.
+/* Renders the next part, from a state. Parts of any lengths, one after the other from gav_fresh at position 0, under
+ * the same settings and a score that grows only at its end, are the samples of one gav_render of the last score; a
+ * record that is added below the position already reached is 10. The count is n.
  * score, score_len:   the score so far
- * state, state_words: GAV_STATE_WORDS words; else 10. The state before the sample at position; done, the one after the part
+ * state, state_words: GAV_STATE_WORDS words; else 10. The state before the sample at position; when done, the state
+ *                     after the part
  * position:           the sample that part begins with
  * part, n:            the samples; position + n is at most GAV_MOST_SAMPLES, else 7. All are written */
 uint64_t gav_continue(uint32_t rate, uint32_t code, double duty, double attack, double decay, double sustain, double release,
@@ -189,8 +195,9 @@ static inline uint64_t gav_continue_with(const struct gav_settings *s, const uin
  * state, state_words: GAV_STATE_WORDS words; else 9. All are written */
 uint64_t gav_fresh(uint64_t *state, size_t state_words);
 
-/* Writes what the lister prints for a score, in ASCII, with no 0 at its end: `records`, then a line for each record; or, for a
- * score that is not accepted, `refused`, its number and place. Both are done; the count is the bytes of the text.
+/* Writes what the lister prints for a score, in ASCII, with no 0 at its end: `records` and their number, then a line
+ * for each record; or, for a score that is not accepted, `refused`, its number and place. Both are done; the count is
+ * the bytes of the text.
  * score, score_len: the bytes of the score; any number of them
  * text, text_len:   GAV_LIST_ROOM bytes or more; else 7. Those after the text stay as they came */
 uint64_t gav_list(const uint8_t *score, size_t score_len, uint8_t *text, size_t text_len);

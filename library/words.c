@@ -1,9 +1,8 @@
-/* What an answer says, in words: the part of the library that is plain C, and not proved. The words stand after
- * "refused NUMBER at place PLACE: ", and before what a host can tell of the record, the settings or the files that it
- * lent. */
+/* What an answer says, in words: this file of the library is plain C, and not proved. A host prints the words after
+ * "refused NUMBER at place PLACE: ", and before what it can tell of the record, the settings or the files. */
 #include "gavberin.h"
 
-/* What a score is refused for is said alike of an old or only score and of a new one. */
+/* The words for a score's faults are shared by the old or only score and the new one. */
 #define LENGTH "'s length is no multiple of 10 bytes, or above 4,096 records"
 #define MARK " does not begin with the mark 56 4E (hex)"
 #define KIND " is of a kind that is not 1 (on), 2 (off) or 3 (reset)"

@@ -1,11 +1,11 @@
 #!/usr/bin/env python3
 """The rows once more, from document 01's steps, in exact fractions: oracle/again.py PART FILE [PART FILE ..].
 
-Every operation is done without rounding and then rounded once by `rounded` below, so neither the processor's floats
-nor the original's text has a part in it. Says how many rows agree, exits 1 if one does not. The parts are the leaves:
-phase, polyblep, envelope, waveform and voice, whose pitches are those of the definition's list, and sine, which is
-measured, and whose rows must besides be sines by Python's library. Blocks and renders are held to the reference voice
-(tests/reference).
+Every operation is done without rounding and then rounded once by `rounded` below, so the result depends neither on the
+processor's floats nor on the original's text. Says how many rows agree, exits 1 if one does not. The parts are the
+leaves: phase, polyblep, envelope, waveform and voice, whose pitches are those of the definition's list, and sine, which
+is measured, and whose rows must also be sines by Python's library. Blocks and renders are compared with the reference
+voice (tests/reference).
 """
 
 import functools

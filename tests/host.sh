@@ -1,6 +1,6 @@
 # shellcheck shell=sh
-# What the tests that run a C host of the library share; a test reads it by `.`, at the root of the repository. It ends the
-# test where a tool is missing, builds the library, and makes a folder $work, which is gone at the end.
+# What the tests that run a C host of the library share; a test reads it by `.`, at the root of the repository. It ends
+# the test where a tool is missing, builds the library, and makes a folder $work, which is gone at the end.
 command -v rt >/dev/null || {
     echo "rt is not on the PATH: install the Rattle kit"
     exit 77

@@ -1,6 +1,6 @@
-/* A library that its statements allow, since their account of floats has one NaN, and that a host can tell: what a call
- * leaves as it came is afterwards that one NaN wherever it was any. Linked into tests/the-library-links.c with --wrap
- * for all three calls; SPOILT is the case in which it does so. */
+/* A library that the statements allow, since their account of floats has one NaN, and that a host can tell: every NaN
+ * that a call leaves as it came is afterwards that one NaN. Linked into tests/the-library-links.c with --wrap for all
+ * three calls; SPOILT is the case in which it does so. */
 #include "gavberin.h"
 
 enum { RENDER_REFUSED, RERENDER_REFUSED, BEFORE_THE_MARK, CONTINUE_REFUSED };

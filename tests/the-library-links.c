@@ -1,6 +1,6 @@
-/* A host of the library: calls each function of gavberin.h on document 01's example score and on what is refused, and holds
- * every answer to 01's table, and every lent buffer to what it says of them. The proof's account of floats has one NaN, so
- * that only a test can tell whether a NaN in a lent buffer keeps its bits: samples are NaNs of many kinds before a call. */
+/* A host of the library: calls each function of gavberin.h on document 01's example score and on input that is refused,
+ * and compares every answer and every lent buffer with what 01 says. The proof's account of floats has one NaN, so that
+ * only a test can tell whether a NaN in a lent buffer keeps its bits: samples are NaNs of many kinds before a call. */
 #include "gavberin.h"
 
 #include <math.h>
@@ -40,7 +40,7 @@ static void hold(int ok, const char *what, int line) {
 }
 #define HOLD(fact) hold(fact, #fact, __LINE__)
 
-/* The same bytes; -0.0 and +0.0 differ. */
+/* Compared by bytes: -0.0 and +0.0 differ. */
 #define SAME(a, b) (memcmp(a, b, sizeof(a)) == 0)
 
 static uint64_t says(unsigned number, uint32_t place, uint32_t count) {
@@ -53,7 +53,7 @@ static uint64_t bits(double x) {
     return word;
 }
 
-/* A NaN for each i, its bits put where they stand: either sign, quiet and signalling, payloads from 1 to all bits. */
+/* A NaN for each i, written as bits: either sign, quiet and signalling, payloads from 1 to all bits. */
 static void put_nan(double *at, size_t i) {
     static const uint64_t kinds[] = {0x7ff8000000000000, 0x7ff0000000000001, 0x7fffffffffffffff, 0x7ff7ffffffffffff};
     uint64_t payload = (i * 0x9e3779b97f4a7c15 >> 12) | 1;
@@ -106,7 +106,7 @@ static void scores(void) {
     HOLD(gav_check_score(falling, LEN(falling)) == says(5, 1, 0));
 }
 
-/* 01's marks (f) and (g), the top of a sine, and a pulse in its low part; then what is refused, with +0. */
+/* 01's worked examples (f) and (g), the top of a sine, and a pulse while it is low; then refusals, with +0. */
 static void samples(void) {
     HOLD(gav_sample(GAV_SAWTOOTH, 0.125, 0.25, NAN) == -0.5 && gav_sample_says(GAV_SAWTOOTH, 0.125, 0.25, NAN) == 0);
     HOLD(gav_sample(GAV_SQUARE, 0, 0.25, 2) == 0 && gav_sample_says(GAV_SQUARE, 0, 0.25, 2) == 0);
@@ -132,7 +132,7 @@ static void renders(void) {
 
     HOLD(gav_render(SETTINGS, NULL, 0, NULL, 0, NULL, 0) == 0);
     HOLD(gav_render(SETTINGS, example, 20, out, N, shelf, 24) == says(0, 0, N));
-    /* entry 0 is the fresh state; at entry 1 both records have acted, and the note's pitch and velocity stand */
+    /* entry 0 is the fresh state; in entry 1 both records have acted, and the note's pitch and velocity are kept */
     HOLD(shelf[0] == 0 && shelf[1] == 0 && shelf[5] == 255 && shelf[6] == bits(440.0) && shelf[7] == 0);
     HOLD(shelf[12 + 1] == 4 && shelf[12 + 5] == 255 + 2 * 65536 && shelf[12 + 6] == bits(440.0) && shelf[12 + 7] == bits(1.0));
     /* the attack begins at level 0; a sawtooth at phase 0 and every sample before the release ends is no silence */
@@ -161,7 +161,7 @@ static void rerenders(void) {
     memcpy(out, played, sizeof out);
     memcpy(out_before, played, sizeof out);
 
-    /* from the mark at 4,096 on it is the new score's render; what lies before stays, here NaNs of every kind */
+    /* from section 1 on, sample 4,096, it is the new score's render; what lies before stays, here NaNs of every kind */
     put_nans(out, GAV_MARK);
     memcpy(played, out, sizeof out);
     HOLD(gav_rerender(SETTINGS, example, 20, longer, 30, out, N, shelf, 24) == says(0, 0, N - GAV_MARK));

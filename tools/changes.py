@@ -1,7 +1,7 @@
-"""The small wrong changes of Rattle code: one operator, constant, comparison, field or branch of a function or a constant.
+"""Small wrong changes of Rattle code: one operator, constant, comparison, field or branch of a function or a constant.
 
-Contracts, comments and the heads of types are left as they are. What is of the same type is judged by names alone, so a
-change may not compile.
+Contracts, comments and the heads of types stay as they are. Whether two things have the same type is judged by names
+alone, so a change may not compile.
 """
 import math
 import re
@@ -37,7 +37,7 @@ class Token:
 
 @dataclass(frozen=True)
 class Part:
-    """A function with its body, or a constant with its value: where it stands among the tokens."""
+    """A function with its body, or a constant with its value: its range of tokens."""
 
     name: str
     first: int
@@ -74,7 +74,7 @@ def closing(tokens, i):
 
 
 def pieces(tokens, first, last):
-    """The ranges between the commas that stand in no further bracket."""
+    """The ranges between the commas that are in no inner bracket."""
     found, start, i = [], first, first
     while i < last:
         if tokens[i].text in OPEN:

@@ -1,4 +1,5 @@
-"""What a check complains of: a fact that fails, or only a text that no longer fits the code."""
+"""What a check complains of: a fact that fails (an obligation is false), or only a text that no longer fits the code.
+"""
 import re
 
 # What a complaint starts with where no fact was tried, and what it means.
@@ -35,7 +36,7 @@ COMPLAINT = re.compile(
 
 
 def said(log, tried, is_meant=lambda place: True):
-    """The first complaint of a log that is meant, by its place in the crate, and why it is no fact that fails, or None."""
+    """The first complaint of a log at the places that are meant, and why it is no fact that fails, or None."""
     for found in COMPLAINT.finditer(log):
         shown = found[0].removeprefix("note: ").split("\n")[0].split(f"/{tried}/", 1)[-1][:300]
         if not is_meant(shown):

@@ -1,15 +1,15 @@
 """What ties the promises together: contracts, theorems that two outcomes are equal, 01's calls, and wrong programs.
 
-A public function of a library crate has one `ensures` and no `requires`. Its theorem is the one that is named for it in its
-crate's proofs/Unique.antt, `set_phase` `set-phase-unique`, or the one that SHARED names. The theorem has two hypotheses. Each
-is the contract's formula, for other names of what it is said of: every variable of the theorem stands for one and the same
-part of the formula in both, but those that stand for the outcome (the result, and what is left in each lent buffer), which
-are two, and which the conclusion says to be equal, all of them. Two variables stand for two parts, and everything that the
-function takes has a part in the formula: of a lent buffer, what it held or what is left in it.
+A public function of a library crate has one `ensures` and no `requires`. Its theorem is the one in its crate's
+proofs/Unique.antt that has its name (`set-phase-unique` for `set_phase`), or the one that SHARED names. The theorem has
+two hypotheses. Each is the contract's formula with other names: every variable of the theorem stands for one and the
+same piece of the formula in both hypotheses, but for the variables of the outcome (the result, and what is left in each
+lent buffer): there are two of each, and the conclusion says that each two are equal. Two variables stand for two
+pieces, and everything that the function takes is in the formula: of a lent buffer, what it held or what is left in it.
 
-The table under "The calls" in docs/PROMISES.md is written by hand. A row has a function, its kind, what its contract must say
-behind `≡`, with x for `now (x .entry)`, and the file of the definition that this begins with. A public function that has no row
-is a helper.
+The table under "The calls" in docs/PROMISES.md is written by hand. A row has a function, its kind, what its contract
+must say behind `≡`, with x for `now (x .entry)`, and the file of the definition that this begins with. A public
+function that has no row is a helper.
 """
 import hashlib
 import re
@@ -39,7 +39,7 @@ SHARED = {
     "voice::velocity_of_f64": "velocity-of-unique",
 }
 
-# Comments and texts are read over, so that a brace or a word in them is no code.
+# Comments and texts are skipped, so that a brace or a word in them is no code.
 TOKEN = re.compile(
     r"//[^\n]*|/\*.*?\*/|\"(?:\\.|[^\"\\])*\"|'(?:\\[^']+|[^'\\])'"
     r"|\bimpl\b\s*(?:<[^>]*>)?\s*(?P<type>\w+)|\bmod\s+(?P<mod>\w+)(?=\s*\{)"
@@ -230,7 +230,7 @@ class Specs:
         return name in self.file(path)[0]
 
     def reached(self, cited):
-        """The definitions that these stand on, with these: their texts."""
+        """The texts of these definitions and of all that they rest on."""
         found, ahead = {}, list(cited)
         while ahead:
             path, name = ahead.pop()
@@ -246,7 +246,7 @@ class Specs:
         return found
 
     def print_of(self, cited):
-        """Eight digits that move with the text of any definition that these stand on."""
+        """Eight digits that change with the text of any definition that these rest on."""
         held = sorted(self.reached(cited).values())
         if not held:
             return "the logic's own"
@@ -373,7 +373,7 @@ def told_apart(function, shape, type_, names):
             return "a hypothesis is not the contract's formula"
     for variable in variables:
         if variable not in one and variable not in two:
-            return f"`{variable}` stands in no hypothesis: it is an assumption"
+            return f"`{variable}` is in no hypothesis: it is an assumption"
     outcome = [("outcome", RESULT)] if function.answers else []
     outcome += [("outcome", name) for name in function.lent]
     for meant in (one, two):
@@ -384,7 +384,7 @@ def told_apart(function, shape, type_, names):
             if one[variable] != two[variable] or parts_of(one[variable], "outcome"):
                 return f"`{variable}` stands for two things, or for both outcomes"
         elif {**one, **two}[variable] not in outcome:
-            return f"`{variable}` stands in one hypothesis alone, and is no outcome"
+            return f"`{variable}` is in one hypothesis alone, and is no outcome"
     firsts, seconds = ({shape: v for v, shape in meant.items() if shape in outcome} for meant in (one, two))
     pairs = {frozenset(p) for p in equated(concluded)}
     wanted = {frozenset((firsts.get(part), seconds.get(part))) for part in outcome}
@@ -460,13 +460,15 @@ def wrong_programs(texts, crate):
 
 HEAD = """# Index
 
-`tools/promises` prints this from the code, `must-fail/` and `wrong/`; a test fails where it differs. docs/PROMISES.md, by hand,
-says what the statements mean, what is trusted, and which definition states each sentence of 01.
+`tools/promises` prints this file from the code, `must-fail/` and `wrong/`; a test fails where it differs.
+docs/PROMISES.md, written by hand, says what the statements mean, what is trusted, and which definition states each
+sentence of 01.
 
-An entry is a public function and its kind; its contract, for every input, in which `r` is the result and `now (x .exit)` what
-is left in x, with a number that moves with the text of any definition that the contract stands on; the theorem that two
-outcomes that meet the contract are equal; and wrong programs that the contract rules out. Of these `must-fail` and `gate` are
-tried at every gate, and `listed` by `tools/mutants --listed`. docs/PROMISES.md says what the kinds are.
+Under the name of each public function are its kind; its contract, for every input, in which `r` is the result and
+`now (x .exit)` what is left in x, with a number that changes with the text of any definition that the contract rests
+on; the theorem that two outcomes that meet the contract are equal; and wrong programs that the contract rules out. Of
+these `must-fail` and `gate` are tried at every gate, and `listed` by `tools/mutants --listed`. docs/PROMISES.md says
+what the kinds are.
 """
 
 
@@ -545,7 +547,7 @@ def function_faults(texts, specs, rows, crate, function):
         return
     for path, name in cited:
         if path.startswith("crates/") and not (path.split("/")[2] == "specs" and specs.declares(path, name)):
-            yield f"its contract cites `{name}`, which {path} does not declare, or which stands outside specs/"
+            yield f"its contract cites `{name}`, which {path} does not declare, or which is outside specs/"
     yield from theorem_faults(texts, crate, function, shape)
     decided = set(function.lent) & set(parts_of(shape, "outcome"))
     missed = sorted(set(function.takes) - set(parts_of(shape, "taken")) - decided)
@@ -578,7 +580,7 @@ def call_faults(row, text, names):
     first = outcome.split()[0].strip("(")
     path = (names.of(first) or ("no file", first))[0]
     if path != f"crates/{row.file}":
-        yield f"`{first}` stands in {path}, and the table of calls says {row.file}"
+        yield f"`{first}` is declared in {path}, and the table of calls says {row.file}"
 
 
 def wrong_faults(texts, crate):

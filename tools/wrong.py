@@ -1,4 +1,4 @@
-"""Wrong programs: each a crate with a small edit, which the check must refuse, because a fact fails.
+"""Wrong programs: each a crate with a small edit, which the check must refuse because a fact (an obligation) fails.
 
 A file crates/NAME/must-fail/LABEL.edit (rt tries it) or crates/NAME/wrong/LABEL.edit has these lines, in this order:
 
@@ -6,10 +6,10 @@ A file crates/NAME/must-fail/LABEL.edit (rt tries it) or crates/NAME/wrong/LABEL
     of: phase::PhaseAccumulator::reset           (the function that is wrong then; more may follow, after commas)
     gate: yes                                    (in wrong/ alone; `listed`: only `tools/mutants --listed` tries it)
     file: src/lib.rt                             (of src/ or of specs/)
-    old: a text of one line, which stands in the file once
-    new: what stands there instead
+    old: a text of one line, which the file has once
+    new: the text in its place
 
-In wrong/ a text may have more lines, each behind an `old:` or a `new:` of its own. More pairs of `old:` and `new:` may
+In wrong/ a text may have more lines, each after an `old:` or a `new:` of its own. More pairs of `old:` and `new:` may
 follow, and more files; each edit is made on what those before it left.
 """
 import os
@@ -69,7 +69,7 @@ def read(file):
     if not form:
         raise misfit(file, "its lines are not those that the head of tools/wrong.py names, in that order")
     if (form["gate"] is not None) != (file.parent.name == "wrong"):
-        raise misfit(file, "a line `gate:` stands in every file of wrong/, and in no other")
+        raise misfit(file, "a line `gate:` is in every file of wrong/, and in no other")
     if file.parent.name == "must-fail" and re.search(r"^(old|new):.*\n\1:", text, re.M):
         raise misfit(file, "rt reads one line of an `old:` and of a `new:`")
     name, before, edits = "", "", []
@@ -100,7 +100,7 @@ def made(program, texts=None):
             raise misfit(program.file, f"{name} is no file of src/ or specs/")
         times = texts[name].count(old)
         if times != 1:
-            raise misfit(program.file, f"its `old:` stands in {name} {times} times and not once: {old}")
+            raise misfit(program.file, f"its `old:` is in {name} {times} times and not once: {old}")
         if old == new:
             raise misfit(program.file, f"it changes nothing: {old}")
         texts[name] = texts[name].replace(old, new)
@@ -130,8 +130,8 @@ def function_of(program):
 
 
 def batches(programs):
-    """The programs in lists, each of one crate and of as many functions as programs: one check tries all of a list, since a
-    function's proof knows the others by their contracts alone, which no such program changes."""
+    """The programs in lists, each of one crate and of as many functions as programs: one check tries all of a list,
+    since a function's proof knows the others by their contracts alone, which no such program changes."""
     lists = {}
     for program in programs:
         function = function_of(program)
@@ -162,9 +162,9 @@ class Checker:
 
     A check of one function's edit need not prove the others again: it may start from the modules of the crate that were
     checked when target/rlib/CRATE.rlib was made, its seed, which rattle takes from a folder of its own in the one that
-    --incremental names. What a program is refused for is judged by the complaint; whatever a fact does not refuse over the
-    seed is checked again from nothing, and that counts. Programs of different functions are tried by one check, and each is
-    judged by the complaints of its own function.
+    --incremental names. What a program is refused for is judged by the complaint; whatever a fact does not refuse over
+    the seed is checked again from nothing, and that counts. Programs of different functions are tried by one check, and
+    each is judged by the complaints of its own function.
     """
 
     def __init__(self, room):
@@ -250,7 +250,7 @@ class Checker:
         return Tried(program, *self.judged(status, log, home), False)
 
     def tried(self, batch):
-        """What becomes of the programs of a batch: of all in one check, and of each alone that no fact of its own refuses."""
+        """What becomes of a batch's programs: all in one check, then each alone that no fact of its own refuses."""
         programs = list(batch.values())
         crate = programs[0].crate
         if len(programs) == 1 or not (self.seeds and self.seed_of(crate).is_dir()):
@@ -278,7 +278,7 @@ def current(crates):
 
 
 def await_proof(crate):
-    """Beside a gate, whose file RT_CI_ENDED names: waits until rt ci has proved the crate. ValueError where it ends without."""
+    """Beside a gate (RT_CI_ENDED names its file): waits until rt ci has proved the crate, else ValueError."""
     ended = Path(os.environ["RT_CI_ENDED"])
     while not (ROOT / "target/stamp" / crate).is_file():
         if ended.exists() and not (ROOT / "target/stamp" / crate).is_file():
@@ -295,8 +295,8 @@ def in_memory():
 
 
 def try_all(programs):
-    """Tries the programs, two checks at a time; what became of each. Beside a gate each crate's as soon as rt ci has proved the
-    crate, from the lowest on; else those of crates that stand on many first, as they take longest."""
+    """Tries the programs, two checks at a time; what became of each. Beside a gate each crate's as soon as rt ci has
+    proved the crate, from the lowest on; else those of crates with many crates below first, as they take longest."""
     if not programs:
         return
     beside = "RT_CI_ENDED" in os.environ

@@ -1,11 +1,11 @@
-//! Rows of the two block calls: op, waveform (0 Sine to 4 Pulse, in the original's order), duty, rate, frequency, depth,
-//! start phase, samples asked for; then answer, phase after, and every sample. Ten u64 a row and one for each sample
-//! asked for, every float as its bits.
+//! Rows of the two block calls: op, waveform (0 Sine to 4 Pulse, in the original's order), duty, rate, frequency,
+//! depth, start phase, samples asked for; then answer, phase after, and every sample. Ten u64 a row and one for each
+//! sample asked for, every float as its bits.
 //!
 //! `set` is the oscillator too, made with other settings, then given its waveform and a note's frequency; `cleared` has
-//! been given a note's frequency that does not sound, and it was cleared. `reset` is set back from the start phase, the
-//! oscillator after it was set. Only the LFO has a depth; elsewhere it is 1. Only Pulse has a duty. The samples are 42
-//! each before the call.
+//! been given a note's frequency that would be refused, and that was cleared. `reset` is set back from the start phase,
+//! the oscillator after it was set. Only the LFO has a depth; elsewhere it is 1. Only Pulse has a duty. The samples are
+//! 42 each before the call.
 
 use crate::block::Block;
 use crate::blocks::generators::oscillator::OscillatorBlock;
@@ -49,13 +49,13 @@ fn is_reset(op: u64) -> bool {
     [SET_AND_RESET, LFO_RESET].contains(&op)
 }
 
-/// What does not sound.
+/// A frequency that would be refused.
 const UNHEARD: f64 = -1.0;
 
 /// A shape and its duty.
 type Wave = (u64, f64);
 
-/// A pulse of another duty stands beside that of the original's block.
+/// Pulse occurs twice: with the duty of the original's block, and with another.
 const WAVES: [Wave; 6] =
     [(SINE, 0.0), (SQUARE, 0.0), (SAWTOOTH, 0.0), (TRIANGLE, 0.0), (PULSE, DEFAULT_DUTY_CYCLE), (PULSE, 0.3)];
 
@@ -79,7 +79,7 @@ impl Asked {
         let (shape, duty) = self.wave;
         let duty = if shape == PULSE { duty } else { 0.0 };
         let depth = if is_lfo(self.op) { self.depth } else { 1.0 };
-        // A NaN's payload cannot be seen by who replays the rows, and a phase is compared by its bits.
+        // The replay cannot see a NaN's payload, and a phase is compared by its bits.
         let phase = if self.phase.is_nan() { f64::NAN } else { self.phase };
         let [duty, frequency, depth, phase] = [duty, self.frequency, depth, phase].map(f64::to_bits);
         vec![self.op, shape, duty, self.rate, frequency, depth, phase, self.length]
@@ -146,7 +146,7 @@ fn ask(row: &[u64]) -> Played {
     by_block
 }
 
-/// The opened copy from the given phase; from +0, where it starts or is set back to, the untouched one agrees.
+/// The opened copy from the given phase; from +0, where it starts or is set back to, the untouched copy must agree.
 fn oscillator(row: &[u64]) -> Played {
     let (frequency, waveform) = (float(row, 4), waveform(row[1]));
     let is_set = [SET, SET_AND_RESET].contains(&row[0]);
@@ -166,7 +166,7 @@ fn oscillator(row: &[u64]) -> Played {
     (samples, open.opened_phase().to_bits())
 }
 
-/// The same of the LFO.
+/// The LFO's samples and phase, by both copies as above.
 fn lfo(row: &[u64]) -> Played {
     let (frequency, depth, waveform) = (float(row, 4), float(row, 5), waveform(row[1]));
     let mut plain = LfoBlock::<f64>::new(frequency, depth, waveform, None);
@@ -204,12 +204,12 @@ fn sample_by_sample(row: &[u64]) -> Played {
 
 // The edges.
 
-/// A row to vary: 440 Hz (LFO 2.2) at 44,100, three samples from 1 radian on.
+/// A row to vary: 440 Hz (LFO 2.2 Hz) at 44,100 Hz, three samples from 1 radian on.
 fn usual(op: u64, wave: Wave) -> Asked {
     Asked { op, wave, rate: 44100, frequency: at_op(op, 440.0), depth: 0.75, phase: 1.0, length: 3 }
 }
 
-/// The oscillator's frequency, or for the LFO a 200th of it: both end at the highest.
+/// The oscillator's frequency, or for the LFO a 200th of it: both end at the highest allowed.
 fn at_op(op: u64, frequency: f64) -> f64 {
     if is_lfo(op) {
         frequency / 200.0
@@ -263,7 +263,7 @@ fn edges() -> Vec<Vec<u64>> {
     rows.into_iter().map(Asked::words).collect()
 }
 
-/// Set back or cleared: each shape, and some settings that are refused. After a reset no start phase is.
+/// Set back or cleared: each shape, and some settings that are refused. After a reset no start phase is refused.
 fn edges_of_states(op: u64) -> Vec<Asked> {
     let mut rows = Vec::new();
     for wave in WAVES {
@@ -321,8 +321,8 @@ fn edges_of_refusals(op: u64) -> Vec<Asked> {
     rows
 }
 
-/// Two that docs/DIFFERENCES.md names: the LFO's triangle, which passes its depth at sample 27, and a sine at the middle
-/// of a step near the crest, where ours is farthest off.
+/// Two rows that docs/DIFFERENCES.md names: the LFO's triangle, which passes its depth at sample 27, and a sine at the
+/// middle of a step near the crest, where ours is farthest off.
 fn edges_of_documents() -> [Asked; 2] {
     let triangle = usual(LFO, (TRIANGLE, 0.0));
     let crest = Asked { phase: 1016.5 / 4096.0 * TAU, ..usual(OSCILLATOR, (SINE, 0.0)) };
@@ -359,7 +359,7 @@ fn spoilt(asked: Asked, chance: &mut Chance) -> Asked {
     }
 }
 
-/// One in two is the block's own.
+/// In one row of two the duty is that of the original's block.
 fn random_duty(chance: &mut Chance) -> f64 {
     match chance.below(8) {
         0 => chance.pick(&duties()),
@@ -380,7 +380,7 @@ fn random_frequency(op: u64, rate: u64, chance: &mut Chance) -> f64 {
     }
 }
 
-/// Of a sine none that is tiny: it is measured, and a millionth of its depth must be a float.
+/// The depth of a sine is never tiny: a sine is measured, and a millionth of its depth must be a float.
 fn random_depth(shape: u64, chance: &mut Chance) -> f64 {
     match chance.below(4) {
         0 if shape != SINE => chance.pick(&depths()),

@@ -1,4 +1,4 @@
-//! What must hold before any row is believed: the files are the original's, and the opened copies answer as they do.
+//! What must be true before any row is believed: the files are the original's, and the opened copies answer as they do.
 
 use std::path::Path;
 
@@ -42,8 +42,8 @@ fn constants() {
     println!("TAU, INV_TAU and the pitches of notes 8, 20 and 76 have the bits expected of libm 0.2.1");
 }
 
-/// How far the triangle passes 1 near its corners: the numbers that docs/DIFFERENCES.md has against lfo.rs's comment. In
-/// the LFO's domain that is farthest at 100 Hz and a rate of 8,000, where the step is largest.
+/// How far the triangle passes 1 near its corners: the numbers that docs/DIFFERENCES.md has against lfo.rs's comment.
+/// In the LFO's domain that is farthest at 100 Hz and a rate of 8,000 Hz, where the step is largest.
 fn overshoot() {
     let cycle_from = |phase: f64| {
         let mut block = LfoBlock::<f64>::new(100.0, 1.0, Waveform::Triangle, None);

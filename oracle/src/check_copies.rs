@@ -133,7 +133,7 @@ pub fn run(block: &mut impl Block<f64>, sample_rate: f64, length: usize) -> Vec<
     samples.into_iter().map(f64::to_bits).collect()
 }
 
-/// The same block by the two functions below it, which are the crate's own (`pub(crate)`).
+/// That block by the two functions below it, which are the crate's own (`pub(crate)`).
 fn scalar(waveform: Waveform, phase: &mut f64, frequency: f64, rate: f64, length: usize, scale: f64) -> Vec<u64> {
     let increment = frequency / rate * <f64 as Real>::TAU;
     let rng = &mut XorShiftRng::new(0);

@@ -63,7 +63,7 @@ pub fn state_words((stage, level, stage_time, release_level): State) -> [u64; 4]
     [place as u64, state_bits(level), state_bits(stage_time), state_bits(release_level)]
 }
 
-/// A NaN's payload cannot be seen by who replays the rows, so a state has one NaN only.
+/// The replay cannot see a NaN's payload, so a state has one NaN only.
 fn state_bits(x: f64) -> u64 {
     if x.is_nan() {
         0x7FF8_0000_0000_0000
@@ -109,7 +109,7 @@ fn answer(row: &[u64]) -> Vec<u64> {
     words
 }
 
-/// The opened copy from the given state, which the untouched one reaches along runs only.
+/// The opened copy from the given state; the untouched copy reaches states only along runs.
 fn ask(row: &[u64], output: &mut [f64]) -> [u64; 4] {
     let mut block = opened_block(settings_of(row));
     let (stage, level, stage_time, release_level) = state_of(&row[7..11]);
@@ -168,7 +168,7 @@ fn not_numbers() -> [f64; 4] {
 /// The ops that take a state.
 const ON_A_STATE: [u64; 4] = [NOTE_ON, NOTE_OFF, RESET, PROCESS];
 
-/// Settings to vary one at a time, and states that lie in the midst of a stage.
+/// Settings to vary one at a time, and states in the middle of a stage.
 const PLAIN: Settings = [0.02, 0.05, 0.3, 0.1];
 const MIDST: [State; 5] = [
     (Idle, 0.0, 0.0, 0.0),
@@ -182,7 +182,7 @@ fn edges() -> Vec<Vec<u64>> {
     [edges_of_settings(), edges_of_states(), edges_of_refusals()].concat()
 }
 
-/// Where the clamps turn over, and each stage at its last float of time.
+/// Where the clamps begin to act, and each stage at its last float of time.
 fn edges_of_settings() -> Vec<Vec<u64>> {
     let mut rows = Vec::new();
     for (at, stage) in [(0, Attack), (1, Decay), (3, Release)] {
@@ -319,7 +319,7 @@ impl Runs {
         assert_eq!(samples, run(&mut self.open, self.rate as f64, length as usize));
     }
 
-    /// To the last samples of a stage, if they are not far.
+    /// To the last samples of a stage, if they are not far away.
     fn go_near_the_change(&mut self) {
         let (stage, level, stage_time, release_level) = self.open.fields();
         let mut ahead = opened_block(self.settings);
@@ -355,7 +355,7 @@ fn inside(chance: &mut Chance) -> Vec<u64> {
     given(op, settings, rate, chance.below(SLOTS + 1), state)
 }
 
-/// The same with one field moved out of its range.
+/// A state with one field moved out of its range.
 fn refused(chance: &mut Chance) -> Vec<u64> {
     loop {
         let mut row = inside(chance);

@@ -1,5 +1,6 @@
-//! The original (bbx_audio) as a library for C, which tests/reference/original.h declares: the oracle's own driver, beside
-//! the reference voice, the library and the bench. Scores are accepted ones, settings and states within their limits.
+//! The original (bbx_audio) as a library for C, which tests/reference/original.h declares: the oracle's own driver,
+//! linked with the reference voice, the library and the bench. Scores are accepted ones, settings and states within
+//! their limits.
 
 // Of the modules of the rows this crate needs a part.
 #![allow(dead_code)]
@@ -52,7 +53,7 @@ impl Given {
     }
 }
 
-/// The records of a score, read as they stand.
+/// The records of a score, which need not be accepted.
 unsafe fn records<'a>(score: *const u8, len: usize) -> impl Iterator<Item = Record> + 'a {
     let bytes: &[u8] = if len == 0 { &[] } else { from_raw_parts(score, len) };
     bytes.chunks_exact(10).map(|record| Record {
@@ -72,11 +73,11 @@ pub unsafe extern "C" fn original_render(given: &Given, score: *const u8, len: u
     play_untouched(given.settings(), records(score, len), from_raw_parts_mut(out, n));
 }
 
-/// From a state at a position on, with level times velocity of each sample, and an entry before each mark, the first of
-/// them first, where a shelf is lent; the state is the one after it.
+/// From a state at a position on, with level times velocity of each sample, and, where a shelf is lent, the entry of
+/// each section that begins in the part, in order; the state is afterwards the one after the samples.
 ///
 /// # Safety
-/// As above; the state has twelve words, and a shelf that is not null twelve for each mark that is passed.
+/// As above; the state has twelve words, and a shelf that is not null twelve for each section that begins in the part.
 #[no_mangle]
 pub unsafe extern "C" fn original_play(
     given: &Given,

@@ -13,7 +13,7 @@ pub fn near_f32(x: f32, steps: i32) -> f32 {
     f32::from_bits(if at < 0 { i32::MIN.wrapping_sub(at) } else { at } as u32)
 }
 
-/// 2^power as it stands in the pattern, for normal numbers: powi's last bit is nobody's promise.
+/// 2^power made from the exponent bits, for normal numbers: nothing promises the last bit of powi.
 pub const fn two_to(power: i32) -> f64 {
     f64::from_bits(((1023 + power) as u64) << 52)
 }

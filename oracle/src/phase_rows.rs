@@ -37,7 +37,7 @@ fn given(op: u64, phase: f32, increment: f32, a: f32, b: f32) -> Vec<u64> {
     vec![op, state_bits(phase), state_bits(increment), a.to_bits() as u64, b.to_bits() as u64]
 }
 
-/// A NaN's payload cannot be seen by who replays the rows, so a state has one NaN only.
+/// The replay cannot see a NaN's payload, so a state has one NaN only.
 fn state_bits(x: f32) -> u64 {
     if x.is_nan() {
         0x7FC0_0000
@@ -254,7 +254,7 @@ fn inside(chance: &mut Chance) -> Vec<u64> {
 fn random_phase(chance: &mut Chance) -> f32 {
     match chance.below(8) {
         0..=3 => chance.dense() as f32,
-        // Every pattern from 0 to 1, all magnitudes alike.
+        // Every pattern from 0 to 1, all equally likely.
         4 => f32::from_bits(chance.between(0, 0x3F80_0000) as u32),
         5 => near(1.0, -(chance.below(4) as i32)),
         6 => near(0.5, chance.between(-3, 3) as i32),

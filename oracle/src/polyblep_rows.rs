@@ -105,7 +105,7 @@ fn not_finite() -> Vec<f64> {
     list
 }
 
-/// The phases where a test of a call turns over for this dt (and duty), as near as they can be worked out.
+/// The phases where a test of a call changes its outcome for this dt (and duty), as near as they can be computed.
 fn turning_points(op: u64, dt: f64, duty: f64) -> Vec<f64> {
     let own = [dt, 1.0 - dt];
     match op {
@@ -169,7 +169,7 @@ fn inside(chance: &mut Chance) -> Vec<u64> {
     let dt = random_step(chance);
     let duty = random_phase(chance);
     let t = match chance.below(3) {
-        // A few floats beside a turning point, or anywhere in the stretch where a correction is at work.
+        // A few floats beside such a phase, or anywhere within dt / 2 of it, where a correction may act.
         0 => near(chance.pick(&turning_points(op, dt, duty)), chance.between(-3, 3)),
         1 => chance.pick(&turning_points(op, dt, duty)) + dt * (chance.unit() - 0.5),
         _ => random_phase(chance),
@@ -182,7 +182,7 @@ fn random_phase(chance: &mut Chance) -> f64 {
     match chance.below(8) {
         0..=3 => chance.dense(),
         4 => chance.scaled(-60, -1),
-        // Every pattern from 0 to 1, all magnitudes alike.
+        // Every pattern from 0 to 1, all equally likely.
         5 => f64::from_bits(chance.between(0, 0x3FF0_0000_0000_0000) as u64),
         6 => near(chance.pick(&[0.5, 1.0]), -(chance.below(4) as i64)),
         _ => chance.pick(&phases_inside()),

@@ -1,8 +1,8 @@
 //! The original driven span by span, as 01 says under "Making sample n": its voice, its envelope, and its oscillator.
 //!
 //! `Player` goes on from any state within the limits and shows its states: it has the opened copies, and makes a span's
-//! values one by one, since the original's block has one duty only. `Plain` has the untouched copies alone, from sample 0
-//! on, and calls whole blocks into the output: it is what is measured. Where both can be asked they are compared.
+//! values one by one, since the original's block has one duty only. `Plain` has the untouched copies alone, from sample
+//! 0 on, and calls whole blocks into the output: its speed is measured. Where both can be asked they are compared.
 
 use crate::block::Block;
 use crate::blocks::generators::oscillator::OscillatorBlock;
@@ -19,7 +19,7 @@ use crate::voice_rows::{self, Pair, NOTE_OFF, NOTE_ON, RESET};
 use crate::waveform::{generate_waveform_sample, Waveform, DEFAULT_DUTY_CYCLE};
 use crate::waveform_rows::{waveform, PULSE, TAU};
 
-/// The samples from one reduction to the next where no record stands, and from one shelf entry to the next.
+/// The samples from one reduction to the next where no record acts, and from one shelf entry to the next.
 const BLOCK: u64 = 64;
 pub const MARK: u64 = 4096;
 
@@ -58,7 +58,7 @@ pub fn on(position: u64, note: u8, velocity: u8) -> Record {
     Record { position, kind: KIND_ON, note, velocity }
 }
 
-/// How fast the key went up is in the record, and nobody hears it.
+/// The velocity of a note-off is in the record, and changes no sample.
 pub fn off(position: u64, note: u8) -> Record {
     Record { position, kind: KIND_OFF, note, velocity: 64 }
 }
@@ -70,7 +70,8 @@ pub fn reset(position: u64) -> Record {
 /// The twelve words of a state, in a shelf entry's order.
 pub type Words = [u64; 12];
 
-/// What was played: each sample's bits, the bits of level times velocity, and the entries passed.
+/// What was played: each sample's bits, the bits of level times velocity, and the entries of the sections that begin in
+/// it.
 #[derive(Default)]
 pub struct Played {
     pub samples: Vec<u64>,
@@ -205,7 +206,7 @@ impl Player {
     }
 }
 
-/// Where the span ends that n is in: at the next multiple of 64, at the next record, or where no more is asked for.
+/// Where the span that holds n ends: at the next multiple of 64, at the next record, or where no more is asked for.
 fn span_end(n: u64, next: Option<Record>, asked: u64) -> u64 {
     let block = (n / BLOCK + 1) * BLOCK;
     next.map_or(block, |record| record.position.min(block)).min(asked)
@@ -218,7 +219,7 @@ struct Plain {
     source: Source,
 }
 
-/// The original's block; a pulse of a duty that it does not have is the block's loop about the original's single sample.
+/// The original's block; a pulse of another duty is the block's loop over the original's single sample.
 enum Source {
     Block(OscillatorBlock<f64>),
     Pulse { duty: f64, frequency: f64, phase: f64 },
@@ -311,7 +312,7 @@ pub fn play_untouched(settings: Settings, score: impl Iterator<Item = Record>, o
     }
 }
 
-/// The bits of the first samples of a score by the untouched copies; none for a waveform that their block does not have.
+/// The bits of a score's first samples by the untouched copies; none for a waveform that their block does not have.
 pub fn untouched(settings: Settings, score: &[Record], length: u64) -> Option<Vec<u64>> {
     if !settings.is_a_block() {
         return None;

@@ -28,7 +28,7 @@ pub struct Asked {
     pub shelf: u64,
     pub position: u64,
     pub state: Words,
-    /// Of a re-render: the old score, and the samples and words of the shelf that the call finds.
+    /// Of a re-render: the old score, and the samples and words of the shelf that the call starts with.
     pub old: Vec<u8>,
     pub left: Vec<u64>,
 }
@@ -47,8 +47,8 @@ impl Asked {
         Self { op: RENDER, settings, samples, score, shelf, position: 0, state: [0; 12], old: vec![], left: vec![] }
     }
 
-    /// A part of a render, from the original's own state at its position. The original that goes on from there plays what
-    /// the one that began at sample 0 plays.
+    /// A part of a render, from the original's own state at its position. The original that goes on from there must
+    /// play what the original that began at sample 0 plays.
     pub fn part(&self, position: u64, samples: u64) -> Self {
         let score = records(&self.score);
         let mut player = Player::fresh(self.settings);
@@ -97,7 +97,7 @@ impl Asked {
         Self { op, settings, samples, score, shelf, position, state, old, left }
     }
 
-    /// How many numbers say how far a sine may be off.
+    /// How many scales the row has: numbers that say how far a sine may be off.
     fn scales(&self) -> u64 {
         match self.refusal() {
             None if self.settings.wave.0 == SINE => self.samples,
@@ -123,7 +123,7 @@ impl Asked {
         }
     }
 
-    /// Whether the entry that a re-render starts from is no state at its mark.
+    /// Whether the entry that a re-render starts from is no state at the start of its section.
     fn is_lost(&self) -> bool {
         mark_of(&self.old, &self.score, self.samples).is_some_and(|mark| {
             let below = records(&self.score).iter().filter(|record| record.position < mark).count();
@@ -202,7 +202,7 @@ pub fn shelf_words(samples: u64) -> u64 {
     12 * samples.div_ceil(MARK)
 }
 
-/// Where a re-render starts, by 01; none where it writes nothing.
+/// The sample at which a re-render starts, by 01; none where it writes nothing.
 pub fn mark_of(old: &[u8], new: &[u8], length: u64) -> Option<u64> {
     let (mut olds, mut news) = (old.chunks(RECORD), new.chunks(RECORD));
     let lowest = loop {
@@ -215,7 +215,7 @@ pub fn mark_of(old: &[u8], new: &[u8], length: u64) -> Option<u64> {
     (lowest < length).then_some(lowest / MARK * MARK)
 }
 
-/// So many bytes of some words, and the words after those that they fill.
+/// The first `size` bytes of some words, and the words after those bytes.
 fn bytes_and_rest(words: &[u64], size: u64) -> (Vec<u8>, &[u64]) {
     let (filled, rest) = words.split_at(size.div_ceil(8) as usize);
     let mut bytes: Vec<u8> = filled.iter().flat_map(|word| word.to_le_bytes()).collect();
@@ -232,7 +232,7 @@ fn is_settings(Settings { rate, wave: (shape, duty), adsr }: Settings) -> bool {
     (8000..=192000).contains(&rate) && has_duty && adsr.iter().all(|x| !x.is_nan())
 }
 
-/// The records of a score, read as they stand.
+/// The records of a score, which need not be accepted.
 fn records(score: &[u8]) -> Vec<Record> {
     let record =
         |bytes: &[u8]| Record { position: word_of(&bytes[2..6]), kind: bytes[6], note: bytes[7], velocity: bytes[8] };

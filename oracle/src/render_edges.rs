@@ -25,7 +25,7 @@ pub fn all() -> Vec<Vec<u64>> {
     list.iter().map(Asked::words).collect()
 }
 
-/// Records at and beside the marks, at the end, beside it and far past it; some at the same position.
+/// Records at the starts of sections and beside them, at the end, beside it and far past it; some at the same position.
 fn at_marks(samples: u64) -> Vec<Record> {
     let mut positions = vec![0, 0, 1, 63, 64, 64, 65, 128, 1000, 4032, 4095, 4096, 4096, 4097, 8191, 8192, 8193, LAST];
     positions.extend([samples.saturating_sub(1), samples, samples, samples + 1]);
@@ -39,7 +39,7 @@ fn at_marks(samples: u64) -> Vec<Record> {
     positions.into_iter().enumerate().map(event).collect()
 }
 
-/// High notes that sound on up to the marks, where the phase has grown over a whole block, and records at them.
+/// High notes that sound on to the starts of sections, where the phase has grown over a whole block, and records there.
 pub fn over_marks() -> Vec<Record> {
     let mut score = vec![on(0, 112, 127), on(100, 100, 90), on(4096, 119, 77), off(4096, 112), off(6000, 119)];
     score.extend([on(7000, 112, 50), on(8000, 120, 100), reset(8192), on(8192, 115, 60), off(9000, 115)]);
@@ -83,7 +83,7 @@ fn edges_of_waves() -> Vec<Asked> {
     list
 }
 
-/// The ends of the settings, where the clamps turn over; a note of 120 samples.
+/// The ends of the settings, where the clamps begin to act; a note of 120 samples.
 fn edges_of_envelope() -> Vec<Asked> {
     let mut list = Vec::new();
     let mut add = |at: usize, setting: f64| {
@@ -102,7 +102,7 @@ fn edges_of_envelope() -> Vec<Asked> {
     list
 }
 
-/// 01's marks (k), (l) and (m) as scores, more keys than there is room for, keys that are not down, no velocity.
+/// 01's worked examples (k), (l) and (m) as scores, more than 16 keys, keys that are not down, velocity 0.
 fn edges_of_keys() -> Vec<Asked> {
     let sixteen = (40..56).map(|note| on(2 * (note as u64 - 40), note, note));
     let pressed: Vec<Record> = sixteen.chain([on(40, 60, 99)]).collect();
@@ -215,7 +215,7 @@ fn edges_of_faults() -> Vec<Asked> {
     [list.clone(), small, unset, parts.collect(), empty(&list, 5)].concat()
 }
 
-/// Renders cut into parts, at records and marks and between them.
+/// Renders cut into parts, at records, at the starts of sections and between them.
 fn edges_of_parts() -> Vec<Asked> {
     let mut list = Vec::new();
     for (i, wave) in WAVES.into_iter().enumerate() {

@@ -1,5 +1,5 @@
-//! The re-renders that the rows ask for, at the edges and at random: a score and an edited one, over what the original's
-//! render of the first leaves, or over rubbish where a re-render does not look.
+//! The re-renders that the rows ask for, at the edges and at random: a score and an edited one, over what the
+//! original's render of the first leaves, or over rubbish where a re-render does not read.
 
 use crate::chance::Chance;
 use crate::render::{on, reset, Record, KIND_RESET, MARK};
@@ -30,7 +30,8 @@ fn with(score: &[Record], record: Record) -> Vec<Record> {
     [&score[..after], &[record], &score[after..]].concat()
 }
 
-/// An edit at the begin, between, at the last sample, at the end and past it; a record taken out, the score as it was, no score.
+/// An edit at the beginning, between, at the last sample, at the end and past it; a record taken out, equal scores, no
+/// score.
 fn edges_of_position() -> Vec<Asked> {
     let mut list = Vec::new();
     for wave in WAVES {
@@ -43,7 +44,7 @@ fn edges_of_position() -> Vec<Asked> {
     list
 }
 
-/// Edits beside the marks, over the old render and over rubbish.
+/// Edits beside the starts of sections, over the old render and over rubbish.
 fn edges_of_marks() -> Vec<Asked> {
     let (score, mut chance) = (over_marks(), Chance::new(0));
     let edited = |wave, samples, record| Asked::whole(48000, wave, samples, &score).edited(&with(&score, record));
@@ -58,10 +59,10 @@ fn edges_of_marks() -> Vec<Asked> {
     list
 }
 
-/// 6, 7, each fault of the old score and of the new one, an entry that is no state there; alone and before those after it.
+/// 6, 7, each fault of the old score and of the new one, an entry that is no state; alone and before those after it.
 fn edges_of_refusals() -> Vec<Asked> {
     let usual = Asked::whole(44100, SAW, 3, &tune()).edited(&with(&tune(), on(1, 50, 77)));
-    // The last to be found first: one that comes is found before those that are there.
+    // From the last in the order to the first: each fault added must be given before those that are there.
     let faults = [(2, 2, 0), (2, 9, 1), (2, 7, 128), (2, 6, 9), (2, 0, 0x57)];
     let mut list = Vec::new();
     for (word, value) in
@@ -127,7 +128,7 @@ fn row(chance: &mut Chance) -> Vec<u64> {
     asked.words()
 }
 
-/// A record put in, taken out, or struck otherwise; or the score as it was.
+/// A record put in, taken out, or with another note or velocity; or the score as it was.
 fn random_edit(render: &Asked, chance: &mut Chance) -> Vec<Record> {
     let mut score = render.records();
     let any = chance.below(score.len().max(1) as u64) as usize;
@@ -158,7 +159,7 @@ fn spoil(asked: &mut Asked, chance: &mut Chance) {
             let kept = asked.left.clone();
             let state = moved(kept[at..at + 12].try_into().unwrap(), chance);
             asked.left[at..at + 12].copy_from_slice(&state);
-            // Another state within the limits is none that the new score leads to.
+            // Another state within the limits, which the new score does not lead to.
             if asked.refusal().is_none() {
                 asked.left = kept;
             }

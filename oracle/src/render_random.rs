@@ -56,7 +56,7 @@ fn random_length(chance: &mut Chance) -> u64 {
     }
 }
 
-/// From no record to 4,096, over the whole output and somewhat more, or all near its begin.
+/// From no record to 4,096, over the whole output and somewhat more, or all near its beginning.
 pub fn random_score(samples: u64, chance: &mut Chance) -> Vec<Record> {
     let count = match chance.below(32) {
         0 => 0,
@@ -76,7 +76,7 @@ pub fn random_score(samples: u64, chance: &mut Chance) -> Vec<Record> {
     positions.into_iter().map(|position| hands.next(position, chance)).collect()
 }
 
-/// Anywhere; at or beside a mark; where another record stands; at the end or past it.
+/// Anywhere; at the start of a section or beside it; where another record is; at the end or past it.
 fn random_position(window: u64, samples: u64, other: Option<u64>, chance: &mut Chance) -> u64 {
     let any = chance.below(window);
     match chance.below(10) {

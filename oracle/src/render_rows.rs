@@ -7,8 +7,8 @@
 //! `continue` takes a position and a state and has no shelf; only Pulse has a duty. The samples are 42 each before
 //! the call, the bytes of the shelf 42 too. A NaN in a given state is 7FF8000000000000, and comes back so.
 //!
-//! `re-render` has the bytes of its old score for a position, and after its score, which is the new one, the old one, and
-//! every sample and every word of the shelf as the call finds them. It neither takes nor hands back a state: 0.
+//! `re-render` has the bytes of its old score for a position, and after its score, which is the new one, the old one,
+//! and every sample and every word of the shelf as the call finds them. It neither takes nor hands back a state: 0.
 
 use crate::render_asked::{Asked, GIVEN};
 use crate::rows::Part;

@@ -1,5 +1,5 @@
-//! Rows of words, little-endian: what every part's rows share. Before a part's rows stands a head: the part's name, with zeros
-//! up to eight bytes, and how many rows there are.
+//! Rows of words, little-endian: what every part's rows share. Before a part's rows comes a head: the part's name, with
+//! zeros up to eight bytes, and how many rows there are.
 
 use std::collections::HashSet;
 use std::io::{self, Read, Write};
@@ -9,9 +9,9 @@ use crate::chance::Chance;
 /// A part's rows: their shape, and how they are made.
 pub struct Part {
     pub name: &'static str,
-    /// Bytes in a word (4 or 8), words in a row, which word says how many more there are, if any, and which is the answer
-    /// (`says`), if any: the first word that is not given. Given words that are more than stand before it come after
-    /// the row's first words. The first word is the op, unless there is only one.
+    /// Bytes in a word (4 or 8), words in a row, which word says how many more there are, if any, and which is the
+    /// answer (`says`), if any: the first word that is not given. Given words that have no room before the answer come
+    /// after the row's first words. The first word is the op, unless there is only one.
     pub word: usize,
     pub words: usize,
     pub more_at: Option<usize>,

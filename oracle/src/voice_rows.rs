@@ -75,7 +75,7 @@ fn state_words(state: State) -> Vec<u64> {
     words
 }
 
-/// A NaN's payload cannot be seen by who replays the rows, so a state has one NaN only.
+/// The replay cannot see a NaN's payload, so a state has one NaN only.
 fn state_bits(x: f32) -> u64 {
     if x.is_nan() {
         0x7FC0_0000
@@ -205,7 +205,7 @@ fn states() -> Vec<State> {
         sounding(&[], Some(60)),
         // Held keys and no sound.
         sounding(&[(55, 90), (60, 100)], None),
-        // The same key more than once.
+        // One key held more than once.
         sounding(&[(60, 1), (60, 2), (64, 3), (60, 4), (60, 5)], Some(60)),
         sounding(&[(0, 0), (127, 127), (0, 127)], Some(0)),
         sounding(&full[..15], Some(119)),
@@ -331,8 +331,8 @@ impl Runs {
         Self { chance, lowest, highest, down: Vec::new(), rising: true, pair: Pair::new() }
     }
 
-    /// The next call of a run. The original goes on from where it stands; the row's answer, made from the row alone,
-    /// must be the same.
+    /// The next call of a run. The original goes on from its own state; the row's answer, made from the row alone, must
+    /// be the same.
     fn along(&mut self) -> Vec<u64> {
         if self.chance.below(400) == 0 {
             *self = Self::new(Chance::new(self.chance.word()));
@@ -406,7 +406,7 @@ fn inside(chance: &mut Chance) -> Vec<u64> {
     given(op, state, note, pressure)
 }
 
-/// The same with one thing moved out of its range.
+/// A state with one field moved out of its range.
 fn refused(chance: &mut Chance) -> Vec<u64> {
     loop {
         let mut row = inside(chance);

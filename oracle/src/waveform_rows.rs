@@ -2,9 +2,10 @@
 //! samples asked for; then answer, phase after, eight slots. 17 u64 a row, every float as its bits.
 //!
 //! `fill` and `block` count in radians: one sample by `generate_waveform_sample`, whose phase grows and is not reduced;
-//! up to eight by `process_waveform_scalar`, which reduces. `sample` takes a phase and a step of it in cycles, which are
-//! judged. Of a sine (0) there are only those that `sample`, and `sine` at a phase alone, refuse: one that is played is
-//! measured (`sine_rows`). Only Pulse has a duty. The slots are eight numbers, 42 each before the call, of which the first are written.
+//! up to eight by `process_waveform_scalar`, which reduces. `sample` takes a phase and a step of it in cycles, which
+//! are judged. Of a sine (0) there are only the rows that `sample`, and `sine` at a phase alone, refuse: a sine that is
+//! played is measured (`sine_rows`). Only Pulse has a duty. The slots are eight numbers, 42 each before the call, of
+//! which the first are written.
 
 use crate::chance::Chance;
 use crate::math::Real;
@@ -45,7 +46,7 @@ pub const TAU: f64 = <f64 as Real>::TAU;
 const RATES: [f64; 5] = [8000.0, 16384.0, 44100.0, 48000.0, 192000.0];
 pub const FREQUENCIES: [f64; 8] = [0.0, TINY, f64::MIN_POSITIVE, 1e-3, 440.0, 12543.853_515_625, 20000.0, 19999.999];
 
-/// A row's given words; a duty stands only where Pulse reads it, a scale and a length only where a block has them.
+/// A row's given words; a duty is given only where Pulse reads it, a scale and a length only where a block has them.
 fn given(op: u64, shape: u64, duty: f64, phase: f64, step: f64, scale: f64, length: u64) -> Vec<u64> {
     let duty = if shape == PULSE { duty } else { 0.0 };
     let (scale, length) = if op == BLOCK { (scale, length) } else { (1.0, 1) };
@@ -175,7 +176,7 @@ fn edges_of_fill() -> Vec<Vec<u64>> {
     rows
 }
 
-/// Lengths 0, 1 and 8; the reduction of phases below 0 and far away too, which a block of ours takes as they are.
+/// Lengths 0, 1 and 8; also phases below 0 and far away, which a block of ours takes as they are and reduces.
 fn edges_of_block() -> Vec<Vec<u64>> {
     let mut rows = Vec::new();
     let far = [-TINY, -1.0, -TAU, near(-TAU, -1), near(-TAU, 1), -999.99, 1e6, -1e6, 1e300, -1e300];

@@ -175,7 +175,7 @@ def voice_version():
 
 
 class Shelf:
-    """What stands in a shelf's file, each field as it must be."""
+    """The fields of a shelf's file, each as it must be."""
 
     def __init__(self, path):
         data = Path(path).read_bytes()
@@ -196,7 +196,7 @@ class Shelf:
 
 
 def sum_of(data):
-    """The sum that stands in shelves: 8 bytes a step, from a start that holds the length."""
+    """The sum that shelves have: 8 bytes a step, from a start that depends on the length."""
     total = 0xCBF29CE484222325 ^ len(data)
     for (word,) in struct.iter_unpack("<Q", data + b"\0" * (-len(data) % 8)):
         total = (total ^ word) * 0x9E3779B97F4A7C15 & (2**64 - 1)

@@ -48,7 +48,7 @@ static uint8_t *exact(const uint8_t *from, size_t len) {
     return copy;
 }
 
-/* Room for words, and none in it. */
+/* Room for words, empty. */
 static struct why *no_words(void) {
     static struct why why;
     why.status = DONE;

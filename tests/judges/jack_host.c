@@ -1,5 +1,5 @@
 /* A live host under JACK, as a judge of the library: it plays a score in the buffers that jackd asks for, each from the
-   state that the one before it left, and hears of a record only with the buffer that it stands in.
+   state that the one before it left, and gives the library a record only with the buffer that holds its position.
      jack_host CODE DUTY ATTACK DECAY SUSTAIN RELEASE N <SCORE
    Its port is gavberin:sound. Once that is connected it has jackd freewheel, is silent for some samples, plays a click
    of 1, which tells a recording where sample zero comes, then the N samples, and ends the freewheeling. */
@@ -32,7 +32,7 @@ static uint32_t position_of(const uint8_t *record) {
     return (uint32_t)record[2] | (uint32_t)record[3] << 8 | (uint32_t)record[4] << 16 | (uint32_t)record[5] << 24;
 }
 
-/* The next samples of the score; those records are heard that stand before the last of them. */
+/* The next samples of the score; the library gets the records at positions before the last of them. */
 static void play(struct host *host, float *to, size_t n) {
     static double part[MOST_BUFFER];
     while (host->heard < host->score_len && position_of(host->score + host->heard) < host->position + n)

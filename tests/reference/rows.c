@@ -1,7 +1,7 @@
-/* Holds the reference voice to the rows that the original wrote: rows PART FILE, one of pitch, blocks and render, whose
- * layout oracle/README.md tells; the file has no head (oracle/parts.py). Every word is compared; the samples of a sine,
- * which is ours, lie within a millionth of their scale, and the row's own are the sines of another library. Says how
- * many rows are equal; exit status 1 where one is not, or where an op lacks one of its numbers. */
+/* Compares the reference voice with the rows that the original wrote: rows PART FILE, PART being pitch, blocks or
+ * render; oracle/README.md has their layout; the file has no head (oracle/parts.py). Every word is compared; the
+ * samples of a sine, which is ours, lie within a millionth of their scale, since the row's are the sines of another
+ * library. Says how many rows are equal; exit status 1 where one is not, or where an op lacks one of its numbers. */
 #include "voice.h"
 
 #include <math.h>
@@ -12,7 +12,7 @@
 #define MOST_OPS 6
 #define RERENDER 2 /* the op of render that is one */
 
-/* The numbers that are met are a set of bits for each op. */
+/* For each op a set of bits: the numbers of the answers that were met. */
 struct tally {
     size_t total, equal;
     double largest;
@@ -108,8 +108,8 @@ static void block_row(struct rows *rows, struct tally *tally) {
     free(out);
 }
 
-/* A row of render: what is given, and where its answers stand. A re-render has an old score too, and the samples and
- * words that it finds. */
+/* A row of render: what is given, and where its answers are. A re-render has an old score too, and the samples and
+ * words that it starts with. */
 struct asked {
     struct gav_settings settings;
     struct records records;
@@ -119,7 +119,7 @@ struct asked {
     const uint64_t *state, *found, *answer, *samples, *scales, *shelf;
 };
 
-/* So many bytes, in whole words from here on. */
+/* Takes so many bytes of the row, padded to whole words. */
 static uint8_t *take_bytes(const uint64_t **here, size_t len) {
     uint8_t *bytes = room(len);
     for (size_t i = 0; i < len; i++) bytes[i] = (uint8_t)((*here)[i / 8] >> 8 * (i % 8));

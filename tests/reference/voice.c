@@ -1,5 +1,5 @@
 /* Making a sample: 01's "Steps", "Pitch and sine" and "Making sample n". Each operation is rounded once, in the order
- * in which it stands (compile with -ffp-contract=off). */
+ * in which it is written (compile with -ffp-contract=off). */
 #include "voice.h"
 
 #include "pitches.h"
@@ -57,8 +57,8 @@ static double triangle(double u, double dt) {
     return naive + 8.0 * poly_blamp(u, dt) - 8.0 * poly_blamp(half, dt);
 }
 
-/* "entry k is the one nearest to A*sin(k*pi/2048)": no such number is so near to the middle of two whole ones that a
- * C library's last bit would tell. */
+/* "entry k is the one nearest to A*sin(k*pi/2048)": no such number is so near to the middle of two whole numbers that
+ * the last bit of a C library's sine could change the nearest. */
 const int64_t *quarter_wave(void) {
     static int64_t wave[QUARTER + 1];
     const double a = 1073741824.0;
@@ -243,7 +243,7 @@ void voice_act(struct voice *v, const uint8_t *record) {
     v->acted = acted;
 }
 
-/* Whether the first record that has not acted stands at n. */
+/* Whether the first record that has not acted is at position n. */
 static bool stands(const struct voice *v, struct records score, uint64_t n) {
     return v->acted < score.count && record_position(score.bytes + RECORD * v->acted) == n;
 }

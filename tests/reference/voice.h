@@ -1,11 +1,11 @@
 /* The reference voice: what document 01 says of the voice, and the texts of the original that 01 points to
  * (polyblep.rs, envelope.rs, voice.rs), written down a second time in plain C, as the judge of the library on a host.
- * It is slow on purpose: every sample is made by 01's steps one after the other, and each rule stands in one place.
+ * It is slow on purpose: every sample is made by 01's steps one after the other, and each rule is written once.
  *
  * Its own: every rule, and the sine's quarter wave, which it makes by 01's rule of the nearest whole number.
  * Shared: the sizes and codes of gavberin.h. The pitches (pitches.h) are the original's 128 answers, since no rule
- * gives their last bits. Held to: the rows of `pitch`, `blocks` and `render`, which the original wrote, by
- * tests/the-reference-follows-the-original.test. Nothing here is taken from crates/. */
+ * gives their last bits. tests/the-reference-follows-the-original.test compares it with the rows of `pitch`, `blocks`
+ * and `render`, which the original wrote. Nothing here is taken from crates/. */
 #ifndef VOICE_H
 #define VOICE_H
 
@@ -20,7 +20,7 @@
 #define TAU 6.283185307179586
 #define INV_TAU 0.15915494309189535
 
-#define BLOCK 64  /* samples from one reduction to the next where no record stands */
+#define BLOCK 64  /* samples from one reduction to the next where no record acts */
 #define RECORD 10 /* bytes of a record */
 #define MOST_RECORDS 4096
 #define MOST_HELD 16
@@ -108,7 +108,8 @@ uint64_t reference_list(const uint8_t *score, size_t len, uint8_t *text, size_t 
 #define NOWHERE UINT64_MAX
 uint64_t first_change(const uint8_t *old, size_t old_len, const uint8_t *new_, size_t new_len);
 
-/* The block call of the oscillator, highest 20,000 and depth 1, and of the LFO, highest 100. Phase is the one after. */
+/* The block call of the oscillator, highest 20,000 Hz and depth 1, and of the LFO, highest 100 Hz. phase: before the
+ * call the given phase, after it the new one. */
 struct block {
     uint32_t rate, code;
     double duty, frequency, highest, depth;

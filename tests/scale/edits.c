@@ -4,7 +4,7 @@
 
 #include <stdio.h>
 
-/* What a re-render is due to do: the mark that it starts at, the end where it writes nothing. */
+/* What a re-render must do: the first sample of the section that it starts at, or the end where it writes nothing. */
 struct plan {
     size_t mark, entry; /* in samples, and in words of the shelf */
     uint64_t answer;
@@ -17,8 +17,8 @@ static struct plan plan_of(const struct round *r, const struct score *new_) {
     return (struct plan){mark, entry, says(0, 0, r->n - mark)};
 }
 
-/* All that is not the entry to start from may be rubbish: what lies before the mark stays, what lies behind nobody
- * reads. */
+/* Everything but the entry to start from may be rubbish: what lies before the start stays, and no call reads what lies
+ * after it. */
 static void spoil(struct round *r, struct plan plan, bool before, bool behind) {
     uint64_t *out = words_of(&r->lent, OUT), *shelf = words_of(&r->lent, SHELF);
     size_t words = gav_shelf_words(r->n), after = plan.entry + GAV_STATE_WORDS;
@@ -32,7 +32,7 @@ static void spoil(struct round *r, struct plan plan, bool before, bool behind) {
     }
 }
 
-/* The render of the new score from the mark on is put into what is expected. */
+/* From the start on, what is expected is the render of the new score. */
 static void expect(struct round *r, struct plan plan, const struct heard *heard) {
     size_t words = gav_shelf_words(r->n);
     copy_buffers(&r->expected, &r->lent);
@@ -50,7 +50,7 @@ static void rerender(struct round *r, const struct score *new_, struct plan plan
     r->tally->kept += 8 * (plan.mark + plan.entry);
 }
 
-/* What was rubbish before the mark is mended afterwards, by what is heard: there the two scores play the same. */
+/* Rubbish before the start is replaced afterwards by the judge's samples: there the two scores play the same. */
 static void edit(struct round *r, int number) {
     static struct score new_;
     bool before = one_in(&r->chance, 2), behind = one_in(&r->chance, 2);

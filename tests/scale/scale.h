@@ -8,7 +8,7 @@
 #include "chance.h"
 #include "original.h"
 
-#define LONGEST 12289 /* samples of a round's output at most */
+#define LONGEST 12289 /* the most samples of a round's output */
 #define MOST_ENTRIES 4
 #define COUNT_OF(array) (sizeof(array) / sizeof *(array))
 
@@ -105,7 +105,7 @@ struct written {
 };
 
 void differ(const struct round *r, const char *format, ...);
-/* A call that is done: r->lent is lent, and r->expected what is to stand in it afterwards. */
+/* A call that is done: r->lent is lent, and r->expected is what it must hold afterwards. */
 void call_done(struct round *r, const struct call *call, uint64_t answer, struct written written);
 /* A call that is refused, and changes nothing. */
 void call_refused(struct round *r, const struct call *call, uint64_t answer);

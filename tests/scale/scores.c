@@ -66,7 +66,7 @@ static size_t random_count(struct chance *c, size_t n) {
 
 static uint32_t before(uint64_t position) { return (uint32_t)(position > 0 ? position - 1 : 0); }
 
-/* Anywhere; at or beside a mark; where another record stands; at the end or past it. */
+/* Anywhere; at the start of a section or beside it; where another record is; at the end or past it. */
 static uint32_t random_position(struct chance *c, size_t window, size_t n, const uint32_t *other) {
     uint32_t any = (uint32_t)below(c, window);
     const uint32_t ends[] = {before(n), (uint32_t)n, (uint32_t)n + 1, UINT32_MAX, (uint32_t)chance_word(c)};
@@ -92,7 +92,7 @@ static int by_size(const void *a, const void *b) {
     return (x > y) - (x < y);
 }
 
-/* Over the whole output and somewhat more, or all near its begin. */
+/* Over the whole output and somewhat more, or all near its beginning. */
 static void random_positions(struct chance *c, size_t n, uint32_t *positions, size_t count) {
     const size_t windows[] = {n, n, n + n / 4, n < 150 ? n : 150};
     size_t window = 1 + PICK(c, windows);
@@ -137,7 +137,7 @@ void strike(struct chance *c, struct score *score, uint64_t position) {
     put_in(c, score, record);
 }
 
-/* At and beside the marks, at the end and before it, or anywhere. */
+/* At the starts of sections and beside them, at the end and before it, or anywhere. */
 static uint32_t edit_position(struct chance *c, size_t n) {
     uint32_t mark = (uint32_t)below(c, n / GAV_MARK + 2) * GAV_MARK, any = (uint32_t)below(c, n + 1);
     const uint32_t near[] = {before(mark), mark, mark + 1, before(n), (uint32_t)n, any, any, any};

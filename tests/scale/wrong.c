@@ -1,4 +1,4 @@
-/* Wrong libraries: each stands between the program at scale and the library (gcc's --wrap) and spoils one thing of one
+/* Wrong libraries: each is put between the program at scale and the library (gcc's --wrap) and spoils one thing of one
  * call. WRONG in the environment chooses it, from 1 on; 0 spoils nothing, and one past the last says how many there
  * are. */
 #include "scale.h"
@@ -40,9 +40,9 @@ enum wrong {
     RENDER_ORDER,         /* 7 before 6 */
     RENDER_SCORE,         /* a render writes into the score */
     RERENDER_COUNT,       /* the count is the whole output's */
-    RERENDER_NAN_BEFORE,  /* NaNs before the mark lose their payloads */
-    RERENDER_BEFORE,      /* the sample before the mark is written */
-    RERENDER_OLD_ENTRY,   /* an entry before the mark is another */
+    RERENDER_NAN_BEFORE,  /* NaNs before the start lose their payloads */
+    RERENDER_BEFORE,      /* the sample before the start is written */
+    RERENDER_OLD_ENTRY,   /* an entry before the start is another */
     RERENDER_START,       /* 8 is not given */
     RERENDER_NOTHING,     /* nothing is written, and the count is right */
     CONTINUE_GUARD,       /* a word past the part is written */

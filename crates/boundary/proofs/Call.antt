@@ -1,4 +1,5 @@
--- A continuing call on the words of a state is that call on the state, its answer packed; where its word has number 0 it has made the whole part. Assumes nothing.
+-- A continuing call on the words of a state is the call on that state, with the answer packed; where the word's number
+-- is 0 the call has made the whole part. Assumes nothing.
 use mathlib.Core.Path.{_≡_, refl, ap, _∙_}
 use mathlib.Core.Bool.{true}
 use mathlib.Core.List.{List, [], _∷_}

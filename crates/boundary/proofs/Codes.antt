@@ -1,4 +1,5 @@
--- What a host asks for is known or unknown. Known, the settings have the host's own sustain; a call that does not answer 6 tells that they are. Assumes nothing.
+-- What a host asks for is known or unknown. Known settings have the host's own sustain; a call whose number is not 6
+-- shows that the settings are known. Assumes nothing.
 use mathlib.Core.Path.{_≡_, refl, subst, ap}
 use lib.Dec.{T}
 use lib.Ieee.{Float, binary64, fits}

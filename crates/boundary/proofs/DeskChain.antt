@@ -1,4 +1,5 @@
--- The claim of specs/WordsChain.antt. The words tell what the chain on states leaves (proofs/Tells.antt), and that is one render (`demands`). Assumes nothing.
+-- The claim of specs/WordsChain.antt. The chain in words leaves what the chain on states leaves (proofs/Tells.antt),
+-- and that is one render (`demands`). Assumes nothing.
 use mathlib.Core.Path.{_≡_, refl, sym, ap, subst, _∙_}
 use mathlib.Core.Bool.{true}
 use mathlib.Core.List.{List, [], _∷_, map}
@@ -35,12 +36,12 @@ use Rattle.boundary.proofs.Tells.{zero-all, tells, stands-fresh}
 fresh-left : (room : List ℕ) → length room ≡ entryWords → freshFor room .left ≡ entryOf (freshOf 0)
 fresh-left room l = rw (eq-eqb (length room) entryWords l) refl
 
--- every number done is 0
+-- the number of every answer that is done is 0
 done-zeros : (xs : List Step) → AllZero (map packedOf (doneAll xs))
 done-zeros [] = tt
 done-zeros (x ∷ xs) = (done-zero (length (x .part)), done-zeros xs)
 
--- ---- the theorem
+-- ---- the theorem: number 0 in every word, so one render
 module _ (a : Asked) (sus : T (fits binary64 (a .sustain))) (room : List ℕ) (twelve : length room ≡ entryWords) where
   abbrev calls : List Step → Continued (List ℕ)
   calls xs = wordsChain a room xs
@@ -48,7 +49,7 @@ module _ (a : Asked) (sus : T (fits binary64 (a .sustain))) (room : List ℕ) (t
   from-fresh : (xs : List Step) → calls xs ≡ wordsChainFrom a (entryOf (freshOf 0)) 0 xs
   from-fresh xs = ap (λ (ws : List ℕ). wordsChainFrom a ws 0 xs) (fresh-left room twelve)
 
-  -- unknown settings are refused at once
+  -- unknown settings are refused by the first call
   settings-known : (x : Step) (xs : List Step) → AllZero (calls (x ∷ xs) .result) → IsKnown a
   unfolding wordsChainFrom
   settings-known x xs z = is-known a (λ e. refused-not-zero Setting (rw e at (z .0)))
@@ -73,7 +74,7 @@ module _ (a : Asked) (sus : T (fits binary64 (a .sustain))) (room : List ℕ) (t
         words = rw is (t .words ∙ ap entryOf (c .state));
       })
 
-  -- ---- the lemma
+  -- ---- every number is 0 exactly when no record was added below the position reached
   pub desk-chain-done : (g : Settings) → choiceOf a ≡ Known g → settingsOk g ≡ true → (xs : List Step) → AllAccepted xs → Grows [] xs → samplesOf xs ≤ most → ZeroExactly a room xs
   desk-chain-done g is ok xs b grow l =
       let fit = sustain-fits a sus g is in
@@ -84,7 +85,7 @@ module _ (a : Asked) (sus : T (fits binary64 (a .sustain))) (room : List ℕ) (t
         zero-if = λ f. rw (from-fresh xs, tells a g is fit xs [] 0 (freshOf 0) h grow (c .done-if f) .result) (done-zeros xs);
       }
 
-  -- ---- one call
+  -- ---- one gav_continue over the whole output
   pub one-call : (x : Step) (xs : List Step) → Grows [] (x ∷ xs) → AllZero (calls (x ∷ xs) .result) → (out : List Float) → length out ≡ samplesOf (x ∷ xs)
       → calls (x ∷ xs) .words ≡ continueFor (choiceOf a) (lastOf [] (x ∷ xs)) (freshFor room .left) 0 out .words
   unfolding wordsChainFrom

@@ -1,4 +1,5 @@
--- The claim of specs/WordsDemand3.antt: a gav_render whose number is 0 had settings that are known and in their domain and a score that is accepted, and then the calls are those of `demands`, each answer packed. Assumes nothing.
+-- The claim of specs/WordsDemand3.antt: a gav_render whose number is 0 had settings that are known and in their domain
+-- and an accepted score, and then the calls are those of `demands`, each answer packed. Assumes nothing.
 use mathlib.Core.Path.{_≡_, sym, ap, _∙_}
 use mathlib.Core.Bool.{true}
 use mathlib.Core.List.{List}
@@ -31,7 +32,7 @@ use Rattle.boundary.specs.WordsDemand3.{deskLeft, Zero, DeskRemade, Word
 use Rattle.boundary.proofs.Zero.{refused-not-zero, zero-done}
 use Rattle.boundary.proofs.Codes.{is-known, sustain-fits}
 
--- ---- what number 0 tells of a gav_render
+-- ---- what is true of a gav_render whose number is 0
 pub record Good (a : Asked) (s : List ℕ) (out : List Float) (shelf : List ℕ) : Type 0 where
   pub settings : Settings
   pub known : choiceOf a ≡ Known settings
@@ -49,7 +50,7 @@ zero-good a s out shelf z =
     let r = roomy (length out) (length shelf) (p .sized) in
     record { settings = g; known = q .known; in-domain = p .settings; taken = record { records = countOf s; accepted = p .accepted }; lent = record { short = r .short; fits = r .fits } }
 
--- ---- what is left of a known one is what a render leaves
+-- ---- a gav_render under known settings leaves what a render leaves
 module _ (a : Asked) (g : Settings) (is : choiceOf a ≡ Known g) (s : List ℕ) where
   pub desk-heard : {n : ℕ} (b : Buffers n) → deskLeft a s b .heard ≡ leftIn g s b .heard
   desk-heard b = ap (λ (c : Choice). renderFor c s (b .out) (b .shelf) .heard) is

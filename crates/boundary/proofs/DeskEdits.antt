@@ -1,4 +1,5 @@
--- The claim of specs/WordsEdits.antt: the edits in words are the edits of `demands`, each answer packed; number 0 in every word tells that the settings are known and in their domain and every score accepted. Assumes nothing.
+-- The claim of specs/WordsEdits.antt: the edits in words are the edits of `demands`, each answer packed; number 0 in
+-- every word shows that the settings are known and in their domain and every score is accepted. Assumes nothing.
 use mathlib.Core.Path.{_≡_, refl, sym, ap, subst, _∙_}
 use mathlib.Core.Bool.{true}
 use mathlib.Core.List.{List, [], _∷_, map}
@@ -44,7 +45,7 @@ edits-are a g is (new ∷ rest) old out shelf =
     let r = rerenderOf g old new out shelf in
     rw is (ap (andOver (rerendered r)) (edits-are a g is rest new (r .heard) (r .stored)))
 
--- a re-render that is done had a new score that is accepted
+-- a re-render that is done had an accepted new score
 done-taken : (g : Settings) (old new : List ℕ) (out : List Float) (shelf : List ℕ) (n : ℕ) → rerenderOf g old new out shelf .result ≡ Done n → Taken new
 done-taken g old new out shelf n d =
     let none = rerender-decided g old new out shelf .done n d in

@@ -1,6 +1,9 @@
--- Both theorems met by calls that C makes. 01's score, on at 0 and off at 100, whose second record is added when sample 100 is reached, in two parts, of 100 and 28 samples, over twelve words of rubbish that gav_fresh fills:
--- both numbers are 0, and what is left is one gav_render of the whole score. And the note alone rendered, its off added, and taken away again: the three numbers are 0, and what is left is one gav_render of the note alone.
--- Assumes nothing.
+-- Both theorems met by calls that C makes.
+-- A chain: 01's score, on at 0 and off at 100, whose second record is added when sample 100 is reached, in two parts of
+-- 100 and 28 samples, over twelve words of rubbish that gav_fresh fills. Both numbers are 0, and one gav_render of the
+-- whole score is left.
+-- Edits: the note alone rendered, its off added, and taken away again. The three numbers are 0, and one gav_render of
+-- the note alone is left. Assumes nothing.
 use mathlib.Core.Path.{_≡_, refl}
 use mathlib.Core.List.{List, [], _∷_, _++_}
 use Prim.Native.Nat.{ℕ}

@@ -1,5 +1,6 @@
--- A chain of continuing calls in words tells what the chain on states leaves. At each call the words are those of the state that a render has come to, and are read as it; so number 0 in every word is 0 from every call on the
--- states, and then the parts are those of that chain and the words left last those of its end state. Assumes nothing.
+-- A chain of continuing calls in words leaves what the chain on states leaves. At each call the words are those of a
+-- state that a render has, and are read as that state; so number 0 in every word is 0 from every call on the states,
+-- and then the parts are those of that chain and the words left last are those of its end state. Assumes nothing.
 use mathlib.Core.Path.{_≡_, refl, sym, ap, subst, _∙_}
 use mathlib.Core.List.{List, [], _∷_, _++_, map}
 use Prim.Native.Nat.{ℕ, _+_}
@@ -33,14 +34,14 @@ module _ (a : Asked) (g : Settings) (is : choiceOf a ≡ Known g) (sus : T (fits
   abbrev inWords : State → ℕ → List Step → Continued (List ℕ)
   inWords v p xs = wordsChainFrom a (entryOf v) p xs
 
-  -- what stands at v
+  -- the invariant: v is the state of a render of s at p, of an accepted s, and v's words are read as v
   pub record Stands (s : List ℕ) (p : ℕ) (v : State) : Type 0 where
     pub records : ℕ
     pub accepted : verdictOf s ≡ Accepted records
     pub reached : Reached g s p v
     pub read : Read v
 
-  -- stands again after the first call, where that is done
+  -- the invariant holds again after the first call, where that call is done
   stands-on : (s : List ℕ) (p : ℕ) (v : State) (x : Step) (xs : List Step) → Stands s p v → Grows s (x ∷ xs) → continueOf g (x .score) v p (x .part) .result .answer ≡ Done (length (x .part))
       → Stands (x .score) (onward g v p x xs) (after g v p x xs)
   stands-on s p v x xs h grow e =
@@ -62,7 +63,7 @@ module _ (a : Asked) (g : Settings) (is : choiceOf a ≡ Known g) (sus : T (fits
       let y : AllZero (inWords (after g v p x xs) (onward g v p x xs) xs .result) = subst (λ (o : Continued (List ℕ)). AllZero (o .result)) (words-step a g is v (h .read) p x xs e) z .1 in
       all-done g v p x xs e (zero-all xs (x .score) (onward g v p x xs) (after g v p x xs) (stands-on s p v x xs h grow e) (grow .1) y)
 
-  -- and then the words tell what the chain on the states leaves
+  -- and then the chain in words leaves what the chain on states leaves
   pub record Tells (xs : List Step) (c : ChainOutcome) (o : Continued (List ℕ)) : Type 0 where
     pub result : o .result ≡ map packedOf (doneAll xs)
     pub heard : o .heard ≡ c .heard
@@ -83,7 +84,7 @@ module _ (a : Asked) (g : Settings) (is : choiceOf a ≡ Known g) (sus : T (fits
         words = ap (λ (o : Continued (List ℕ)). o .words) w ∙ rest .words ∙ sym (ap (λ (o : ChainOutcome). entryOf (o .state)) b);
       }
 
-  -- before the first score there is none, and the fresh state
+  -- the invariant holds at the start: the empty score and the fresh state
   pub stands-fresh : Stands [] 0 (freshOf 0)
   unfolding stateFrom run
   stands-fresh = record { records = 0; accepted = refusals .nothing; reached = refl; read = encode-decode (freshOf 0) (fresh-fitting 0) fresh-is-state }

@@ -1,4 +1,5 @@
--- Number 0 in a word is an answer that is done: no refusal's number is 0, nor cut to it. Assumes nothing.
+-- Number 0 in a word is an answer that is done: no refusal's number is 0, nor becomes 0 when cut to eight bits. Assumes
+-- nothing.
 use mathlib.Core.Path.{_≡_, refl}
 use Prim.Native.Nat.{ℕ, _+_, _*_, _%_, _≤_}
 use native.Mathlib.Omega.{arith}
@@ -41,7 +42,7 @@ pub zero-done : (a : Answer) → numbersIn (packedOf a) .number ≡ 0 → (n : �
 zero-done (Done n) z = (n, refl)
 zero-done (Refused r) z = absurd (refused-not-zero r z)
 
--- and the other way
+-- an answer that is done has number 0 in its word
 pub done-zero : (n : ℕ) → numbersIn (packedOf (Done n)) .number ≡ 0
 unfolding packedOf
 done-zero n = omega arith

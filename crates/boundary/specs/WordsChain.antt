@@ -1,6 +1,9 @@
--- A chain of continuing calls as C makes them, on twelve words, as a claim. include/gavberin.h, of gav_continue: "Parts of any lengths, one after the other from gav_fresh at position 0, under the same settings and a score that grows only at its
--- end, are the samples of one gav_render of the last score". Each call takes the words that the call before it left, at the end of the part before. All that is
--- asked of the answers is what a host sees: the number in every word is 0. The argument is in proofs/DeskChain.antt. Definitions only.
+-- A chain of continuing calls as C makes them, on twelve words, as a claim.
+-- include/gavberin.h, of gav_continue: "Parts of any lengths, one after the other from gav_fresh at position 0, under
+-- the same settings and a score that grows only at its end, are the samples of one gav_render of the last score".
+-- Each call takes the words that the call before it left, at the end of the part before. Of the answers the claim asks
+-- only what a host sees: the number in every word is 0.
+-- The argument is in proofs/DeskChain.antt. Definitions only.
 use mathlib.Core.Path.{_≡_}
 use mathlib.Core.Bool.{true}
 use mathlib.Core.List.{List, [], _∷_, _++_, map}
@@ -20,20 +23,22 @@ use Rattle.desk.specs.declared.Choice.the-variants.{Known, Unknown}
 use Rattle.desk.specs.Packed.{packedOf, numbersIn}
 use Rattle.desk.specs.Desk.{Continued, continues, Asked, choiceOf, renderFor, continueFor, freshFor}
 
--- a call, and the rest after it: the word that each answered, the parts one after the other, and the words that are left last
+-- a call, and then the rest: the word that each call answered, the parts one after the other, and the state's words
+-- after the last call
 abbrev pub andThen : Continued ℕ → Continued (List ℕ) → Continued (List ℕ)
 andThen c rest = continues (c .result ∷ rest .result) (c .heard ++ rest .heard) (rest .words)
 
--- from the words ws at position p: a call on its part, then the rest from the words that it left, at the end of that part
+-- from the words ws at position p: a call on its part, then the rest from the words that the call left, at the end of
+-- the part
 unfoldable pub wordsChainFrom : Asked → List ℕ → ℕ → List Step → Continued (List ℕ)
 wordsChainFrom a ws p [] = continues [] [] ws
 wordsChainFrom a ws p (x ∷ xs) = let c = continueFor (choiceOf a) (x .score) ws p (x .part) in andThen c (wordsChainFrom a (c .words) (p + length (x .part)) xs)
 
--- the calls of a chain, from what gav_fresh leaves in the room for a state
+-- the calls of a chain, from what gav_fresh leaves in `room`
 abbrev pub wordsChain : Asked → List ℕ → List Step → Continued (List ℕ)
 wordsChain a room xs = wordsChainFrom a (freshFor room .left) 0 xs
 
--- the words of the state that a render ends in; none where the settings are unknown
+-- the words of a render's end state; none where the settings are unknown
 abbrev pub endWords : Choice → List ℕ → List Float → List ℕ → List ℕ
 endWords (Known g) s out shelf = entryOf (renderOf g s out shelf .result .state)
 endWords Unknown s out shelf = []
@@ -44,7 +49,8 @@ AllZero [] = Unit
 AllZero (word ∷ rest) = (numbersIn word .number ≡ 0) × AllZero rest
 
 -- ---- what is promised
--- each call counts its part, and together they leave what one render of the last score leaves, which is done
+-- each call's count is its part's length, and together the calls leave what one render of the last score leaves, which
+-- is done
 pub record OneDeskRender (a : Asked) (xs : List Step) (out : List Float) (shelf : List ℕ) (o : Continued (List ℕ)) : Type 0 where
   pub result : o .result ≡ map packedOf (doneAll xs)
   pub done : renderFor (choiceOf a) (lastOf [] xs) out shelf .result ≡ packedOf (Done (samplesOf xs))
@@ -56,14 +62,16 @@ pub record ZeroExactly (a : Asked) (room : List ℕ) (xs : List Step) : Type 0 w
   pub zero-only-if : AllZero (wordsChain a room xs .result) → NoneAddedBelow [] 0 xs
   pub zero-if : NoneAddedBelow [] 0 xs → AllZero (wordsChain a room xs .result)
 
--- ---- the claim: for any settings of which the sustain is a value of an f64, as owning it tells, and any twelve words that gav_fresh fills
+-- ---- the claim: for any settings whose sustain is a value of an f64, as every f64 of the code is, and any twelve
+-- words lent to gav_fresh
 pub record WordsPartsAreOne : Type 0 where
-  -- of one call or more
+  -- for one call or more
   pub one-render : (a : Asked) → T (fits binary64 (a .sustain)) → (room : List ℕ) → length room ≡ entryWords → (x : Step) (xs : List Step) → Grows [] (x ∷ xs) → AllZero (wordsChain a room (x ∷ xs) .result)
       → (out : List Float) (shelf : List ℕ) → length out ≡ samplesOf (x ∷ xs) → length shelf ≡ wordsFor (length out) → OneDeskRender a (x ∷ xs) out shelf (wordsChain a room (x ∷ xs))
-  -- gav_render tells no end state: the words left last are those that one gav_continue of the last score over the whole output leaves
+  -- gav_render gives no end state: the words left last are those that one gav_continue of the last score over the whole
+  -- output leaves
   pub one-call : (a : Asked) → T (fits binary64 (a .sustain)) → (room : List ℕ) → length room ≡ entryWords → (x : Step) (xs : List Step) → Grows [] (x ∷ xs) → AllZero (wordsChain a room (x ∷ xs) .result)
       → (out : List Float) → length out ≡ samplesOf (x ∷ xs) → wordsChain a room (x ∷ xs) .words ≡ continueFor (choiceOf a) (lastOf [] (x ∷ xs)) (freshFor room .left) 0 out .words
-  -- under settings in their domain, of accepted scores and an output that is not too long
+  -- under settings in their domain, for accepted scores and an output of at most 16,777,216 samples
   pub zero-exactly : (a : Asked) → T (fits binary64 (a .sustain)) → (room : List ℕ) → length room ≡ entryWords → (g : Settings) → choiceOf a ≡ Known g → settingsOk g ≡ true
       → (xs : List Step) → AllAccepted xs → Grows [] xs → samplesOf xs ≤ most → ZeroExactly a room xs

@@ -1,6 +1,9 @@
--- Demand 3 of the calls that C makes, as a claim. The demand stands whole in `demands`' specs/Demand3.antt; include/gavberin.h, of gav_rerender: "old, old_len: the score that out and shelf were rendered of".
--- A gav_render of the old score, in any output and shelf of as many samples, said 0; its entry at the mark is the one in the shelf, and anything at all may stand elsewhere. That it said 0 tells that the settings are known and in
--- their domain and the old score accepted. The argument is in proofs/DeskDemand3.antt. Definitions only.
+-- Demand 3 of the calls that C makes, as a claim. `demands`' specs/Demand3.antt has the demand's words;
+-- include/gavberin.h, of gav_rerender: "old, old_len: the score that out and shelf were rendered of".
+-- Premise: a gav_render of the old score, in any output and shelf of as many samples, answered 0; its entry of the
+-- start section is the one in the shelf, and everything else in output and shelf is arbitrary. The number 0 includes
+-- that the settings are known and in their domain and that the old score is accepted.
+-- The argument is in proofs/DeskDemand3.antt. Definitions only.
 use mathlib.Core.Path.{_≡_}
 use mathlib.Core.List.{List}
 use Prim.Native.Nat.{ℕ, _-_, _*_, _/_, _≤_, _<_}
@@ -26,13 +29,13 @@ deskLeft a s b = renderFor (choiceOf a) s (b .out) (b .shelf)
 abbrev pub Zero : ℕ → Type 0
 Zero word = numbersIn word .number ≡ 0
 
--- a gav_rerender that has started at mark m: its word, and what a host reads in it; what it leaves
+-- a gav_rerender that started at section m: its word, what a host reads in the word, and what the call leaves
 pub record DeskRemade (a : Asked) (new : List ℕ) (m : ℕ) (out : List Float) (shelf : List ℕ) (o : Outcome ℕ) : Type 0 where
   pub counted : o .result ≡ packedOf (Done (length out - m * mark))
   pub reads : numbersIn (o .result) ≡ numbersOf (Done (length out - m * mark))
   pub left : FromMark out shelf (deskLeft a new) m (o .heard) (o .stored)
 
--- ---- the claim: for any settings of which the sustain is a value of an f64, as owning it tells
+-- ---- the claim: for any settings whose sustain is a value of an f64, as every f64 of the code is
 pub record WordsDemand3 : Type 0 where
   pub re-rendered : (a : Asked) → T (fits binary64 (a .sustain)) → (old new : List ℕ) → Taken new → (out : List Float) (shelf : List ℕ) → Lent out shelf → (p : ℕ) → differenceOf old new ≡ At p → p < length out
       → (b : Buffers (length out)) → Zero (deskLeft a old b .result) → entryAt shelf (p / mark) ≡ entryAt (deskLeft a old b .stored) (p / mark)

@@ -1,5 +1,9 @@
--- Edits as C makes them, as a claim: gav_render of a score, then gav_rerender into each next one, on one output and shelf. include/gavberin.h, of gav_rerender: "old, old_len: the score that out and shelf were rendered of"; "out, n;
--- shelf, words: as for gav_render, holding what it or the last gav_rerender left". All that is asked of the answers is what a host sees: the number in every word is 0. The argument is in proofs/DeskEdits.antt. Definitions only.
+-- Edits as C makes them, as a claim: gav_render of a score, then gav_rerender into each next one, in one output and
+-- shelf.
+-- include/gavberin.h, of gav_rerender: "old, old_len: the score that out and shelf were rendered of"; "out, n; shelf,
+-- words: as for gav_render, holding what gav_render or the last gav_rerender left".
+-- Of the answers the claim asks only what a host sees: the number in every word is 0. The argument is in
+-- proofs/DeskEdits.antt. Definitions only.
 use mathlib.Core.Path.{_≡_}
 use mathlib.Core.Bool.{true}
 use mathlib.Core.List.{List, [], _∷_, map}
@@ -20,7 +24,7 @@ use Rattle.boundary.specs.WordsChain.{AllZero}
 use Rattle.boundary.specs.WordsDemand3.{deskLeft, Zero}
 
 -- ---- the calls
--- from what stands in the output and the shelf, and the score that it was made of
+-- re-renders into each next score, from an output and a shelf that were made of the score `old`
 unfoldable pub wordsEditsFrom : Asked → List ℕ → List (List ℕ) → List Float → List ℕ → Outcome (List ℕ)
 wordsEditsFrom a old [] out shelf = leaves [] out shelf
 wordsEditsFrom a old (new ∷ rest) out shelf = let c = rerenderFor (choiceOf a) old new out shelf in andOver c (wordsEditsFrom a new rest (c .heard) (c .stored))
@@ -29,7 +33,8 @@ wordsEditsFrom a old (new ∷ rest) out shelf = let c = rerenderFor (choiceOf a)
 abbrev pub wordsEdits : Asked → List ℕ → List (List ℕ) → List Float → List ℕ → Outcome (List ℕ)
 wordsEdits a first news out shelf = let c = renderFor (choiceOf a) first out shelf in andOver c (wordsEditsFrom a first news (c .heard) (c .stored))
 
--- ---- what is asked over rubbish: from mark b on what a gav_render of the old score left that said 0, and no edit before b
+-- ---- what is asked over rubbish: from section b on, what a gav_render of the old score left that answered 0, and no
+-- edit before section b
 pub record DeskEditing (a : Asked) (old : List ℕ) (news : List (List ℕ)) (b : ℕ) (out : List Float) (shelf : List ℕ) : Type 0 where
   pub sustain-fits : T (fits binary64 (a .sustain))
   pub lent : Lent out shelf
@@ -38,14 +43,16 @@ pub record DeskEditing (a : Asked) (old : List ℕ) (news : List (List ℕ)) (b 
   pub none-before : NoneBefore b (length out) old news
 
 -- ---- what is promised
--- each call counts the samples of its plan; from mark b on one gav_render of the last score, before it what came
+-- each call has the count of its plan; from section b on one gav_render of the last score is left, before section b
+-- what came
 pub record DeskEdited (a : Asked) (old : List ℕ) (news : List (List ℕ)) (b : ℕ) (out : List Float) (shelf : List ℕ) (o : Outcome (List ℕ)) : Type 0 where
   pub settings : Settings
   pub known : choiceOf a ≡ Known settings
   pub result : o .result ≡ map packedOf (allCounted settings old news (length out))
   pub left : FromMark out shelf (deskLeft a (lastScore old news)) b (o .heard) (o .stored)
 
--- after a gav_render: each call counts the samples of its plan, of n, and together they leave what one gav_render of the last score leaves, which is done
+-- after a gav_render: each call has the count of its plan in n samples, and together the calls leave what one
+-- gav_render of the last score leaves, which is done
 pub record LastDeskRender (a : Asked) (first : List ℕ) (news : List (List ℕ)) (n : ℕ) (out : List Float) (shelf : List ℕ) (o : Outcome (List ℕ)) : Type 0 where
   pub settings : Settings
   pub known : choiceOf a ≡ Known settings
@@ -58,11 +65,12 @@ pub record LastDeskRender (a : Asked) (first : List ℕ) (news : List (List ℕ)
 pub record WordsAnyEdits : Type 0 where
   pub over-rubbish : (a : Asked) (old : List ℕ) (news : List (List ℕ)) (b : ℕ) (out : List Float) (shelf : List ℕ) → DeskEditing a old news b out shelf
       → AllZero (wordsEditsFrom a old news out shelf .result) → DeskEdited a old news b out shelf (wordsEditsFrom a old news out shelf)
-  -- and every number is 0 where the scores are accepted
+  -- every number is 0 where the scores are accepted
   pub over-rubbish-zero : (a : Asked) (old : List ℕ) (news : List (List ℕ)) (b : ℕ) (out : List Float) (shelf : List ℕ) → DeskEditing a old news b out shelf
       → AllTaken news → AllZero (wordsEditsFrom a old news out shelf .result)
   pub from-a-render : (a : Asked) → T (fits binary64 (a .sustain)) → (first : List ℕ) (news : List (List ℕ)) (out : List Float) (shelf : List ℕ) → AllZero (wordsEdits a first news out shelf .result)
       → (out′ : List Float) (shelf′ : List ℕ) → length out′ ≡ length out → length shelf′ ≡ length shelf → LastDeskRender a first news (length out) out′ shelf′ (wordsEdits a first news out shelf)
-  -- and every number is 0 under settings in their domain, for an output and a shelf of sizes that go together and accepted scores
+  -- every number is 0 under settings in their domain, for accepted scores, an output of at most 16,777,216 samples and
+  -- a shelf that fits it
   pub from-a-render-zero : (a : Asked) → T (fits binary64 (a .sustain)) → (first : List ℕ) (news : List (List ℕ)) (out : List Float) (shelf : List ℕ)
       → (g : Settings) → choiceOf a ≡ Known g → settingsOk g ≡ true → Lent out shelf → Taken first → AllTaken news → AllZero (wordsEdits a first news out shelf .result)

@@ -1,5 +1,7 @@
--- A re-render's statement is total: from any start entry that is a state, a doctored one too. What lies before the mark stays as it came, and so does the start entry itself; and what is answered and made depends on the
--- settings, the new score, the number of samples, the mark and its entry alone, not on the old samples or the other entries. Assumes nothing.
+-- A re-render's statement is total: it covers any start entry that is a state, even one that no render leaves. What
+-- lies before the start section stays as it came, and so does the start entry. The answer, the samples and the entries
+-- depend on the settings, the new score, the number of samples, the start section and its entry alone, not on the old
+-- samples or the other entries. Assumes nothing.
 use mathlib.Core.Path.{_≡_, refl, sym, ap, _∙_}
 use mathlib.Core.Bool.{true, _&&_}
 use mathlib.Core.List.{List, [], _++_}
@@ -38,7 +40,7 @@ front k xs ys h = take-at (take k xs) ys k (length-take-le k xs h)
 pub back : {A : Type 0} (k : ℕ) (xs ys : List A) → k ≤ length xs → drop k (take k xs ++ ys) ≡ ys
 back k xs ys h = ap (λ (i : ℕ). drop i (take k xs ++ ys)) (sym (length-take-le k xs h)) ∙ drop-append-seam (take k xs) ys
 
--- no sample on, the state is the one that it was
+-- after no sample the state is the one before
 none-yet : (g : Settings) (s : List ℕ) (m : ℕ) (v : State) → stateFrom g s (m * mark) v (0 * mark) ≡ v
 unfolding stateFrom run
 none-yet g s m v = refl
@@ -51,7 +53,7 @@ module _ (g : Settings) (old new : List ℕ) (out : List Float) (shelf : List �
   there : m < entriesFor (length out)
   there = plan-there old new (length out) m planned
 
-  -- the call leaves all as it came, or what is made from an entry that is a state, where the shelf fits
+  -- the call leaves all as it came, or what is made from an entry that is a state, in a shelf that fits
   either-way : (P : Outcome Answer → Type 0) → ((why : Refusal) → P (keptOf out shelf why)) → (isStart new m shelf ≡ true → length shelf ≡ wordsFor (length out) → P (madeFrom g old new m out shelf)) → P call
   unfolding rerenderOf
   either-way P kept made =
@@ -66,7 +68,8 @@ module _ (g : Settings) (old new : List ℕ) (out : List Float) (shelf : List �
   pub entries-stay : take (m * entryWords) (call .stored) ≡ take (m * entryWords) shelf
   entries-stay = either-way (λ (o : Outcome Answer). take (m * entryWords) (o .stored) ≡ take (m * entryWords) shelf) (λ why. refl) (λ i f. front (m * entryWords) shelf _ (omega (arith, there)))
 
-  -- the start entry is written again as it was: an entry's state has that entry's words
+  -- the start entry is written again with the words that it had: the words of a state read from an entry are the
+  -- entry's
   pub start-stays : ((i : ℕ) → word (entryAt shelf m) i < beyond) → entryAt (call .stored) m ≡ entryAt shelf m
   start-stays bytes = either-way (λ (o : Outcome Answer). entryAt (o .stored) m ≡ entryAt shelf m) (λ why. refl) again
     where
@@ -93,7 +96,7 @@ module _ (g : Settings) (old new : List ℕ) (out out₂ : List Float) (shelf sh
   refusals-alone : rerenderRefusals g old new (length out) shelf ≡ rerenderRefusals g old new (length out₂) shelf₂
   refusals-alone = rw (planned, planned₂, fit, fit₂, long, start-alone) refl
 
-  -- what is answered: the first refusal, or the samples from the mark on
+  -- the answer: the first refusal, or the count of samples from the start section on
   answer-is : (ys : List Float) (ws : List ℕ) → planOf old new (length ys) ≡ From m → rerenderOf g old new ys ws .result ≡ firstOf (rerenderRefusals g old new (length ys) ws) Refused (Done (length ys - m * mark))
   unfolding rerenderOf
   answer-is ys ws q =
@@ -103,7 +106,7 @@ module _ (g : Settings) (old new : List ℕ) (out out₂ : List Float) (shelf sh
   pub answer-alone : rerenderOf g old new out shelf .result ≡ rerenderOf g old new out₂ shelf₂ .result
   answer-alone = answer-is out shelf planned ∙ rw (refusals-alone, long) refl ∙ sym (answer-is out₂ shelf₂ planned₂)
 
-  -- where it is made, every sample and entry from the mark on is the same
+  -- where nothing is refused, every sample and entry from the start section on is the same
   module _ (none : rerenderRefusals g old new (length out) shelf ≡ []) where
     there-too : m < entriesFor (length out)
     there-too = plan-there old new (length out) m planned

@@ -1,4 +1,5 @@
--- The claim of specs/Chain.antt. What a chain has come to is what a render of its last score has come to: by the calls, each of which goes on under a score that grew at its end. Assumes nothing.
+-- The claim of specs/Chain.antt. After each call the state is that of a render of the call's score at the position
+-- reached; by induction over the calls, each of which goes on under a score that grew at its end. Assumes nothing.
 use mathlib.Core.Path.{_≡_, refl, sym, _∙_}
 use mathlib.Core.Bool.{true}
 use mathlib.Core.List.{List, [], _∷_}
@@ -32,14 +33,14 @@ use Rattle.render.specs.Calls.{madeOf, renderOf, madePart}
 use Rattle.demands.specs.Chain.{Step, ChainOutcome, andThen, chainFrom, samplesOf, lastOf, AllDone, Grows, AllAccepted, NoneBelow, NoneAddedBelow, OneRender, DoneExactly, PartsAreOne}
 use Rattle.demands.proofs.Link.{PassedCall, call-passed, call-done, Agrees, Reached, acted-is, same-count, none-below, agrees, goes-on, after, onward, chain-step, first-done, rest-done, all-done}
 
--- ---- a chain, from where a render of s has come to
--- it ends as a render of l would that goes on from v at p, and l makes the same as s up to there
+-- ---- a chain, from a state that a render of s has at position p
+-- the chain ends as a render of l that goes on from v at p does, and l makes the same as s up to p
 record Ends (g : Settings) (s l : List ℕ) (p : ℕ) (v : State) (n : ℕ) (o : ChainOutcome) : Type 0 where
   agree : Agrees g s l p
   heard : o .heard ≡ samplesFrom g l p v n
   state : o .state ≡ stateFrom g l p v n
 
--- n samples of t, and then a chain from there
+-- n samples of t, and then a chain from the state after them
 joined : (g : Settings) (s t l : List ℕ) (p : ℕ) (v : State) (n k : ℕ) (o r : ChainOutcome) → r ≡ andThen (madePart g t v p n) o
     → Agrees g s t p → Ends g t l (p + n) (stateFrom g t p v n) k o → Ends g s l p v (n + k) r
 joined g s t l p v n k o r c z y =
@@ -68,18 +69,18 @@ ends g (x ∷ xs) s m a p v r w d =
     joined g s t (lastOf t xs) p v n (samplesOf xs) (chainFrom g (stateFrom g t p v n) (p + n) xs) (chainFrom g v p (x ∷ xs)) (chain-step g v p x xs e) (agrees s t m (countOf t) a b (w .0) p g f)
     (ends g xs t (countOf t) b (p + n) (stateFrom g t p v n) (goes-on s t m (countOf t) a b (w .0) p g v r f n) (w .1) (rest-done g v p x xs d))
 
--- before the first score there is none, which is accepted
+-- the empty score before the first one is accepted
 nothing-accepted : verdictOf [] ≡ Accepted 0
 nothing-accepted = refusals .nothing
 
--- from the fresh state at 0: the samples and the end state of the last score
+-- from the fresh state at 0: the samples and the end state are those of the last score
 pub chain-samples : (g : Settings) (xs : List Step) → Grows [] xs → AllDone g (freshOf 0) 0 xs
     → (chainFrom g (freshOf 0) 0 xs .heard ≡ samplesFrom g (lastOf [] xs) 0 (freshOf 0) (samplesOf xs)) × (chainFrom g (freshOf 0) 0 xs .state ≡ stateFrom g (lastOf [] xs) 0 (freshOf 0) (samplesOf xs))
 unfolding stateFrom run
 chain-samples g xs w d = let e = ends g xs [] 0 nothing-accepted 0 (freshOf 0) refl w d in (e .heard, e .state)
 
--- ---- the theorem
--- what a chain has passed whose calls answer 0
+-- ---- the theorem: done, so one render
+-- what is true of a chain whose calls all answer 0
 record PassedChain (g : Settings) (l : List ℕ) (n : ℕ) : Type 0 where
   settings : settingsOk g ≡ true
   in-time : n ≤ most
@@ -95,7 +96,7 @@ chain-passed g x (y ∷ ys) v p d =
     let l : p + length (x .part) + samplesOf (y ∷ ys) ≤ most = q .in-time in
     record { settings = q .settings; in-time = omega arith; accepted = q .accepted }
 
--- an output of that length and a shelf that fits are taken
+-- a render into an output of that length and a shelf that fits is done
 render-is : (g : Settings) (s : List ℕ) (n : ℕ) → PassedChain g s n → (out : List Float) (shelf : List ℕ) → length out ≡ n → length shelf ≡ wordsFor (length out) → renderOf g s out shelf ≡ madeOf g s n
 unfolding renderOf
 render-is g s n q out shelf e h =
@@ -110,7 +111,7 @@ chain g x xs w d out shelf e h =
     let c = chain-samples g (x ∷ xs) w d in
     record { done = rw r refl; heard = rw r (c .0); state = rw r (c .1) }
 
--- ---- the lemma
+-- ---- every call answers 0 exactly when no record was added below the position reached
 done-none : (g : Settings) (xs : List Step) (s : List ℕ) (m : ℕ) → verdictOf s ≡ Accepted m → (p : ℕ) (v : State) → Reached g s p v → Grows s xs → AllDone g v p xs → NoneAddedBelow s p xs
 done-none g [] s m a p v r w d = tt
 done-none g (x ∷ xs) s m a p v r w d =
@@ -120,7 +121,7 @@ done-none g (x ∷ xs) s m a p v r w d =
     (f, done-none g xs t (countOf t) (q .accepted) (p + length (x .part)) (after g v p x xs) (goes-on s t m (countOf t) a (q .accepted) (w .0) p g v r f (length (x .part))) (w .1) (rest-done g v p x xs d))
 
 module _ (g : Settings) (ok : settingsOk g ≡ true) (sus : T (fits binary64 (g .adsr .sustain))) where
-  -- what a render has come to is a state
+  -- the state that a render has at any position is within the shelf's limits
   reached-state : (s : List ℕ) (m : ℕ) → verdictOf s ≡ Accepted m → (p : ℕ) (v : State) → Reached g s p v → isState v ≡ true
   unfolding isState
   reached-state s m a p v r =

@@ -1,5 +1,7 @@
--- The theorem of the chain and the lemma beside it, each met by a chain: 01's score, on at 0 and off at 100, whose second record is added when sample 100 is reached. Two parts, of 100 and 28 samples, both calls answer 0, and
--- what they leave is one render of the whole score. And a chain that the lemma refuses: with the second record at 50 the score is accepted too, but sample 50 has been made, and the second call is 10. Assumes nothing.
+-- Two chains of 01's score, on at 0 and off at 100, whose second record is added when sample 100 is reached, in parts
+-- of 100 and 28 samples. `OnTime`: both calls answer 0, and what they leave is one render of the whole score.
+-- `TooLate`: with the second record at 50 the score is accepted too, but sample 50 has been made, and the second call
+-- is 10. Assumes nothing.
 use mathlib.Core.Path.{_≡_, refl, ap, _∙_}
 use mathlib.Core.Bool.{true}
 use mathlib.Core.List.{List, [], _∷_, _++_}
@@ -30,7 +32,7 @@ use Rattle.demands.proofs.Link.{late, chain-step, first-done}
 use Rattle.demands.proofs.Chain.{chain, chain-done}
 
 -- ---- the chains
--- a square wave at 8,000 Hz; half a second each way, to half the level
+-- a square wave at 8,000 Hz; attack, decay and release half a second each, sustain one half
 abbrev pub plain : Settings
 plain = record { rate = 8000; waveform = Square; adsr = record { attack = half; decay = half; sustain = half; release = half } }
 
@@ -38,11 +40,11 @@ plain = record { rate = 8000; waveform = Square; adsr = record { attack = half; 
 abbrev pub begins : List ℕ
 begins = 0x56 ∷ 0x4E ∷ 0 ∷ 0 ∷ 0 ∷ 0 ∷ 1 ∷ 69 ∷ 127 ∷ 0 ∷ []
 
--- and off at a position below 256
+-- note 69 off at a position below 256
 abbrev pub endsAt : ℕ → List ℕ
 endsAt at = 0x56 ∷ 0x4E ∷ at ∷ 0 ∷ 0 ∷ 0 ∷ 2 ∷ 69 ∷ 0 ∷ 0 ∷ []
 
--- 100 samples of the one, and 28 with the other after it
+-- 100 samples of the note-on alone, then 28 samples with the note-off added
 abbrev pub played : ℕ → List Step
 played at = record { score = begins; part = replicate 100 half } ∷ record { score = begins ++ endsAt at; part = replicate 28 half } ∷ []
 

@@ -1,4 +1,5 @@
--- Demand 1: of render, continuing call and re-render each refusal is given exactly when its line holds and no earlier one does, and leaves all as it came. Assumes nothing.
+-- Demand 1: each refusal of render, continuing call and re-render is given exactly when its row holds and no earlier
+-- row does, and leaves all as it came. Assumes nothing.
 use mathlib.Core.Path.{_≡_, refl, subst}
 use mathlib.Core.Bool.{Bool, true}
 use mathlib.Core.List.{List, [], _++_}
@@ -25,7 +26,7 @@ use Rattle.state.specs.declared.Settings.{Settings}
 use Rattle.state.specs.declared.State.{State}
 use Rattle.demands.specs.Demand1.{RenderWhen, ContinueWhen, RerenderWhen, RenderExactly, ContinueExactly, RerenderExactly}
 
--- ---- 6, 7 and the old or only score's
+-- ---- 6, 7 and the faults of the old or only score
 module _ (g : Settings) (room : Bool) (s : List ℕ) where
   none : Passed g room s → refusalsOf g room s ≡ []
   none p = none-refused g room s (countOf s) (p .settings) (p .sized) (p .accepted)
@@ -89,7 +90,7 @@ continue-exactly g s v p part =
       as-it-came = c .keeps;
     }
 
--- ---- then the new score's, and 8
+-- ---- then the new score's faults, and 8
 module _ (g : Settings) (old new : List ℕ) (n : ℕ) (shelf : List ℕ) where
   abbrev room : Bool
   room = isRoom n (length shelf)
@@ -106,7 +107,7 @@ module _ (g : Settings) (old new : List ℕ) (n : ℕ) (shelf : List ℕ) where
   abbrev eighth : List Refusal
   eighth = startRefusals new plan shelf
 
-  -- an entry is read, and is no start
+  -- an entry is read, and a re-render cannot start from it
   start-only : (why : Refusal) → Passed g room old → verdictOf new ≡ Accepted (countOf new) → Leads why eighth → When why
   start-only why p a h = go plan refl h
     where
@@ -137,7 +138,7 @@ module _ (g : Settings) (old new : List ℕ) (n : ℕ) (shelf : List ℕ) where
   rerender-first Argument h = absurd h
   rerender-first GivenState h = absurd h
 
-  -- no entry is read, or it is a start
+  -- no entry is read, or a re-render can start from it
   starts : eighth ≡ [] → (m : ℕ) → planOf old new n ≡ From m → isStart new m shelf ≡ true
   starts e m q = let none : unless (isStart new m shelf) StartEntry ≡ [] = rw q at e in passed (isStart new m shelf) StartEntry none
 

@@ -1,4 +1,5 @@
--- The claim of specs/Demand3.antt. Both scores lead to one state at the mark, and the entry there is read as it; so a re-render goes on from the state that a render of the new score has at the mark. Assumes nothing.
+-- The claim of specs/Demand3.antt. Both scores give one state at the start of the section, and the section's entry is
+-- read as that state; so a re-render goes on from the state that a render of the new score has there. Assumes nothing.
 use mathlib.Core.Path.{_≡_, refl, sym, ap, _∙_}
 use mathlib.Core.Bool.{true}
 use mathlib.Core.List.{List, [], _++_}
@@ -44,39 +45,40 @@ use Rattle.rerender.specs.declared.Plan.the-variants.{Nothing}
 use Rattle.rerender.specs.Rerender.{planOf, entryAt, startOf, isStart, rerenderOf}
 use Rattle.rerender.proofs.Cases.{made-is, plan-equal, plan-late, plan-from, checks, checks-pass}
 
--- what a render of s leaves, of n samples
+-- what a render of s leaves, in n samples
 abbrev pub soundOf : Settings → List ℕ → ℕ → List Float
 soundOf g s n = samplesFrom g s 0 (freshOf 0) n
 
 abbrev pub shelvedOf : Settings → List ℕ → ℕ → List ℕ
 shelvedOf g s n = shelfOf (entriesFrom g s 0 (freshOf 0) (entriesFor n))
 
--- the state at mark m, of a render of s
+-- the state before the first sample of section m, in a render of s
 abbrev pub atMark : Settings → List ℕ → ℕ → State
 atMark g s m = stateFrom g s 0 (freshOf 0) (m * mark)
 
--- entry i of a render's shelf is the state there
+-- entry i of a render's shelf is the state before the first sample of section i
 pub entry-left : (g : Settings) (s : List ℕ) (n i : ℕ) → i < entriesFor n → entryAt (shelvedOf g s n) i ≡ entryOf (atMark g s i)
 entry-left g s n i h =
     entry-words (entriesFrom g s 0 (freshOf 0) (entriesFor n)) i (freshOf 0) (rw (entries-length g s 0 (freshOf 0) (entriesFor n)) h)
     ∙ ap entryOf (entry-at g s 0 (freshOf 0) (entriesFor n) i (freshOf 0) h)
 
--- an output and a shelf of such sizes are room
+-- an output and a shelf that fits it pass the test of sizes
 room-lent : (out : List Float) (shelf : List ℕ) → Lent out shelf → isRoom (length out) (length shelf) ≡ true
 room-lent out shelf z = rw (le-leb (length out) most (z .short), eq-eqb (length shelf) (wordsFor (length out)) (z .fits)) refl
 
--- a render of an accepted score is done, and leaves these
+-- a render of an accepted score is done, and leaves these samples and entries
 pub rendered : (g : Settings) → settingsOk g ≡ true → (s : List ℕ) → Taken s → (out : List Float) (shelf : List ℕ) → Lent out shelf
     → renderOf g s out shelf ≡ leaves (says (Done (length out)) (stateFrom g s 0 (freshOf 0) (length out))) (soundOf g s (length out)) (shelvedOf g s (length out))
 unfolding renderOf
 rendered g ok s a out shelf z = rw (none-refused g (isRoom (length out) (length shelf)) s (a .records) ok (room-lent out shelf z) (a .accepted)) refl
 
--- the checks are passed
+-- nothing is refused before the plan is made
 pub checked : (g : Settings) (old new : List ℕ) → Edit g old new → (out : List Float) (shelf : List ℕ) → Lent out shelf → checks g old new (length out) (length shelf) ≡ []
 checked g old new x out shelf z =
     rw (none-refused g (isRoom (length out) (length shelf)) old (x .old-taken .records) (x .settings) (room-lent out shelf z) (x .old-taken .accepted), none-newly new (x .new-taken .records) (x .new-taken .accepted)) refl
 
--- demand 3, its last sentence: where the scores are equal or the first change lies at or past the end, nothing is written and the count is nought, whatever stands in the output and in the shelf
+-- demand 3, its last sentence: where the scores are equal or the first change lies at or past the end, nothing is
+-- written and the count is 0, whatever output and shelf hold
 module _ (g : Settings) (old new : List ℕ) (x : Edit g old new) (out : List Float) (shelf : List ℕ) (z : Lent out shelf) where
   pub demand-3-nothing : planOf old new (length out) ≡ Nothing → rerenderOf g old new out shelf ≡ leaves (Done 0) out shelf
   demand-3-nothing q = checks-pass g old new out shelf (checked g old new x out shelf z) ∙ rw q refl
@@ -92,18 +94,18 @@ module _ (g : Settings) (old new : List ℕ) (x : Edit g old new) (p : ℕ) (dif
   abbrev pub m : ℕ
   m = p / mark
 
-  -- the mark is at or before the change
+  -- section m starts at or before the change
   before : m * mark ≤ p
   before = omega arith
 
   shared : Shared old new (m * mark) (countBelow old (m * mark))
   shared = differing-shared old new (x .old-taken .records) (x .new-taken .records) p (m * mark) (x .old-taken .accepted) (x .new-taken .accepted) differs before
 
-  -- so both scores lead to one state there
+  -- so both scores give one state before the first sample of section m
   pub same-mark : atMark g old m ≡ atMark g new m
   same-mark = state-shared old new (m * mark) (countBelow old (m * mark)) shared g 0 (freshOf 0) (m * mark) (omega arith)
 
-  -- from the mark on, a render of the new score goes on from that state
+  -- from section m on, a render of the new score goes on from that state
   pub sound-after : (n : ℕ) → m * mark ≤ n → drop (m * mark) (soundOf g new n) ≡ samplesFrom g new (m * mark) (atMark g new m) (n - m * mark)
   sound-after n h =
       let d : n ≡ m * mark + (n - m * mark) = omega arith in
@@ -140,7 +142,7 @@ module _ (g : Settings) (old new : List ℕ) (x : Edit g old new) (p : ℕ) (dif
       pub start-is : startOf shelf m ≡ atMark g new m
       start-is = ap (λ (e : Entry). e .state) decoded
 
-      -- an honest shelf is never refused
+      -- an entry that a render left is never refused
       pub start-taken : isStart new m shelf ≡ true
       start-taken =
           let few = accepted-few new (x .new-taken .records) (x .new-taken .accepted) in
@@ -155,7 +157,8 @@ module _ (g : Settings) (old new : List ℕ) (x : Edit g old new) (p : ℕ) (dif
           checks-pass g old new out shelf (checked g old new x out shelf z)
           ∙ rw (← plan-from old new (length out) p differs heard, start-taken, made-is g old new m out shelf (z .fits), start-is, sound-after (length out) (omega arith), shelf-after (length out) (omega arith)) refl
 
-    -- the same in terms of renders of as many samples: one of the old score left the start entry, and one of the new score is what is heard from the mark on
+    -- demand 3 in terms of renders of as many samples: a render of the old score left the start entry, and a render of
+    -- the new score gives the samples from section m on
     module _ (out₁ out₂ : List Float) (shelf₁ shelf₂ : List ℕ) (z₁ : Lent out₁ shelf₁) (z₂ : Lent out₂ shelf₂) (long₁ : length out₁ ≡ length out) (long₂ : length out₂ ≡ length out)
         (left : entryAt shelf m ≡ entryAt (renderOf g old out₁ shelf₁ .stored) m) where
       pub demand-3-of-renders : rerenderOf g old new out shelf
@@ -180,7 +183,7 @@ module _ (g : Settings) (ok : settingsOk g ≡ true) (s : List ℕ) (a : Taken s
   pub stored-is : leftIn g s b .stored ≡ shelvedOf g s n
   stored-is = ap (λ (o : Outcome Rendered). o .stored) (rendered g ok s a (b .out) (b .shelf) (b .lent)) ∙ ap (shelvedOf g s) (b .long)
 
--- so what is left before mark m and made from it on are those of any render
+-- so what is left before section m and made from section m on is the same for any render
 pub from-mark : (g : Settings) → settingsOk g ≡ true → (s : List ℕ) → Taken s → (m : ℕ) (out : List Float) (shelf : List ℕ) (ys : List Float) (ws : List ℕ)
     → drop (m * mark) ys ≡ drop (m * mark) (soundOf g s (length out)) → drop (m * entryWords) ws ≡ drop (m * entryWords) (shelvedOf g s (length out))
     → take (m * mark) ys ≡ take (m * mark) out → take (m * entryWords) ws ≡ take (m * entryWords) shelf → FromMark out shelf (leftIn g s) m ys ws

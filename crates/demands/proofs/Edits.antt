@@ -1,5 +1,6 @@
--- The claim of specs/Edits.antt. An edit keeps what is honest from mark b on: from its own mark on it leaves a render of the new score (demand 3), and between b and that mark both scores make the same. A whole render is the case
--- where b is 0. Assumes nothing.
+-- The claim of specs/Edits.antt. What a render left from section b on stays so after an edit: from its start section on
+-- the edit leaves a render of the new score (demand 3), and between section b and the start section both scores make
+-- the same. A whole render is the case b = 0. Assumes nothing.
 use mathlib.Core.Path.{_≡_, refl, sym, ap, _∙_}
 use mathlib.Core.List.{List, [], _∷_, _++_}
 use mathlib.Core.Bool.{true}
@@ -38,7 +39,7 @@ use Rattle.demands.specs.Demand3.{Taken, Edit, Lent, Buffers, leftIn}
 use Rattle.demands.specs.Edits.{editsFrom, lastScore, allCounted, AllTaken, NoneBefore, Editing, Edited, EditedWhole, AnyEdits}
 use Rattle.demands.proofs.Demand3.{soundOf, shelvedOf, atMark, entry-left, checked, demand-3, heard-is, stored-is, from-mark}
 
--- ---- a list, and another's end in the place of its own from j on
+-- ---- `over j xs ys`: the first j items of xs, then those of ys from index j on
 module _ {A : Type 0} where
   abbrev over : ℕ → List A → List A → List A
   over j xs ys = take j xs ++ drop j ys
@@ -46,7 +47,7 @@ module _ {A : Type 0} where
   pub over-length : (j : ℕ) (xs ys : List A) → j ≤ length xs → length xs ≡ length ys → length (over j xs ys) ≡ length ys
   over-length j xs ys h e = length-front ys (take j xs) j (length-take-le j xs h ∙ sym (length-take-le j ys (omega arith)))
 
-  -- before k it stands as it is
+  -- before index k <= j it is xs
   over-front : (k j : ℕ) (xs ys : List A) → k ≤ j → j ≤ length xs → take k (over j xs ys) ≡ take k xs
   over-front k j xs ys h l = take-append-le k (take j xs) (drop j ys) (omega (arith, length-take-le j xs l)) ∙ take-take k j xs h
 
@@ -55,7 +56,7 @@ module _ {A : Type 0} where
       let e : j ≡ k + (j - k) = omega arith in
       ap (λ (i : ℕ). drop k (take i xs)) e ∙ ap (drop k) (take-add k (j - k) xs) ∙ drop-at (take k xs) (take (j - k) (drop k xs)) k (length-take-le k xs l)
 
-  -- from k on it is the other, where from k to j the two are the same: both are what zs is
+  -- from k on it is ys, where xs and ys are the same from k to j: there both are zs
   over-back : (k j : ℕ) (xs ys zs : List A) → k ≤ j → j ≤ length xs → j ≤ length ys → j ≤ length zs → drop k xs ≡ drop k zs → take j zs ≡ take j ys → drop k (over j xs ys) ≡ drop k ys
   over-back k j xs ys zs h lx ly lz e f =
       drop-append-le k (take j xs) (drop j ys) (omega (arith, length-take-le j xs lx))
@@ -63,22 +64,22 @@ module _ {A : Type 0} where
       ∙ sym (drop-append-le k (take j ys) (drop j ys) (omega (arith, length-take-le j ys ly)))
       ∙ ap (drop k) (take-append-drop j ys)
 
-  -- what is the same from k on is so from later on
+  -- lists that are the same from index k on are the same from any later index on
   later : (k j : ℕ) (xs zs : List A) → k ≤ j → drop k xs ≡ drop k zs → drop j xs ≡ drop j zs
   later k j xs zs h e =
       let d : j ≡ k + (j - k) = omega arith in
       ap (λ (i : ℕ). drop i xs) d ∙ sym (drop-drop (j - k) k xs) ∙ ap (drop (j - k)) e ∙ drop-drop (j - k) k zs ∙ ap (λ (i : ℕ). drop i zs) (sym d)
 
--- ---- the front of a render
+-- ---- the first samples and entries of a render
 module _ (g : Settings) (s : List ℕ) (n : ℕ) where
-  -- its first k samples
+  -- the first k samples of a render of n are a render of k
   pub sound-front : (k : ℕ) → k ≤ n → take k (soundOf g s n) ≡ soundOf g s k
   sound-front k h =
       let d : n ≡ k + (n - k) = omega arith in
       ap (λ (i : ℕ). take k (soundOf g s i)) d ∙ ap (take k) (samples-on g s 0 (freshOf 0) k (n - k))
       ∙ take-at (soundOf g s k) (samplesFrom g s (0 + k) (stateFrom g s 0 (freshOf 0) k) (n - k)) k (samples-length g s 0 (freshOf 0) k)
 
-  -- its first m entries
+  -- the first m entries of a render are the entries of sections 0 to m - 1
   pub shelf-front : (m : ℕ) → m ≤ entriesFor n → take (m * entryWords) (shelvedOf g s n) ≡ shelfOf (entriesFrom g s 0 (freshOf 0) m)
   shelf-front m h =
       let k = entriesFor n - m in
@@ -97,7 +98,7 @@ module _ (g : Settings) (s : List ℕ) (n : ℕ) where
   shelved-length = shelf-length (entriesFrom g s 0 (freshOf 0) (entriesFor n)) ∙ ap (λ (i : ℕ). i * entryWords) (entries-length g s 0 (freshOf 0) (entriesFor n))
 
 -- ---- one edit
--- from mark b on the output and the shelf hold what a render of s leaves, of n samples
+-- from section b on, output and shelf hold what a render of s leaves, in n samples
 pub record Holds (g : Settings) (s : List ℕ) (n b : ℕ) (out : List Float) (shelf : List ℕ) : Type 0 where
   pub long : length out ≡ n
   pub fits : length shelf ≡ wordsFor n
@@ -115,14 +116,15 @@ module _ (g : Settings) (old new : List ℕ) (x : Edit g old new) (n : ℕ) (sho
   lent : Lent out shelf
   lent = record { short = omega (arith, long); fits = h .fits ∙ ap wordsFor (sym long) }
 
-  -- it is done with the samples of its plan, holds from b on what a render of the new score leaves, and before b what came
+  -- the call is done with the count of its plan, leaves from section b on what a render of the new score leaves, and
+  -- before section b what came
   pub record OneEdit (o : Outcome Answer) : Type 0 where
     pub counted : o .result ≡ Done (countFor g old new (planOf old new n) n)
     pub holds : Holds g new n b (o .heard) (o .stored)
     pub samples-stay : take (b * mark) (o .heard) ≡ take (b * mark) out
     pub entries-stay : take (b * entryWords) (o .stored) ≡ take (b * entryWords) shelf
 
-  -- where nothing is made, nothing that is heard has changed
+  -- where the plan is nothing, both scores give the same samples and entries
   unchanged : Nothing ≡ planOf old new (length out) → soundOf g old n ≡ soundOf g new n → shelvedOf g old n ≡ shelvedOf g new n → OneEdit call
   unchanged q s t =
       rw (checks-pass g old new out shelf (checked g old new x out shelf lent), ← q)
@@ -234,7 +236,7 @@ edited g old news b out shelf e =
       left = from-mark g (e .settings) (lastScore old news) (last-taken old news (e .old-taken) (e .news-taken)) b out shelf (o .heard) (o .stored) (m .holds .sound) (m .holds .shelved) (m .samples-stay) (m .entries-stay);
     }
 
--- at or after mark 0 is every edit
+-- no edit lies before section 0
 none-before-0 : (n : ℕ) (old : List ℕ) (news : List (List ℕ)) → NoneBefore 0 n old news
 none-before-0 n old [] = tt
 none-before-0 n old (new ∷ rest) = ((λ p e l. omega arith), none-before-0 n new rest)

@@ -1,5 +1,7 @@
--- Demand 3 met by an edit, and edits met over rubbish: a note at 0, and an off added at 5,000, in an output of 6,000 samples that holds rubbish throughout, with rubbish in entry 0; entry 1 is what a render of the old score left. The re-render starts at
--- mark 1, writes 1,904 samples, and leaves what stands before sample 4,096 as it is. Assumes nothing.
+-- Demand 3 met by an edit, and `AnyEdits` met over rubbish: a note at 0, and an off added at 5,000, in an output of
+-- 6,000 samples that holds rubbish throughout, with rubbish in entry 0; entry 1 is what a render of the old score left.
+-- The re-render starts at section 1, writes 1,904 samples, and leaves everything before sample 4,096 as it came.
+-- Assumes nothing.
 use mathlib.Core.Path.{_≡_, refl, sym, ap, _∙_}
 use mathlib.Core.List.{List, [], _∷_, _++_}
 use Prim.Native.Nat.{ℕ, _+_, _*_, _≤_}
@@ -72,7 +74,8 @@ pub an-edit-over-rubbish : rerenderOf plain begins edited out shelf
     ≡ leaves (Done 1904) (take 4096 out ++ drop 4096 (soundOf plain edited 6000)) (take entryWords shelf ++ drop entryWords (shelvedOf plain edited 6000))
 an-edit-over-rubbish = rw long at (demand-3 plain begins edited an-edit 5000 differs out shelf lent (omega (arith, long)) kept)
 
--- ---- and taken away again, twice over rubbish: mark 0 holds rubbish in output and shelf, from mark 1 on stands what a render of the note alone left
+-- ---- the off added and taken away again, over rubbish: section 0 holds rubbish in output and shelf; from section 1 on
+-- both hold what a render of the note alone left
 abbrev pub spoilt : List Float
 spoilt = take 4096 out ++ drop 4096 (soundOf plain begins 6000)
 
@@ -126,6 +129,7 @@ over-rubbish =
       none-before = ((λ p e l. heard-from 5000 p (sym differs ∙ e) refl), ((λ p e l. heard-from 5000 p (sym back-again ∙ e) refl), tt));
     }
 
--- both calls are done, and the output and the shelf are those of the note alone again from mark 1 on, rubbish before it
+-- both calls are done; from section 1 on output and shelf are those of the note alone again, and rubbish before section
+-- 1
 pub edits-over-rubbish : Edited plain begins (edited ∷ begins ∷ []) 1 spoilt spoiltShelf (editsFrom plain begins (edited ∷ begins ∷ []) spoilt spoiltShelf)
 edits-over-rubbish = any-edits .over-rubbish plain begins (edited ∷ begins ∷ []) 1 spoilt spoiltShelf over-rubbish

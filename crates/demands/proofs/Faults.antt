@@ -1,4 +1,5 @@
--- A score is faulty exactly as 01's lines say: by its length, or at the first record that is not right, by the first of 2, 3, 4, 5 that holds of it. Assumes nothing.
+-- A score is faulty exactly as 01's rows say: by its length, or at the first record that is not right, by the first of
+-- 2, 3, 4, 5 that holds of the record. Assumes nothing.
 use mathlib.Core.Path.{_≡_, refl, subst}
 use mathlib.Core.Bool.{Bool, true, false}
 use mathlib.Core.List.{List, [], _++_}
@@ -20,7 +21,7 @@ use Rattle.demands.specs.Demand1.{isSized, Reaches, FaultWhen, FaultsExa
 
 -- ---- the first fault of a record
 module _ (s : List ℕ) (i : ℕ) where
-  -- what holds of each where it is given holds of the first
+  -- P holds of the first fault where P holds of each fault under the condition that makes it the first
   at-first : (P : ScoreFault → Type 0) → (markRight s i ≡ false → P (Mark i)) → (markRight s i ≡ true → kindRight s i ≡ false → P (Kind i))
       → (markRight s i ≡ true → kindRight s i ≡ true → fieldsRight s i ≡ false → P (Field i)) → (markRight s i ≡ true → kindRight s i ≡ true → fieldsRight s i ≡ true → inOrder s i ≡ false → P (Order i))
       → (f : ScoreFault) → Leads f (faultsAt s i) → P f
@@ -38,7 +39,7 @@ module _ (s : List ℕ) (i : ℕ) where
   right-alone : faultsAt s i ≡ [] → (allRight s i ≡ true) × (inOrder s i ≡ true)
   right-alone e = let f = none-fine s i e in (rw (right-mark s i (f .right), right-kind s i (f .right), right-fields s i (f .right)) refl, f .ordered)
 
--- ---- of k records from the i-th on
+-- ---- the first fault of k records from record i on
 from-first : (s : List ℕ) (P : ScoreFault → Type 0) (k i : ℕ)
     → ((j : ℕ) → i ≤ j → j < i + k → ((l : ℕ) → i ≤ l → l < j → faultsAt s l ≡ []) → (f : ScoreFault) → Leads f (faultsAt s j) → P f) → (f : ScoreFault) → Leads f (faultsFrom s k i) → P f
 unfolding faultsFrom
@@ -56,7 +57,7 @@ from-leads s f (suc d) (suc k) i h b l =
     leads-after f (faultsAt s i) (faultsFrom s k (suc i)) (b i (omega arith) (omega arith)) (from-leads s f d k (suc i) (omega arith) (λ j x y. b j (omega arith) (omega arith)) (rw e at l))
 from-leads s f d zero i h b l = absurd (clash (omega arith))
 
--- ---- of a score
+-- ---- the first fault of a score
 module _ (s : List ℕ) where
   only-when : (f : ScoreFault) → Leads f (faultsOf s) → FaultWhen s f
   unfolding faultsOf

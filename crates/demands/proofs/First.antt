@@ -1,4 +1,5 @@
--- The position that two accepted scores part at is that of the first changed record: below it they have the same records, up to it they do not. Assumes nothing.
+-- The position where two accepted scores first differ is that of the first changed record: below it they have the same
+-- records, up to and including it they do not. Assumes nothing.
 use mathlib.Core.Path.{_≡_, refl, sym, ap, _∙_}
 use mathlib.Core.Bool.{Bool, true, false, cond}
 use mathlib.Core.List.{List}
@@ -39,7 +40,7 @@ module _ (s t : List ℕ) (x : Taken s) (y : Taken t) (p : ℕ) (found : differe
   cut-t : Cut t (suc p) ct
   cut-t = count-cut t (accepted-sorted t (y .records) (y .accepted)) (suc p)
 
-  -- one of the two has a record at the first index, at p
+  -- one of the two scores has a record at the first index where they differ, and its position is p
   reaches : (d < cs) ⊎ (d < ct)
   reaches = go (ltb d (countOf s)) refl (ltb d (countOf t)) refl found
     where
@@ -71,7 +72,7 @@ module _ (s t : List ℕ) (x : Taken s) (y : Taken t) (p : ℕ) (found : differe
       let b = accepted-below s t (x .records) (y .records) p p (x .accepted) (y .accepted) found (omega arith) in
       record { same-below = b .front ∙ ap (λ (c : ℕ). take (c * 10) t) (b .count); apart-at = apart }
 
--- accepted scores that are not equal have one
+-- accepted scores that are not equal have such a position
 pub differ : (s t : List ℕ) → Taken s → Taken t → (s ≡ t → ⊥) → (p : ℕ) × (differenceOf s t ≡ At p)
 differ s t a b other = go (differenceOf s t) refl
   where

@@ -1,7 +1,11 @@
--- An honest shelf is never refused, nor is an honest state. 01, "What a call says": "8 | start entry is no state, or its records acted differ from the new score's records below its position"; "10 | continuing: the given
--- state fails the shelf's test, or the score's records below its position differ in number from those acted". From the fresh state at sample 0, and from any state that passes the test at a multiple of 64, so at every
--- mark, with the right number of records acted: the state before each sample passes the test, has as many records acted as the score has below that sample, and its words are read as that state. So is every entry
--- that a render leaves. The sustain setting is a value of an f64, which is what owning it tells. Assumes nothing.
+-- A shelf that a render left is never refused, nor is a state that a render has (both are called honest).
+-- 01, "What a call says": "8 | start entry is no state, or its records acted differ from the new score's records below
+-- its position"; "10 | continuing: the given state fails the shelf's test, or the score's records below its position
+-- differ in number from those acted".
+-- Start from the fresh state at sample 0, or from any state that passes the test at a multiple of 64 (so at the start
+-- of any section) with the right number of records acted. Then the state before each later sample passes the test, has
+-- as many records acted as the score has below that sample, and its words are read as that state. So is every entry
+-- that a render leaves. The sustain is a value of an f64, as every f64 of the code is. Assumes nothing.
 use mathlib.Core.Path.{_≡_, refl, ap, sym, _∙_}
 use mathlib.Core.Bool.{true}
 use mathlib.Core.List.{List}
@@ -39,7 +43,7 @@ use Rattle.judging.proofs.Refusals.{all-passed}
 use Rattle.render.specs.Calls.{renderOf, isGiven}
 use Rattle.render.proofs.Outcomes.{render-decided}
 
--- ---- values of an f64 and arrays of 16, through every step, of any score
+-- ---- through every step the floats of a state are values of an f64, and its two arrays have 16 places
 pub fresh-fitting : (acted : ℕ) → Fitting (freshOf acted)
 fresh-fitting acted =
     let f = fresh-fits acted in
@@ -51,7 +55,7 @@ fitting-kept g s n v w f k =
     let y = state-sixteen g s n v (record { notes-long = f .notes-long; velocities-long = f .velocities-long }) k in
     record { phase-fits = x .phase-fits; envelope-fits = x .envelope-held; frequency-fits = x .frequency-fits; velocity-fits = x .velocity-fits; notes-long = y .notes-long; velocities-long = y .velocities-long }
 
--- the words ws are those of the state v and are read as it, with as many records acted as s has below n
+-- the words ws are those of the state v and are read as v, with as many records acted as s has below n
 pub record HonestEntry (s : List ℕ) (n : ℕ) (v : State) (ws : List ℕ) : Type 0 where
   pub words-are : ws ≡ entryOf v
   pub read-as : decodedOf ws ≡ record { holds = true; state = v }
@@ -66,18 +70,18 @@ module _ (g : Settings) (ok : settingsOk g ≡ true) (w : T (fits binary64 (g .a
     pub from-is-state : (k : ℕ) → isState (stateFrom g s n v k) ≡ true
     from-is-state k = in-state (stateFrom g s n v k) (limits-kept g ok w s m a n at v (state-in v i) k) (omega (arith, acted-few g s few n v c k))
 
-    -- so a continuing call takes it
+    -- so a continuing call accepts the state
     pub from-is-given : (k : ℕ) → isGiven s (n + k) (stateFrom g s n v k) ≡ true
     from-is-given k = rw (from-is-state k, eq-eqb (stateFrom g s n v k .acted) (countBelow s (n + k)) (acted-counts g s few n v c k)) refl
 
-    -- and its words are read as it
+    -- and the state's words are read as that state
     pub honest-from : Fitting v → (k : ℕ) → decodedOf (entryOf (stateFrom g s n v k)) ≡ record { holds = true; state = stateFrom g s n v k }
     honest-from f k = encode-decode (stateFrom g s n v k) (fitting-kept g s n v w f k) (from-is-state k)
 
     pub from-is-entry : Fitting v → (k : ℕ) → isEntry (entryOf (stateFrom g s n v k)) ≡ true
     from-is-entry f k = ap (λ (e : Entry). e .holds) (honest-from f k)
 
-  -- entry j of the k from mark b on
+  -- entry j of the k entries from section b on
   pub entries-honest : (b : ℕ) (v : State) → isState v ≡ true → v .acted ≡ countBelow s (b * mark) → Fitting v → (k j : ℕ) → j < k
       → HonestEntry s ((b + j) * mark) (stateFrom g s (b * mark) v (j * mark)) (take entryWords (drop (j * entryWords) (shelfOf (entriesFrom g s b v k))))
   entries-honest b v i c f k j h =
@@ -110,11 +114,11 @@ module _ (g : Settings) (ok : settingsOk g ≡ true) (w : T (fits binary64 (g .a
 
 -- ---- the shelf that a render leaves
 module _ (g : Settings) (s : List ℕ) (out : List Float) (shelf : List ℕ) where
-  -- what a render has passed that is done
+  -- what is true of a render that is done
   pub render-passed : (n : ℕ) → renderOf g s out shelf .result .answer ≡ Done n → Passed g (isRoom (length out) (length shelf)) s
   render-passed n d = all-passed g (isRoom (length out) (length shelf)) s (render-decided g s out shelf .done n d)
 
-  -- entry i, of as many as n samples have
+  -- entry i, of the entries of n samples
   pub render-honest : T (fits binary64 (g .adsr .sustain)) → (n : ℕ) → renderOf g s out shelf .result .answer ≡ Done n → (i : ℕ) → i < entriesFor n
       → HonestEntry s (i * mark) (stateFrom g s 0 (freshOf 0) (i * mark)) (take entryWords (drop (i * entryWords) (renderOf g s out shelf .stored)))
   render-honest w n d i h =

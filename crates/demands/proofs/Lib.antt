@@ -1,23 +1,23 @@
 -- What was ordered of the calls together, in the order to read it.
--- a score's faults, each exactly when its line holds first
+-- a score's faults, each exactly when its row holds first
 pub mod Faults
--- demand 1: each refusal of a call exactly when its line holds first, and all is as it came
+-- demand 1: each refusal of a call exactly when its row holds first, and then all is left as it came
 pub mod Demand1
--- an honest shelf is never refused
+-- a shelf that a render left is never refused
 pub mod Honest
 -- a continuing call, and the rest of a chain after it
 pub mod Link
 -- parts continued one after the other from the fresh state at 0 are one render
 pub mod Chain
--- a chain that is one, and a chain that is refused
+-- a chain whose calls are all done, and a chain with a call that is refused
 pub mod ChainExamples
--- what stays as it came, and what a re-render's outcome depends on alone
+-- what a re-render leaves as it came, and what its outcome depends on
 pub mod Alone
--- where two scores part is the first changed record
+-- the position where two scores first differ is that of the first changed record
 pub mod First
--- demand 3: from the mark on, a re-render is a render of the new score
+-- demand 3: from the start of its section on, a re-render is a render of the new score
 pub mod Demand3
--- any number of edits, each re-rendered, leave what one render of the last score leaves, from a mark on where they are honest from there on
+-- any number of edits leave what one render of the last score leaves
 pub mod Edits
--- an edit that meets demand 3's premises, and two that meet those of many, over rubbish
+-- an edit that meets demand 3's premises, and two that meet those of `AnyEdits`, over rubbish
 pub mod Example

@@ -1,5 +1,6 @@
--- A link of a chain: one continuing call, what it has passed where it answers 0, when it answers 0 and when 10; then a score that grew at its end, at the position that a render of the score before it has come to; then a call
--- and the rest of the chain after it. Assumes nothing.
+-- A link of a chain: one continuing call, what is true where it answers 0, when it answers 0 and when 10; then a score
+-- that grew at its end, at the position that a render of the score before it has reached; then a call and the rest of
+-- the chain. Assumes nothing.
 use mathlib.Core.Path.{_≡_, refl, sym, ap, _∙_}
 use mathlib.Core.Bool.{Bool, true, false, _&&_}
 use mathlib.Core.List.{List, [], _∷_}
@@ -38,7 +39,7 @@ use Rattle.render.proofs.Outcomes.{continue-decided}
 use Rattle.demands.specs.Chain.{Step, ChainOutcome, andThen, chainFrom, AllDone, Grown, NoneBelow}
 
 -- ---- one call
--- what a call has passed that answers 0
+-- what is true of a call that answers 0
 pub record PassedCall (g : Settings) (t : List ℕ) (v : State) (p n : ℕ) : Type 0 where
   pub settings : settingsOk g ≡ true
   pub in-time : p + n ≤ most
@@ -59,12 +60,12 @@ module _ (g : Settings) (t : List ℕ) (v : State) (p : ℕ) (part : List Float)
       let c = both (isState v) (eqb (v .acted) (countBelow t p)) (passed (isGiven t p v) GivenState (b .1)) in
       record { settings = a .settings; in-time = leb-true (p + n) most (a .sized); accepted = a .accepted; acted = eqb-true (v .acted) (countBelow t p) (c .1) }
 
-  -- under good settings, in time, with an accepted score, the given state alone counts
+  -- settings in their domain, a part that is not too long and an accepted score: the given state alone decides
   module _ (ok : settingsOk g ≡ true) (l : p + n ≤ most) (m : ℕ) (a : verdictOf t ≡ Accepted m) where
     none-before : refusalsOf g (isStretch p n) t ≡ []
     none-before = none-refused g (isStretch p n) t m ok (le-leb (p + n) most l) a
 
-    -- 0 where it is a state and as many records acted as are below p
+    -- 0 where v is within the shelf's limits and as many records acted as are below p
     pub call-done : isState v ≡ true → v .acted ≡ countBelow t p → call .result .answer ≡ Done n
     call-done i c = continue-decided g t v p part .is-done (rw (none-before, i, eq-eqb (v .acted) (countBelow t p) c) refl)
 
@@ -78,7 +79,7 @@ module _ (g : Settings) (t : List ℕ) (v : State) (p : ℕ) (part : List Float)
         go false = refl
 
 -- ---- a score s, grown to t, at position p
--- under both the same is made up to q
+-- s and t make the same up to position q
 pub record Agrees (g : Settings) (s t : List ℕ) (q : ℕ) : Type 0 where
   pub states : (n : ℕ) (v : State) (k : ℕ) → n + k ≤ q → stateFrom g s n v k ≡ stateFrom g t n v k
   pub samples : (n : ℕ) (v : State) (k : ℕ) → n + k ≤ q → samplesFrom g s n v k ≡ samplesFrom g t n v k
@@ -101,7 +102,7 @@ module _ (s t : List ℕ) (m k : ℕ) (a : verdictOf s ≡ Accepted m) (b : verd
   pub none-below : countBelow t p ≡ countBelow s p → NoneBelow s t p
   none-below e = rw (x .grown) (as-many s u whole p (rw (x .grown) at (accepted-sorted t k b)) (rw (x .grown) at e))
 
-  -- and then the same is made up to p
+  -- and then s and t make the same up to p
   pub agrees : (g : Settings) → NoneBelow s t p → Agrees g s t p
   agrees g f =
       let h : Shared s t p (countOf s) = rw (x .grown) (grown-shared s u whole p (rw (x .grown) at f)) in
@@ -111,13 +112,13 @@ module _ (s t : List ℕ) (m k : ℕ) (a : verdictOf s ≡ Accepted m) (b : verd
     pub acted-is : v .acted ≡ countBelow s p
     acted-is = ap (λ (w : State). w .acted) r ∙ acted-fresh g s (accepted-few s m a) p
 
-    -- a render of s that has come to p goes on as a render of t
+    -- a render of s that has reached p goes on as a render of t
     pub goes-on : NoneBelow s t p → (n : ℕ) → Reached g t (p + n) (stateFrom g t p v n)
     goes-on f n =
         let e : v ≡ stateFrom g t 0 (freshOf 0) p = r ∙ agrees g f .states 0 (freshOf 0) p (omega arith) in
         ap (λ (w : State). stateFrom g t p w n) e ∙ sym (rw (zero-add p) at (state-on g t 0 (freshOf 0) p n))
 
-    -- a record added below p: as many have not acted, and the call is 10
+    -- a record added below p has not acted, and the call is 10
     pub late : settingsOk g ≡ true → (part : List Float) → p + length part ≤ most → (i : ℕ) → countOf s ≤ i → i < countOf t → positionAt t i < p → continueOf g t v p part ≡ keptPart v part GivenState
     late ok part l i y z h = call-late g t v p part ok l k b (λ e. let f : p ≤ positionAt t i = none-below (sym e ∙ acted-is) i y z in omega arith)
 
@@ -142,6 +143,6 @@ module _ (g : Settings) (v : State) (p : ℕ) (x : Step) (xs : List Step) where
   pub rest-done : AllDone g v p (x ∷ xs) → AllDone g after onward xs
   rest-done d = let e : _ ≡ _ = ap (λ (o : ChainOutcome). o .answers) (sym (chain-step (first-done d))) ∙ d in cc
 
-  -- and the other way
+  -- the first call done and the rest done: all done
   pub all-done : continueOf g (x .score) v p (x .part) .result .answer ≡ Done (length (x .part)) → AllDone g after onward xs → AllDone g v p (x ∷ xs)
   all-done e d = ap (λ (o : ChainOutcome). o .answers) (chain-step e) ∙ ap (λ (l : List Answer). Done (length (x .part)) ∷ l) d

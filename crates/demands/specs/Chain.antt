@@ -1,7 +1,12 @@
--- A chain of continuing calls, as a claim. 01, "Making sample n": "So a render continued from the fresh state at 0 over consecutive parts of one output buffer, cut anywhere, under the same settings and one score or one that grows only at
--- its end and is accepted each time, gives the samples and end state of one render of the last score"; "What a call says", 10: "the score's records below its position differ in number from those acted". So the premise is that
--- every call answers 0: a record that is added below the position already reached leaves the score accepted, and the call is 10. That each score is accepted is in the answers 0; when every call answers 0 is said beside it. The
--- argument is in proofs/Chain.antt. Definitions only.
+-- A chain of continuing calls, as a claim.
+-- 01, "Making sample n": "So a render continued from the fresh state at 0 over consecutive parts of one output buffer,
+-- cut anywhere, under the same settings and one score or one that grows only at its end and is accepted each time,
+-- gives the samples and end state of one render of the last score"; "What a call says", 10: "the score's records below
+-- its position differ in number from those acted".
+-- Stricter than 01's premise, which asks for accepted scores: every call must answer 0. A record that is added below
+-- the position already reached leaves the score accepted, and the call is 10. That every call answers 0 includes that
+-- every score is accepted; `DoneExactly` says when every call answers 0.
+-- The argument is in proofs/Chain.antt. Definitions only.
 use mathlib.Core.Path.{_≡_}
 use mathlib.Core.Bool.{true}
 use mathlib.Core.List.{List, [], _∷_, _++_}
@@ -22,22 +27,23 @@ use Rattle.shelf.specs.Shelf.{wordsFor}
 use Rattle.judging.specs.Judging.{most}
 use Rattle.render.specs.Calls.{PartOutcome, renderOf, continueOf}
 
--- a call: its score, and the part of the output that it is lent
+-- a call: its score, and the part of the output that the call is lent
 pub record Step : Type 0 where
   pub score : List ℕ
   pub part : List Float
 
--- what a chain leaves: what each call answered, the parts one after the other, the end state
+-- what a chain leaves: the answer of each call, the parts one after the other, the end state
 pub record ChainOutcome : Type 0 where
   pub answers : List Answer
   pub heard : List Float
   pub state : State
 
--- a call, and the rest after it
+-- a call, and then the rest of the chain
 abbrev pub andThen : PartOutcome → ChainOutcome → ChainOutcome
 andThen c rest = record { answers = c .result .answer ∷ rest .answers; heard = c .heard ++ rest .heard; state = rest .state }
 
--- from a state v at position p: a call on its part, then the rest from the state that it answers, at the end of that part
+-- from state v at position p: a call on its part, then the rest from the state that the call answers, at the end of the
+-- part
 unfoldable pub chainFrom : Settings → State → ℕ → List Step → ChainOutcome
 chainFrom g v p [] = record { answers = []; heard = []; state = v }
 chainFrom g v p (x ∷ xs) = let c = continueOf g (x .score) v p (x .part) in andThen c (chainFrom g (c .result .state) (p + length (x .part)) xs)
@@ -47,13 +53,13 @@ abbrev pub samplesOf : List Step → ℕ
 samplesOf [] = 0
 samplesOf (x ∷ xs) = length (x .part) + samplesOf xs
 
--- the last score, after a score s
+-- the last score of a chain; s where the chain has no call
 abbrev pub lastOf : List ℕ → List Step → List ℕ
 lastOf s [] = s
 lastOf s (x ∷ xs) = lastOf (x .score) xs
 
 -- ---- what is asked of a chain
--- 0, with as many samples written as the part has, from every call
+-- every call answers 0, with as many samples written as its part has
 abbrev pub doneAll : List Step → List Answer
 doneAll [] = []
 doneAll (x ∷ xs) = Done (length (x .part)) ∷ doneAll xs
@@ -61,17 +67,17 @@ doneAll (x ∷ xs) = Done (length (x .part)) ∷ doneAll xs
 abbrev pub AllDone : Settings → State → ℕ → List Step → Type 0
 AllDone g v p xs = chainFrom g v p xs .answers ≡ doneAll xs
 
--- t is s and some bytes after it, or none
+-- t is s with any number of bytes after it
 pub record Grown (s t : List ℕ) : Type 0 where
   pub added : List ℕ
   pub grown : t ≡ s ++ added
 
--- each score is the one before it, grown; s stands before the first
+-- each score is the one before it, grown; s is the score before the first
 abbrev pub Grows : List ℕ → List Step → Type 0
 Grows s [] = Unit
 Grows s (x ∷ xs) = Grown s (x .score) × Grows (x .score) xs
 
--- each score is accepted
+-- every score is accepted
 abbrev pub AllAccepted : List Step → Type 0
 AllAccepted [] = Unit
 AllAccepted (x ∷ xs) = ((n : ℕ) × (verdictOf (x .score) ≡ Accepted n)) × AllAccepted xs
@@ -80,13 +86,13 @@ AllAccepted (x ∷ xs) = ((n : ℕ) × (verdictOf (x .score) ≡ Accepted n)) ×
 abbrev pub NoneBelow : List ℕ → List ℕ → ℕ → Type 0
 NoneBelow s t p = (i : ℕ) → countOf s ≤ i → i < countOf t → p ≤ positionAt t i
 
--- at each call, of the position p that is reached before it
+-- no call's score adds a record below the position p that was reached before the call
 abbrev pub NoneAddedBelow : List ℕ → ℕ → List Step → Type 0
 NoneAddedBelow s p [] = Unit
 NoneAddedBelow s p (x ∷ xs) = NoneBelow s (x .score) p × NoneAddedBelow (x .score) (p + length (x .part)) xs
 
 -- ---- what is promised, of a chain from the fresh state at 0
--- what one render of the last score leaves, which is done
+-- the chain leaves the samples and end state of one render of the last score, and that render is done
 pub record OneRender (g : Settings) (xs : List Step) (out : List Float) (shelf : List ℕ) : Type 0 where
   pub done : renderOf g (lastOf [] xs) out shelf .result .answer ≡ Done (samplesOf xs)
   pub heard : chainFrom g (freshOf 0) 0 xs .heard ≡ renderOf g (lastOf [] xs) out shelf .heard
@@ -99,8 +105,8 @@ pub record DoneExactly (g : Settings) (xs : List Step) : Type 0 where
 
 -- ---- the claim
 pub record PartsAreOne : Type 0 where
-  -- of one call or more, in any output of that length and any shelf that fits it
+  -- for one call or more, any output of that length and any shelf that fits it
   pub one-render : (g : Settings) (x : Step) (xs : List Step) → Grows [] (x ∷ xs) → AllDone g (freshOf 0) 0 (x ∷ xs)
       → (out : List Float) (shelf : List ℕ) → length out ≡ samplesOf (x ∷ xs) → length shelf ≡ wordsFor (length out) → OneRender g (x ∷ xs) out shelf
-  -- under settings in their domain, of which the sustain is a value of an f64, as owning it tells
+  -- under settings in their domain; the sustain is a value of an f64, as every f64 of the code is
   pub done-exactly : (g : Settings) → settingsOk g ≡ true → T (fits binary64 (g .adsr .sustain)) → (xs : List Step) → AllAccepted xs → Grows [] xs → samplesOf xs ≤ most → DoneExactly g xs

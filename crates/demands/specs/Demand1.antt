@@ -1,6 +1,10 @@
--- Demand 1, of a score's check, render, continuing call and re-render: each number exactly when its line holds and no earlier one does, and a refusal leaves all as it came. 01, "What a call says": the table "No. | Given exactly when";
--- "Order: 6, 7, the old or only score, the new score (same numbers plus 16), then 8 or 10 .. In a score 1 first, then each record 2, 3, 4, 5. Place is the record's index"; "A refusal .. hands back state by value as it came, and writes
--- nowhere". A table for each call says when each of its refusals is given; a number that is not the call's is never given. Definitions only.
+-- Demand 1 for a score's check, render, continuing call and re-render: each number exactly when its row holds and no
+-- earlier row does, and a refusal leaves all as it came.
+-- 01, "What a call says": the table "No. | Given exactly when"; "Order: 6, 7, the old or only score, the new score
+-- (same numbers plus 16), then 8 or 10 .. In a score 1 first, then each record 2, 3, 4, 5. Place is the record's
+-- index"; "A refusal .. hands back state by value as it came, and writes nowhere".
+-- For each call a table says when each of its refusals is given; a refusal that the call never gives has the condition
+-- ⊥. Definitions only.
 use mathlib.Core.Path.{_≡_}
 use mathlib.Core.Bool.{Bool, true, false, _&&_}
 use mathlib.Core.List.{List}
@@ -36,13 +40,13 @@ pub record Exactly (A B : Type 0) : Type 0 where
 abbrev pub isSized : List ℕ → Bool
 isSized s = eqb (length s % 10) 0 && leb (countOf s) 4096
 
--- record i is there, the length is right, and so is every record before it
+-- record i exists, the score's length is right, and so is every record before record i
 pub record Reaches (s : List ℕ) (i : ℕ) : Type 0 where
   pub sized : isSized s ≡ true
   pub there : i < countOf s
   pub before : (j : ℕ) → j < i → (allRight s j ≡ true) × (inOrder s j ≡ true)
 
--- when each fault is the first
+-- when each fault is the first of the score
 abbrev pub FaultWhen : List ℕ → ScoreFault → Type 0
 FaultWhen s Length = isSized s ≡ false
 FaultWhen s (Mark i) = Reaches s i × (markRight s i ≡ false)
@@ -54,7 +58,7 @@ pub record FaultsExactly (s : List ℕ) : Type 0 where
   pub faulty : (fault : ScoreFault) → Exactly (verdictOf s ≡ Faulty fault) (FaultWhen s fault)
 
 -- ---- the calls
--- when a render is refused for each of these
+-- when a render gives each refusal
 abbrev pub RenderWhen : Settings → Bool → List ℕ → Refusal → Type 0
 RenderWhen g room s Setting = settingsOk g ≡ false
 RenderWhen g room s Size = (settingsOk g ≡ true) × (room ≡ false)
@@ -64,7 +68,7 @@ RenderWhen g room s StartEntry = ⊥
 RenderWhen g room s Argument = ⊥
 RenderWhen g room s GivenState = ⊥
 
--- a continuing call: 10 after these
+-- when a continuing call gives each refusal: 10 after a render's
 abbrev pub ContinueWhen : Settings → Bool → List ℕ → Bool → Refusal → Type 0
 ContinueWhen g room s given Setting = RenderWhen g room s Setting
 ContinueWhen g room s given Size = RenderWhen g room s Size
@@ -74,7 +78,8 @@ ContinueWhen g room s given StartEntry = ⊥
 ContinueWhen g room s given Argument = ⊥
 ContinueWhen g room s given GivenState = Passed g room s × (given ≡ false)
 
--- a re-render: the new score's numbers after these, and then 8 where an entry is read
+-- when a re-render gives each refusal: the new score's after those of a render of the old score, then 8 where an entry
+-- is read
 abbrev pub RerenderWhen : Settings → Bool → List ℕ → List ℕ → ℕ → List ℕ → Refusal → Type 0
 RerenderWhen g room old new n shelf Setting = RenderWhen g room old Setting
 RerenderWhen g room old new n shelf Size = RenderWhen g room old Size

@@ -1,6 +1,12 @@
--- Edits one after the other, as a claim. Why the voice exists: "A slowly falling pad had lost eleven percent of its level after its fifth edit"; "every edit started from a state some milliseconds past the cut". A score is
--- rendered, and then each next one is re-rendered, after the one before it, into the same output and shelf. However many edits there are: every call is done with its count, and output and shelf are those of one render of the last
--- score. That holds from a mark b on where they were honest from b on and no edit lies before b; what stands before b stays as it came. The argument is in proofs/Edits.antt. Definitions only.
+-- Edits one after the other, as a claim.
+-- Why the voice exists (the demands): "A slowly falling pad had lost eleven percent of its level after its fifth edit";
+-- "every edit started from a state some milliseconds past the cut".
+-- A score is rendered; then each next score is re-rendered, after the score before it, into the same output and shelf.
+-- After any number of edits every call is done with its count, and output and shelf are those of one render of the last
+-- score.
+-- The claim also covers an output and a shelf that hold what a render left only from section b on (`HonestFrom`), where
+-- no edit lies before section b: what lies before section b stays as it came.
+-- The argument is in proofs/Edits.antt. Definitions only.
 use mathlib.Core.Path.{_≡_}
 use mathlib.Core.Bool.{true}
 use mathlib.Core.List.{List, [], _∷_}
@@ -20,21 +26,21 @@ use Rattle.rerender.specs.Rerender.{planOf, countFor, rerenderOf}
 use Rattle.demands.specs.Demand3.{Taken, Lent, Buffers, leftIn, FromMark}
 
 -- ---- the calls
--- a call, and the rest after it: what each answered, and what the rest leaves in the same output and shelf
+-- a call, and then the rest: the answer of each call, and what the rest leaves in the same output and shelf
 abbrev pub andOver : {A : Type 0} → Outcome A → Outcome (List A) → Outcome (List A)
 andOver c rest = leaves (c .result ∷ rest .result) (rest .heard) (rest .stored)
 
--- from what stands in the output and the shelf, and the score that they were made of, into each next score
+-- re-renders into each next score, from an output and a shelf that were made of the score `old`
 unfoldable pub editsFrom : Settings → List ℕ → List (List ℕ) → List Float → List ℕ → Outcome (List Answer)
 editsFrom g old [] out shelf = leaves [] out shelf
 editsFrom g old (new ∷ rest) out shelf = let c = rerenderOf g old new out shelf in andOver c (editsFrom g new rest (c .heard) (c .stored))
 
--- the last score of all
+-- the last score; `old` where there is no edit
 unfoldable pub lastScore : List ℕ → List (List ℕ) → List ℕ
 lastScore old [] = old
 lastScore old (new ∷ rest) = lastScore new rest
 
--- each done, with the samples of its plan, in an output of n
+-- each call is done, with the count of its plan in an output of n samples
 unfoldable pub allCounted : Settings → List ℕ → List (List ℕ) → ℕ → List Answer
 allCounted g old [] n = []
 allCounted g old (new ∷ rest) n = Done (countFor g old new (planOf old new n) n) ∷ allCounted g new rest n
@@ -45,12 +51,13 @@ abbrev pub AllTaken : List (List ℕ) → Type 0
 AllTaken [] = Unit
 AllTaken (s ∷ rest) = Taken s × AllTaken rest
 
--- no edit that is heard in n samples changes a record before mark b
+-- no edit that changes a record before sample n changes one before section b
 abbrev pub NoneBefore : ℕ → ℕ → List ℕ → List (List ℕ) → Type 0
 NoneBefore b n old [] = Unit
 NoneBefore b n old (new ∷ rest) = ((p : ℕ) → differenceOf old new ≡ At p → p < n → b * mark ≤ p) × NoneBefore b n new rest
 
--- from mark b on output and shelf hold what the render left there in some buffers of the same length; before it anything at all
+-- from section b on, output and shelf hold what the render left in some buffers of the same size; before section b,
+-- anything
 pub record HonestFrom {R : Type 0} (out : List Float) (shelf : List ℕ) (render : Buffers (length out) → Outcome R) (b : ℕ) : Type 0 where
   pub buffers : Buffers (length out)
   pub samples : drop (b * mark) out ≡ drop (b * mark) (render buffers .heard)
@@ -66,12 +73,12 @@ pub record Editing (g : Settings) (old : List ℕ) (news : List (List ℕ)) (b :
   pub none-before : NoneBefore b (length out) old news
 
 -- ---- what is promised
--- every call done with its count; from mark b on one render of the last score, before it what came
+-- every call is done with its count; from section b on one render of the last score is left, before section b what came
 pub record Edited (g : Settings) (old : List ℕ) (news : List (List ℕ)) (b : ℕ) (out : List Float) (shelf : List ℕ) (o : Outcome (List Answer)) : Type 0 where
   pub answered : o .result ≡ allCounted g old news (length out)
   pub left : FromMark out shelf (leftIn g (lastScore old news)) b (o .heard) (o .stored)
 
--- after a render of the old score: the whole output and shelf of any render of the last score
+-- after a render of the old score: the whole output and shelf are those of any render of the last score
 pub record EditedWhole (g : Settings) (old : List ℕ) (news : List (List ℕ)) (n : ℕ) (o : Outcome (List Answer)) : Type 0 where
   pub answered : o .result ≡ allCounted g old news n
   pub samples-are : (b : Buffers n) → o .heard ≡ leftIn g (lastScore old news) b .heard

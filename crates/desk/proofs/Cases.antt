@@ -80,7 +80,7 @@ module _ (g : Settings) (s ws : List ℕ) (p : ℕ) (part : List Float) (d : Ent
   abbrev refusals : List Refusal
   refusals = continueRefusals g s (isGivenIn s p ws) p n
 
-  -- the words are no state: 10, where nothing is refused before it
+  -- the words are no state: 10, where nothing before 10 is refused
   pub continue-none : not (d .holds) ≡ true → (t : Bool) → t ≡ isStretch p (length part) → (a : Answer) → a ≡ firstOf (refusalsOf g t s) Refused (Refused GivenState) → (word : ℕ) → word ≡ packedOf a
       → continues word part ws ≡ continueIn g s ws p part
   unfolding continueIn
@@ -90,7 +90,7 @@ module _ (g : Settings) (s ws : List ℕ) (p : ℕ) (part : List Float) (d : Ent
       rw (q, f, e, no)
       (first-through (λ (x : Answer). continues (packedOf x) part ws) before Refused (Refused GivenState) ∙ sym (first-append before (GivenState ∷ []) (keptIn part ws) (madeIn g s ws p n)))
 
-  -- the words are a state: the call on it
+  -- the words are a state: the outcome of the call on that state
   module _ (h : not (d .holds) ≡ false) (r : Rendered) (ys : List Float) (x : leavesPart r ys ≡ continueOf g s (d .state) p part) where
     entry : isEntry ws ≡ true
     entry = rw decoded at (not-false (d .holds) h)
@@ -101,7 +101,7 @@ module _ (g : Settings) (s ws : List ℕ) (p : ℕ) (part : List Float) (d : Ent
     call : leavesPart r ys ≡ continueOf g s (stateOf ws) p part
     call = rw decoded at x
 
-    -- refused: the words as they came
+    -- refused: the words stay as they came
     pub continue-refused : (why : Refusal) → r .answer ≡ Refused why → (word : ℕ) → word ≡ packedOf (r .answer) → continues word ys ws ≡ continueIn g s ws p part
     unfolding continueIn
     continue-refused why e word q =
@@ -111,7 +111,7 @@ module _ (g : Settings) (s ws : List ℕ) (p : ℕ) (part : List Float) (d : Ent
         let same : ys ≡ part = ap (λ (o : PartOutcome). o .heard) (call ∙ c .keeps why said) in
         rw (q, e, same) (sym (leads-first why refusals (keptIn part ws) (madeIn g s ws p n) first))
 
-    -- done: the words of the state after
+    -- done: the words are those of the state after the part
     pub continue-kept : (m : ℕ) → r .answer ≡ Done m → (vs : List ℕ) → vs ≡ shelf.keptIn ws (r .state) → (word : ℕ) → word ≡ packedOf (r .answer) → continues word ys vs ≡ continueIn g s ws p part
     unfolding continueIn
     continue-kept m e vs v word q =

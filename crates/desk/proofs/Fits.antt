@@ -1,4 +1,5 @@
--- Every answer that the desk packs has room in its word: its number is below 2^8, its place below 2^24, its count below 2^32. Assumes nothing.
+-- Every answer that the desk packs fits its word: its number is below 2^8, its place below 2^24, its count below 2^32.
+-- Assumes nothing.
 use mathlib.Core.Path.{_≡_, subst}
 use mathlib.Core.Bool.{Bool, _&&_}
 use mathlib.Core.List.{List, [], _++_, map}
@@ -100,7 +101,7 @@ fault-low s f h =
     (λ h. let few : countOf s ≤ 4096 = leb-true _ _ (both (eqb (length s % 10) 0) (leb (countOf s) 4096) (passed sized Length (h .0)) .1) in omega (arith, from-low s (countOf s) 0 f (h .1)))
     (leads-parts f (unless sized Length) (faultsFrom s (countOf s) 0) h)
 
--- ---- so is that of every refusal of a list
+-- ---- so is the place of every refusal in a list
 abbrev Low : List Refusal → Type 0
 Low xs = (why : Refusal) → Leads why xs → refusalPlace why ≤ 4096
 
@@ -125,7 +126,7 @@ judged-low g room s =
     (score-low s)
 
 -- ---- the calls
--- an answer by a list of such refusals, done with a count that has room
+-- an answer that is the first of such refusals, or done with a count below 2^32
 first-fits : (xs : List Refusal) → Low xs → (n : ℕ) → (xs ≡ [] → n < 4294967296) → Fits (firstOf xs Refused (Done n))
 first-fits xs low n h = first-holds Fits xs Refused (Done n) (λ why l. refused-fits why (low why l)) (λ none. done-fits n (h none))
 

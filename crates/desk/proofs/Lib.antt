@@ -3,11 +3,11 @@
 pub mod Lines
 -- each way out of a call
 pub mod Cases
--- every answer has room in its word
+-- every answer fits its word
 pub mod Fits
--- so the host reads number, place and count in it
+-- so a host reads the call's number, place and count in the word
 pub mod ReadBack
--- words, and what is judged, by example
+-- worked examples: words, and which arguments are judged
 pub mod Marks
 -- two outcomes of a public function are equal
 pub mod Unique

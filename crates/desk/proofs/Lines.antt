@@ -1,4 +1,5 @@
--- No listing is empty, and none has 2^32 bytes: of any record a line has at most 69, and a score has at most 4,096 records. Assumes nothing.
+-- No listing is empty, and none has 2^32 bytes: a record's line has at most 69 bytes, and a score has at most 4,096
+-- records. Assumes nothing.
 use mathlib.Core.List.{List}
 use Prim.Native.Nat.{ℕ, zero, suc, _*_, _≤_, _<_}
 use native.Mathlib.Omega.{arith}

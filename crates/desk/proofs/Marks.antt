@@ -1,4 +1,4 @@
--- The desk by example: words, and which of code, duty, phase and dt is judged. Computed. Assumes nothing.
+-- The desk by worked examples: words, and which of code, duty, phase and dt is judged. Computed. Assumes nothing.
 use mathlib.Core.Path.{_≡_, refl}
 use mathlib.Core.List.{[], _∷_, map}
 use lib.Ieee.{Float, binary64, ofBits, le, lt, eq}
@@ -9,7 +9,8 @@ use Rattle.floats.specs.Double.{naught}
 use Rattle.desk.specs.Packed.{packedOf}
 use Rattle.desk.specs.Desk.{shapeOf, singleOf}
 
--- done with no samples, with 4,096; the second record falls; the new score's fourth has a wrong kind
+-- done with count 0, done with count 4,096; position of record 1 below that of record 0; the new score's record 3 has a
+-- wrong kind; 6
 pub words : map packedOf (Done 0 ∷ Done 4096 ∷ Refused (Score (Order 1)) ∷ Refused (NewScore (Kind 3)) ∷ Refused Setting ∷ []) ≡ 0 ∷ 0x1000_0000_0000 ∷ 0x105 ∷ 0x313 ∷ 6 ∷ []
 unfolding packedOf
 words = refl
@@ -20,7 +21,8 @@ nan = ofBits binary64 0x7ff8_0000_0000_0000
 abbrev five : Float
 five = ofBits binary64 0x4014_0000_0000_0000
 
--- code 9 with a NaN for a phase is 6; so is a pulse with a NaN for a duty; a sine with one is done; a sine with a dt of 5 is 9
+-- code 9 with a NaN phase is 6; a pulse with a NaN duty is 6; a sine with a NaN duty is done; a sine with a dt of 5 is
+-- 9
 pub judged : (singleOf 9 nan naught naught .answer ∷ singleOf 4 naught naught nan .answer ∷ singleOf 0 naught naught nan .answer ∷ singleOf 0 naught five naught .answer ∷ [])
     ≡ Refused Setting ∷ Refused Setting ∷ Done 0 ∷ Refused Argument ∷ []
 unfolding shapeOf ofBits le lt eq

@@ -22,7 +22,7 @@ use Rattle.desk.specs.Desk.{Continued, checkOf, singleOf, rendered, rere
 use Rattle.desk.proofs.Lines.{listing-fits}
 use Rattle.desk.proofs.Fits.{Fits, done-fits, refused-fits, check-fits, single-fits, render-fits, rerender-fits, continueSays, continue-fits}
 
--- three numbers in one, and each out of it again
+-- number, place and count packed into a word, and each read out of it again
 module _ (n p c : ℕ) (a : n < 256) (b : p < 16777216) (d : c < 4294967296) where
   abbrev w : ℕ
   w = n + 256 * (p % 16777216) + 4294967296 * (c % 4294967296)
@@ -54,7 +54,7 @@ check-reads s = read-back (answerOf s) (check-fits s)
 pub sample-reads : (code : ℕ) (phase dt duty : Float) → numbersIn (packedOf (singleOf code phase dt duty .answer)) ≡ numbersOf (singleOf code phase dt duty .answer)
 sample-reads code phase dt duty = read-back (singleOf code phase dt duty .answer) (single-fits code phase dt duty)
 
--- an unknown code, whatever else is given
+-- an unknown code, whatever the other arguments are
 pub unknown-reads : numbersIn (packedOf (Refused Setting)) ≡ numbersOf (Refused Setting)
 unknown-reads = read-back (Refused Setting) (refused-fits Setting (omega arith))
 
@@ -65,7 +65,7 @@ module _ (g : Settings) where
   pub rerender-reads : (old new : List ℕ) (out : List Float) (shelf : List ℕ) → numbersIn (rerendered (rerenderOf g old new out shelf) .result) ≡ numbersOf (rerenderOf g old new out shelf .result)
   rerender-reads old new out shelf = read-back (rerenderOf g old new out shelf .result) (rerender-fits g old new out shelf)
 
--- a continuing call, from words that are no state and under unknown settings too
+-- a continuing call, also from words that are no state and under unknown settings
 pub continue-says : (c : Choice) (s ws : List ℕ) (p : ℕ) (part : List Float) → continueFor c s ws p part .result ≡ packedOf (continueSays c s ws p (length part))
 unfolding continueIn
 continue-says (Known g) s ws p part =

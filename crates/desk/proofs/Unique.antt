@@ -22,7 +22,7 @@ gav-sample-unique code phase dt duty r t p q = p ∙ sym q
 pub gav-sample-says-unique : (code : ℕ) (phase dt duty : Float) (r t : ℕ) → r ≡ packedOf (singleOf code phase dt duty .answer) → t ≡ packedOf (singleOf code phase dt duty .answer) → r ≡ t
 gav-sample-says-unique code phase dt duty r t p q = p ∙ sym q
 
--- ---- calls that are lent buffers: the word, and every number in them
+-- ---- calls that are lent buffers: the word, and every element of the buffers
 same-filled : (o : Filled) (r t : ℕ) (a b : List ℕ) → fills r a ≡ o → fills t b ≡ o → (r ≡ t) × (a ≡ b)
 same-filled o r t a b x y =
     let e : fills r a ≡ fills t b = x ∙ sym y in

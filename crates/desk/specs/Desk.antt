@@ -1,6 +1,11 @@
--- What C sees. 01, "What a call says": "The arranger's desk is a C program: score check and single waveform samples are exported to it, on numbers and byte slices. Sine to Pulse are codes 0 to 4 there, in the Rust's order. A single
--- sample takes code, normalised phase, dt and a duty that is read and judged for Pulse only; for Sine u is the phase"; number 6: "at the desk also a waveform code above 4". Beyond 01: render, re-render, continuing call, fresh state
--- and listing, on slices of f64 and u64 too. Each outcome is that of the call below, its answer packed into a word, and what is left in every lent buffer. Definitions only.
+-- What C sees.
+-- 01, "What a call says": "The arranger's desk is a C program: score check and single waveform samples are exported to
+-- it, on numbers and byte slices. Sine to Pulse are codes 0 to 4 there, in the Rust's order. A single sample takes
+-- code, normalised phase, dt and a duty that is read and judged for Pulse only; for Sine u is the phase"; number 6: "at
+-- the desk also a waveform code above 4".
+-- Beyond 01: render, re-render, continuing call, fresh state and listing, on slices of f64 and u64 too.
+-- Each outcome is that of the call of the crate below, with its answer packed into one word, and what is left in every
+-- lent buffer. Definitions only.
 use mathlib.Core.Bool.{Bool, cond, _&&_}
 use mathlib.Core.List.{List, [], _∷_, _++_}
 use Prim.Native.Nat.{ℕ}
@@ -35,7 +40,7 @@ use Rattle.desk.specs.declared.Choice.{Choice}
 use Rattle.desk.specs.declared.Choice.the-variants.{Known, Unknown}
 use Rattle.desk.specs.Packed.{packedOf}
 
--- ---- what is left by a call: the word that it answers, and what was lent
+-- ---- what a call leaves: the word that it answers, and the buffers that it was lent
 -- a call that is lent words or bytes alone
 pub record Filled : Type 0 where
   pub result : ℕ
@@ -54,7 +59,7 @@ abbrev pub continues : {R : Type 0} → R → List Float → List ℕ → Contin
 continues result part ws = record { result = result; heard = part; words = ws }
 
 -- ---- the settings
--- what a host asks, in its own numbers
+-- what a host asks for, in its own numbers
 pub record Asked : Type 0 where
   pub rate : ℕ
   pub code : ℕ
@@ -67,7 +72,7 @@ pub record Asked : Type 0 where
 abbrev pub asks : ℕ → ℕ → Float → Float → Float → Float → Float → Asked
 asks rate code duty attack decay sustain release = record { rate = rate; code = code; duty = duty; attack = attack; decay = decay; sustain = sustain; release = release }
 
--- the table of codes: 0 to 4 in the Rust's order, every other is unknown; the duty is Pulse's alone
+-- the table of codes: 0 to 4 in the Rust's order, every other code is unknown; only Pulse reads the duty
 unfoldable pub shapeOf : ℕ → Float → Shape
 shapeOf code duty =
     cond (eqb code 0) (shape.Known Sine)
@@ -76,7 +81,7 @@ shapeOf code duty =
     (cond (eqb code 3) (shape.Known Triangle)
     (cond (eqb code 4) (shape.Known (Pulse duty)) shape.Unknown))))
 
--- the settings that are asked for, or unknown
+-- the settings that a host asks for, or unknown
 abbrev pub settingsOf : Asked → Waveform → Settings
 settingsOf a w = record { rate = a .rate; waveform = w; adsr = record { attack = a .attack; decay = a .decay; sustain = a .sustain; release = a .release } }
 
@@ -99,11 +104,11 @@ singleFor shape.Unknown phase dt = valueOr (Setting ∷ []) naught
 abbrev pub singleOf : ℕ → Float → Float → Float → Value
 singleOf code phase dt duty = singleFor (shapeOf code duty) phase dt
 
--- ---- render: unknown settings are 6, which comes before all else
+-- ---- render: unknown settings are 6, before any other refusal
 abbrev pub rendered : Outcome Rendered → Outcome ℕ
 rendered o = leaves (packedOf (o .result .answer)) (o .heard) (o .stored)
 
--- a refusal leaves all as it came
+-- a refusal leaves output and shelf as they came
 abbrev pub keptOf : List Float → List ℕ → Refusal → Outcome ℕ
 keptOf out shelf why = leaves (packedOf (Refused why)) out shelf
 
@@ -119,8 +124,9 @@ abbrev pub rerenderFor : Choice → List ℕ → List ℕ → List Float → Lis
 rerenderFor (Known g) old new out shelf = rerendered (rerenderOf g old new out shelf)
 rerenderFor Unknown old new out shelf = keptOf out shelf Setting
 
--- ---- continue: a state is its twelve words, and comes back in them
--- a state, and as many records acted as the score has below p; words that are no state, another number of them too, are 10 in its place in the order
+-- ---- continue: the state comes in twelve words, and the state after the part is left in them
+-- the words are an entry, with as many records acted as the score has below p; twelve words that are no state, and any
+-- other number of words, are 10, in the order's place of 10
 abbrev pub isGivenIn : List ℕ → ℕ → List ℕ → Bool
 isGivenIn s p ws = isEntry ws && eqb (stateOf ws .acted) (countBelow s p)
 
@@ -132,7 +138,7 @@ madeIn g s ws p n = continues (packedOf (Done n)) (samplesFrom g s p (stateOf ws
 abbrev pub keptIn : List Float → List ℕ → Refusal → Continued ℕ
 keptIn part ws why = continues (packedOf (Refused why)) part ws
 
--- under settings g
+-- the outcome under known settings g
 unfoldable pub continueIn : Settings → List ℕ → List ℕ → ℕ → List Float → Continued ℕ
 continueIn g s ws p part = firstOf (continueRefusals g s (isGivenIn s p ws) p (length part)) (keptIn part ws) (madeIn g s ws p (length part))
 
@@ -140,11 +146,11 @@ abbrev pub continueFor : Choice → List ℕ → List ℕ → ℕ → List Float
 continueFor (Known g) s ws p part = continueIn g s ws p part
 continueFor Unknown s ws p part = keptIn part ws Setting
 
--- ---- the fresh state in twelve words; another number of them is 9
+-- ---- the fresh state in twelve words; any other number of words is 9
 abbrev pub freshFor : List ℕ → Filled
 freshFor ws = firstOf (unless (eqb (length ws) entryWords) Argument) (λ (why : Refusal). fills (packedOf (Refused why)) ws) (fills (packedOf (Done 0)) (entryOf (freshOf 0)))
 
--- ---- the listing, and how many bytes it has; a room that is too short for any listing is 7
+-- ---- the listing, with its number of bytes as the count; a buffer below 102,413 bytes, which every listing fits, is 7
 abbrev pub listRoom : ℕ
 listRoom = 102413
 

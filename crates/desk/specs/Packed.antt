@@ -1,5 +1,8 @@
--- An answer in one word, for a host that has no enums. 01, "What a call says": "A refusal returns number, place, count 0". Bits 0 to 7 are the number, 8 to 31 the place, 32 to 63 the count. Every answer has a word: a place or
--- a count that is too large for its bits is cut to them, so that none spills into the next; of the desk's own answers none is cut (proofs/ReadBack.antt). Definitions only.
+-- An answer in one word, for a host that has no enums: bits 0 to 7 are the number, 8 to 31 the place, 32 to 63 the
+-- count.
+-- 01, "What a call says": "A refusal returns number, place, count 0".
+-- Every answer has a word: a place or a count too large for its bits is cut to its low bits, so that none spills into
+-- the next; none of the desk's own answers is cut (proofs/ReadBack.antt). Definitions only.
 use Prim.Native.Nat.{ℕ, _+_, _*_, _/_, _%_}
 use Rattle.answers.specs.declared.Answer.{Answer}
 use Rattle.answers.specs.declared.Numbers.{Numbers}

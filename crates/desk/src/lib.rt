@@ -1,7 +1,8 @@
-// What C sees: the calls of the crates below, on numbers and slices, each with its answer in one word. 01 asks for the check of
-// a score and for single samples; render, re-render, continuing call, fresh state and listing go beyond it. A slice is a
-// pointer and a length in C; include/gavberin.h declares every function here, with the caller's duties, which nothing here can
-// test. Left out: the ported calls of phase, voice, envelope, oscillator and LFO, and the end state of a render.
+// What C sees: the calls of the crates below, on numbers and slices, each with its answer in one word. 01 asks for the
+// check of a score and for single samples; render, re-render, continuing call, fresh state and listing go beyond 01. A
+// slice is a pointer and a length in C; include/gavberin.h declares every function here, with the caller's duties,
+// which no function here can test. Left out: the ported calls of phase, voice, envelope, oscillator and LFO, and the
+// end state of a render.
 ghost use mathlib.Core.Path.{_≡_};
 ghost use Rattle.sections.specs.Outcome.{leaves};
 ghost use Rattle.desk.specs.Packed.{packedOf};
@@ -18,19 +19,19 @@ use waveform::Waveform;
 // GAV_VERSION of the header.
 const VERSION: u32 = 1;
 
-// The waveform of a code, where it has one.
+// The waveform of a code; unknown where the code is above 4.
 pub enum Shape {
     Known(Waveform),
     Unknown,
 }
 
-// The settings that are asked for, where their code has a waveform.
+// The settings that a host asks for; unknown where their code is above 4.
 pub enum Choice {
     Known(Settings),
     Unknown,
 }
 
-// Which signatures and how many words of a state a host has to be written for.
+// The version of the calls' arguments and of a state's number of words, which a host must be written for.
 #[no_mangle]
 pub extern "C" fn gav_version() -> u32
     ensures { λ r. ⌜ r ≡ version ⌝ }
@@ -55,7 +56,7 @@ pub extern "C" fn gav_sample(code: u32, phase: f64, dt: f64, duty: f64) -> f64
     single.value
 }
 
-// The answer to that sample.
+// The answer to `gav_sample` with these arguments.
 #[no_mangle]
 pub extern "C" fn gav_sample_says(code: u32, phase: f64, dt: f64, duty: f64) -> u64
     ensures { λ r. ⌜ r ≡ packedOf (singleOf code phase dt duty .answer) ⌝ }
@@ -90,7 +91,8 @@ pub extern "C" fn gav_render(
     packed(answer)
 }
 
-// The samples and entries from the last mark at or before the first changed record on, as the new score gives them.
+// The samples and entries from the start of the section that holds the first changed position, as the new score gives
+// them.
 #[no_mangle]
 pub extern "C" fn gav_rerender(
     rate: u32,
@@ -114,7 +116,8 @@ pub extern "C" fn gav_rerender(
     packed(rerender::rerender(settings, old, new, out, shelf))
 }
 
-// The next part of the output, from the state in twelve words, which are those of the state after it when it is done.
+// The next part of the output, from the state in twelve words; when done, the words are those of the state after the
+// part.
 #[no_mangle]
 pub extern "C" fn gav_continue(
     rate: u32,
@@ -150,7 +153,8 @@ pub extern "C" fn gav_fresh(state: &mut [u64]) -> u64
     packed(Answer::Done(0))
 }
 
-// What the lister prints for a score, and how many bytes it has. No listing is empty: 0 says that the room was too short.
+// What the lister prints for a score; the count is its bytes. No listing is empty: 0 bytes mean a buffer that is too
+// short.
 #[no_mangle]
 pub extern "C" fn gav_list(score: &[u8], text: &mut [u8]) -> u64
     ensures { λ r. ⌜ fills r (now (text .exit)) ≡ listFor (now (score .entry)) (now (text .entry)) ⌝ }
@@ -162,7 +166,7 @@ pub extern "C" fn gav_list(score: &[u8], text: &mut [u8]) -> u64
     packed(Answer::Done(bytes))
 }
 
-// An answer in one word: 8 bits of number, 24 of place, 32 of count.
+// An answer in one word: bits 0 to 7 the number, 8 to 31 the place, 32 to 63 the count.
 fn packed(answer: Answer) -> u64
     ensures { λ r. ⌜ r ≡ packedOf answer ⌝ }
 {
@@ -225,7 +229,8 @@ fn single(code: u32, phase: f64, dt: f64, duty: f64) -> Value
     }
 }
 
-// A continuing call whose state comes and goes in words. Words that are no state are judged where the state would be.
+// A continuing call whose state comes and goes in words. Words that are no state are 10, after 6, 7 and the score's
+// faults.
 fn continue_in(
     settings: Settings,
     score: &[u8],

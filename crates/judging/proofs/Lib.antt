@@ -1,5 +1,5 @@
 -- What holds of the judging beyond the contracts, in the order to read it.
--- the refusals case by case, and what a call without one has passed
+-- the refusals case by case, and what is true of a call that has none
 pub mod Refusals
 -- two outcomes of a public function are equal
 pub mod Unique

@@ -1,4 +1,4 @@
--- The refusals case by case, and what a call that has none of them has passed. Assumes nothing.
+-- The refusals case by case, and what is true of a call that has none of them. Assumes nothing.
 use mathlib.Core.Path.{_≡_, refl, sym, subst, _∙_}
 use mathlib.Core.Bool.{Bool, true, false}
 use mathlib.Core.List.{List, [], _∷_, _++_, map}
@@ -25,7 +25,7 @@ use Rattle.state.specs.declared.Settings.{Settings}
 use Rattle.state.specs.Settings.{settingsOk}
 use Rattle.judging.specs.Judging.{refusalsOf, Passed, newRefusalsOf, most, isRoom, isStretch}
 
--- ---- what the first of them leaves
+-- ---- the first refusal in each case of settings, room and score
 module _ (g : Settings) (room : Bool) (s : List ℕ) (rest : Answer) where
   pub no-settings : settingsOk g ≡ false → Refused Setting ≡ firstOf (refusalsOf g room s) Refused rest
   unfolding refusalsOf
@@ -58,7 +58,7 @@ module _ (s : List ℕ) (rest : Answer) where
   pub new-faulty : (fault : ScoreFault) → verdictOf s ≡ Faulty fault → Refused (NewScore fault) ≡ firstOf (newRefusalsOf s) Refused rest
   new-faulty fault h = sym (faulty-first s fault h (λ x. Refused (NewScore x)) rest) ∙ by-new
 
--- ---- none of them
+-- ---- no refusal
 pub all-passed : (g : Settings) (room : Bool) (s : List ℕ) → refusalsOf g room s ≡ [] → Passed g room s
 unfolding refusalsOf
 all-passed g room s e =
@@ -81,9 +81,9 @@ none-newly s n h = rw (accepted-faults s n h) refl
 pub passed-sorted : (g : Settings) (room : Bool) (s : List ℕ) → refusalsOf g room s ≡ [] → Sorted s
 passed-sorted g room s e = accepted-sorted s (countOf s) (all-passed g room s e .accepted)
 
--- ---- the first of them, both ways
+-- ---- the first refusal, in both directions
 module _ (g : Settings) (room : Bool) (s : List ℕ) where
-  -- what holds of each where it is given holds of the first
+  -- P holds of the first refusal where P holds of each refusal under the condition that makes it the first
   pub judged-first : (P : Refusal → Type 0) → (settingsOk g ≡ false → P Setting) → (settingsOk g ≡ true → room ≡ false → P Size) → (settingsOk g ≡ true → room ≡ true → (fault : ScoreFault) → verdictOf s ≡ Faulty fault → P (Score fault))
       → (why : Refusal) → Leads why (refusalsOf g room s) → P why
   unfolding refusalsOf verdictOf
@@ -128,7 +128,7 @@ pub record Roomy (n words : ℕ) : Type 0 where
 pub roomy : (n words : ℕ) → isRoom n words ≡ true → Roomy n words
 roomy n words h = let b = both (leb n most) (eqb words (wordsFor n)) h in record { short = leb-true n most (b .0); fits = eqb-true words (wordsFor n) (b .1) }
 
--- the sum is judged without being made
+-- p + n <= most is tested as p <= most and n <= most - p, so that no sum overflows
 pub stretch-late : (p n : ℕ) → most < p → false ≡ isStretch p n
 stretch-late p n h = sym (lt-leb (p + n) most (omega arith))
 

@@ -1,5 +1,8 @@
--- What render, re-render and continuing call are refused for first. 01, "What a call says": "Order: 6, 7, the old or only score, the new score (same numbers plus 16), then 8 or 10"; "6 | rate, waveform's duty or an ADSR setting
--- outside the domain"; "7 | N above 16,777,216, or shelf not 12 words per entry"; "A continuing call that would pass 16,777,216 is 7". The first of a call's refusals decides its outcome (`firstOf` of `answers`). Definitions only.
+-- What render, re-render and continuing call are refused for first.
+-- 01, "What a call says": "Order: 6, 7, the old or only score, the new score (same numbers plus 16), then 8 or 10"; "6
+-- | rate, waveform's duty or an ADSR setting outside the domain"; "7 | N above 16,777,216, or shelf not 12 words per
+-- entry"; "A continuing call that would pass 16,777,216 is 7".
+-- The first of a call's refusals decides its outcome (`firstOf` of `answers`). Definitions only.
 use mathlib.Core.Path.{_≡_}
 use mathlib.Core.Bool.{Bool, true, _&&_}
 use mathlib.Core.List.{List, _++_, map}
@@ -16,29 +19,29 @@ use Rattle.state.specs.declared.Settings.{Settings}
 use Rattle.state.specs.Settings.{settingsOk}
 
 -- ---- the refusals
--- 6, 7, and the old or only score's
+-- 6, 7, then the faults of the old or only score
 unfoldable pub refusalsOf : Settings → Bool → List ℕ → List Refusal
 refusalsOf g room s = unless (settingsOk g) Setting ++ unless room Size ++ map Score (faultsOf s)
 
--- what a call has passed that is refused for none of these. Theorems cite it; no contract does
+-- what is true of a call that none of these refuses; theorems cite it, no contract does
 pub record Passed (g : Settings) (room : Bool) (s : List ℕ) : Type 0 where
   pub settings : settingsOk g ≡ true
   pub sized : room ≡ true
   pub accepted : verdictOf s ≡ Accepted (countOf s)
 
--- the new score's
+-- the faults of the new score
 unfoldable pub newRefusalsOf : List ℕ → List Refusal
 newRefusalsOf s = map NewScore (faultsOf s)
 
 -- ---- the room
--- the most samples of an output
+-- the most samples of an output, 2^24
 abbrev pub most : ℕ
 most = 16777216
 
--- an output of n samples, and a shelf of so many words
+-- n samples are not too many, and the shelf's words are twelve for each entry of n samples
 abbrev pub isRoom : ℕ → ℕ → Bool
 isRoom n words = leb n most && eqb words (wordsFor n)
 
--- n samples from p on end at or before sample 16,777,216
+-- n samples from position p on end at or before position 16,777,216
 abbrev pub isStretch : ℕ → ℕ → Bool
 isStretch p n = leb (p + n) most

@@ -1,5 +1,5 @@
-// What render, re-render and continuing call are judged by first: the settings, the sizes, the old or only score, and the new
-// one. 01, "What a call says". What a call is refused for after these, it judges itself.
+// What a render, a re-render and a continuing call are judged by first: the settings, the sizes, the old or only score,
+// and the new score. 01, "What a call says". Refusals 8 and 10 come after these: the calls judge them.
 ghost use mathlib.Core.Path.{_≡_};
 ghost use Rattle.answers.specs.Order.{firstOf};
 ghost use Rattle.answers.specs.declared.Answer.the-variants.{Done, Refused};
@@ -9,10 +9,10 @@ use answers::Refusal;
 use score::Verdict;
 use state::Settings;
 
-// The most samples of an output.
+// The most samples of an output, 2^24.
 const MOST: u64 = 16_777_216;
 
-// 6, 7, the old or only score, and then the answer that follows.
+// 6, 7 and the faults of the old or only score, in that order; `rest` where there is none.
 pub fn judged(settings: Settings, room: bool, score: &[u8], rest: Answer) -> Answer
     ensures { λ r. ⌜ r ≡ firstOf (refusalsOf settings room (now (score .entry))) Refused rest ⌝ }
 {
@@ -28,7 +28,7 @@ pub fn judged(settings: Settings, room: bool, score: &[u8], rest: Answer) -> Ans
     }
 }
 
-// The new score's fault, or done.
+// The new score's fault, or done with a count of 0.
 pub fn new_scored(new: &[u8]) -> Answer
     ensures { λ r. ⌜ r ≡ firstOf (newRefusalsOf (now (new .entry))) Refused (Done 0) ⌝ }
 {
@@ -38,14 +38,14 @@ pub fn new_scored(new: &[u8]) -> Answer
     }
 }
 
-// Whether an output and its shelf have sizes that go together.
+// Whether samples <= 16,777,216 and the shelf has twelve words for each entry of so many samples.
 pub fn is_room(samples: usize, words: usize) -> bool
     ensures { λ r. ⌜ r ≡ isRoom samples words ⌝ }
 {
     (samples as u64 <= MOST) & (words == shelf::words_for(samples))
 }
 
-// Whether so many samples from a position on end in time.
+// Whether position + samples <= 16,777,216, tested without overflow.
 pub fn is_stretch(position: u64, samples: usize) -> bool
     ensures { λ r. ⌜ r ≡ isStretch position samples ⌝ }
 {

@@ -1,5 +1,5 @@
-// The calls under the pad's settings, a slowly falling sawtooth, of the scores of lists. Outputs come in pairs, and so do their
-// shelves: the first half is what is tried, the second what it should be.
+// The calls on scores from lists, under the pad's settings, a slowly falling sawtooth. Outputs come in pairs, and so do
+// their shelves: the first half is what is tried, the second half what it should be.
 use crate::records;
 
 pub fn check(list: &[u64]) -> u64 {
@@ -8,28 +8,28 @@ pub fn check(list: &[u64]) -> u64 {
     desk::gav_check_score(&score[0..size])
 }
 
-// Into the first half.
+// Renders into the first half.
 pub fn render(list: &[u64], pair: &mut [f64], shelves: &mut [u64]) -> u64 {
     let n = pair.len() / 2;
     let m = shelves.len() / 2;
     whole(list, &mut pair[0..n], &mut shelves[0..m])
 }
 
-// Into the second half.
+// Renders into the second half.
 pub fn render_beside(list: &[u64], pair: &mut [f64], shelves: &mut [u64]) -> u64 {
     let n = pair.len() / 2;
     let m = shelves.len() / 2;
     whole(list, &mut pair[n..], &mut shelves[m..])
 }
 
-// Of the first half.
+// Re-renders the first half.
 pub fn rerender(old: &[u64], new: &[u64], pair: &mut [f64], shelves: &mut [u64]) -> u64 {
     let n = pair.len() / 2;
     let m = shelves.len() / 2;
     again(old, new, &mut pair[0..n], &mut shelves[0..m])
 }
 
-// A part from a state before a position.
+// Continues with a part from a state before a position.
 pub fn go_on(list: &[u64], state: &mut [u64], position: u64, part: &mut [f64]) -> u64 {
     let score = records::bytes(list);
     let size = records::size(list);
@@ -49,7 +49,7 @@ pub fn go_on(list: &[u64], state: &mut [u64], position: u64, part: &mut [f64]) -
     )
 }
 
-// A state at rest, before which so many records have acted.
+// The fresh state, but with so many records acted.
 pub fn at_rest(acted: u64) -> [u64; 12] {
     let mut state = [0u64; 12];
     desk::gav_fresh(&mut state);

@@ -1,6 +1,7 @@
-// How many samples and words of a pair differ, by their bits; and a number that stands for all of them.
+// How many samples and words differ between the halves of a pair, by their bits; and a check number of samples and
+// words.
 
-// Those of the first half from those of the second.
+// How many samples of the first half differ from those of the second.
 pub fn samples(pair: &[f64]) -> u64 {
     let n = pair.len() / 2;
     let mut unlike = 0;
@@ -27,7 +28,7 @@ pub fn words(shelves: &[u64]) -> u64 {
     unlike
 }
 
-// It changes with every bit of the samples and of the words, and with its place.
+// Changes with every single bit of the samples and words, and with its place.
 pub fn check_number(samples: &[f64], words: &[u64]) -> u64 {
     let mut number = number_of(words);
     let mut i = 0;
@@ -38,7 +39,7 @@ pub fn check_number(samples: &[f64], words: &[u64]) -> u64 {
     number
 }
 
-// By a prime, so that nothing that was mixed in before is lost.
+// Modulo the prime 2^31 - 1, where multiplying by 48,271 is one-to-one: what was mixed in before is not lost.
 pub fn mixed(number: u64, bits: u64) -> u64 {
     (number % 0x7fff_ffff * 48271 + bits % 0x7fff_ffff) % 0x7fff_ffff
 }

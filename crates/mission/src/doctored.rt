@@ -1,9 +1,9 @@
-// The entry at the first mark, doctored in one word at a time: re-rendered from, and continued from as a state.
+// Entry 1, doctored in one word at a time: re-rendered from, and continued from as a state.
 use crate::calls;
 use crate::compared;
 use crate::told;
 
-// Two keys before the mark, and after it a key that an edit makes louder, a reset, and another key.
+// Two keys before section 1, and in it a key that an edit makes louder, a reset, and another key.
 const OLD: [u64; 5] = [
     0_1_048_100,
     1000_1_055_090,
@@ -20,17 +20,17 @@ const NEW: [u64; 5] = [
     4350_1_062_070,
 ];
 
-// The entry's word of note, gate, held count and records acted: note 55, the gate up, two held, two records.
+// The entry's word of active note, gate, held count and records acted: note 55, gate 1, two held, two records.
 const PACKED: u64 = 55 + 256 + 512 * 2 + 65536 * 2;
 
-// How many of the changes leave the entry within its limits; those after them lead outside.
+// How many of the changes, from the first on, leave the entry within its limits; the others lead outside.
 const WITHIN: usize = 20;
 
 const CHANGES: usize = 56;
 
-// What stands in a word of the entry instead, floats by their bits.
+// What each change writes into a word of the entry, floats by their bits.
 const BITS: [u64; 56] = [
-    // The ends of the limits, and what no render leads to.
+    // The ends of the limits, and values that no render leads to.
     0, // 0.0
     0x8000_0000_0000_0000, // -0.0
     0x408f_3f33_3333_3333, // 999.9
@@ -51,7 +51,7 @@ const BITS: [u64; 56] = [
     0, // 0.0
     0x3ff0_0000_0000_0000, // 1.0
     0x7f7f_0000,
-    // Floats just past their ends, NaNs, an infinity, pairs out of range or beyond the count.
+    // Floats just past their ends, NaNs, an infinity, pairs out of range or beyond the held count.
     0x408f_4000_0000_0000, // 1000.0
     0x8000_0000_0000_0001,
     0x7ff8_0000_0000_0000,
@@ -75,8 +75,8 @@ const BITS: [u64; 56] = [
     1,
     0x100,
     0x0100_0000_0000_0000,
-    // A note above 127, a gate that does not fit it, more held than there are, fewer than there are pairs, and records acted
-    // that are not those of the score.
+    // A note above 127, a gate that does not fit the note, more than 16 held, fewer held than there are pairs, and
+    // numbers of records acted that are not the score's.
     PACKED + 73,
     PACKED - 55 + 254,
     PACKED - 256,
@@ -115,7 +115,8 @@ fn all(from: usize, to: usize, shelves: [u64; 48], pair: &mut [f64; 8800]) {
     told::count(number, b"\n");
 }
 
-// What the re-render makes of the entry in the first half, the continuing call makes of the state in the second.
+// The re-render from the entry in the first half, and the continuing call from the same words in the second, must
+// agree.
 fn one(doctored: [u64; 48], pair: &mut [f64; 8800]) -> u64 {
     let mut shelves = doctored;
     told::count(calls::rerender(&OLD, &NEW, pair, &mut shelves) % 256, b"/");
@@ -135,7 +136,7 @@ fn continued(pair: &mut [f64], shelves: &mut [u64]) -> u64 {
     calls::go_on(&NEW, &mut shelves[36..], 4096, &mut pair[8496..])
 }
 
-// The word of each change, in both halves, is a letter: a is the first of the entry.
+// The letter of each change names its word, in both halves: a is the entry's first word.
 fn changed(shelves: [u64; 48], change: usize) -> [u64; 48] {
     let words = b"aaabbbbccddeffggghhiaaaaacccddeeggghhiiijklffffffffffbbb";
     let mut next = shelves;

@@ -1,6 +1,7 @@
-// What 01 says to run, and what the voice exists for: the falling pad. Each line of standard output names what was run and
-// tells what the calls said, as number, place and count, and how many samples and words differ from those that they should be.
-// The calls are those that C makes. What is proved of all input, chains of edits and parts among it, is not run again.
+// What 01 says to run, and what the voice exists for: the falling pad. Each line of standard output names what was run
+// and tells what the calls said, as number, place and count, and how many samples and words differ from what they
+// should be. The calls are those that C makes. What is proved for all input, chains of edits and of parts included, is
+// not run again.
 //
 // | 01                                                      | here                                          |
 // |---------------------------------------------------------|-----------------------------------------------|

@@ -1,8 +1,8 @@
-// What the voice exists for: a slowly falling pad, edited five times, each time re-rendered where it stands.
+// What the voice exists for: a slowly falling pad, edited five times, each time re-rendered into the same output.
 use crate::edits;
 use crate::told;
 
-// A chord and its highest key's end; the end of another key; and a record that never acts, so that every score has six.
+// A chord and its highest key's end; the end of another key; and a record past the end, so that every score has six.
 const LOW: u64 = 0_1_048_100;
 
 const MIDDLE: u64 = 0_1_055_090;

@@ -1,5 +1,5 @@
-// Parts about the last position, 16,777,216, each beside the same part of a score that is 16,773,120 samples earlier: a whole
-// number of marks, so that the same is heard.
+// Parts about the last position, 16,777,216, each compared with that part of a score that is 16,773,120 samples
+// earlier. That is 4,095 whole sections, so both parts have the same samples.
 use crate::calls;
 use crate::told;
 
@@ -23,7 +23,8 @@ pub fn played() {
     told::text(b"\n");
 }
 
-// So many samples up to the last position, before which so many records have acted, and so many from one sample later.
+// So many samples that end at the last position, with so many records acted before them; then as many from one sample
+// later.
 fn up_to(samples: u64, acted: u64, pair: &mut [f64]) {
     let position = std::num::wrapping_sub_u64(LAST, samples);
     told::count(

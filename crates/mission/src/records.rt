@@ -1,9 +1,9 @@
-// Scores from lists of records, without the code that is tried. A record is a number whose digits are the position, the kind,
-// three of the note and three of the velocity, as 17_1_047_090. Where a list begins with a smaller number, there are so many
-// records: the list's, after its first as often as it takes.
+// Scores from lists of records, without the code that is tried. A record is a number whose digits are the position, the
+// kind, three of the note and three of the velocity, as 17_1_047_090. Where a list's first number is below 1,000,000,
+// it is the number of records: the list's first record is repeated until there are so many.
 ghost use Prim.Native.Nat.{_≤_};
 
-// One record more than a score may have.
+// Ten bytes for each of 4,097 records, one more than a score may have.
 const BYTES: usize = 40970;
 
 pub fn bytes(list: &[u64]) -> [u8; BYTES] {
@@ -41,7 +41,7 @@ fn write(list: &[u64], records: usize, bytes: &mut [u8]) {
     }
 }
 
-// Record i of so many.
+// Record i of `records`, as a number.
 fn at(list: &[u64], records: usize, i: usize) -> u64 {
     if records <= i {
         return 0;

@@ -1,8 +1,9 @@
-// Scores of 4,096 and 4,097 records, and with notes 127 and 128: what each call says of them, and what is heard.
+// Scores of 4,096 and 4,097 records, and with notes 127 and 128: what each call says of them, and which samples it
+// leaves.
 use crate::calls;
 use crate::told;
 
-// What stands in the output before.
+// The score that the output was rendered of before.
 const BEFORE: [u64; 1] = [0_1_033_033];
 
 const TWO: [u64; 2] = [0_1_040_100, 50_1_069_127];
@@ -20,8 +21,9 @@ pub fn played() {
     asked(&[7_1_060_100, 7_1_128_090], &ONE, &BEFORE);
 }
 
-// By the check, the render, the re-render from it and into it, and the continuing call. A score that sounds like another, since a key that goes down at the sample where others went down sounds as it does alone;
-// and what should stand in the output after each call.
+// Asks the check, the render, the re-render from `score` and into `score`, and the continuing call. `like` gives the
+// samples of `score`: a key that goes down at the sample where others went down sounds as it does alone. After each
+// call the output must be a render of `after`.
 fn asked(score: &[u64], like: &[u64], after: &[u64]) {
     let mut pair = [0.0; 600];
     let mut shelves = [0u64; 24];

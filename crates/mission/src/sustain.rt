@@ -1,4 +1,4 @@
-// Sustain 1.0: the level stays at 1 after the attack, and the same is heard, however long the decay takes.
+// Sustain 1.0: the level stays at 1 after the attack, and the samples are the same however long the decay takes.
 use crate::compared;
 use crate::records;
 use crate::told;
@@ -11,7 +11,7 @@ pub fn played() {
     held(10.0);
 }
 
-// A key held as a square wave, which is far from 0; its stage and level at sample 4,096.
+// A held key, as a square wave, which is far from 0; its stage and level at sample 4,096.
 fn held(decay: f64) {
     let mut out = [0.0; 5000];
     let mut shelf = [0u64; 24];

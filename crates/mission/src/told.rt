@@ -1,4 +1,5 @@
-// What a line tells: what a call said, as number, place and count, and after a call on a pair how many samples of it differ.
+// What a line tells: what a call said, as number, place and count, and after a call on a pair how many of its samples
+// differ.
 use crate::calls;
 use crate::compared;
 use libc::STDOUT_FILENO;
@@ -35,7 +36,7 @@ pub fn rerender(old: &[u64], new: &[u64], pair: &mut [f64], shelves: &mut [u64])
     call(calls::rerender(old, new, pair, shelves), pair);
 }
 
-// How many words of the shelves differ, and the check number of all.
+// How many words of the shelves differ, and the check number of samples and words.
 pub fn end(pair: &[f64], shelves: &[u64]) {
     count(compared::words(shelves), b" words differ; check number ");
     count(compared::check_number(pair, shelves), b"\n");

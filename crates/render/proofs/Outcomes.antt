@@ -1,4 +1,4 @@
--- What a render and a continued one leave where they are done, and where they are refused. Assumes nothing.
+-- What a render and a continuing call leave where they are done, and where they are refused. Assumes nothing.
 use mathlib.Core.Path.{_≡_, refl, sym, ap, _∙_}
 use mathlib.Core.Bool.{Bool, true, false, _&&_}
 use mathlib.Core.List.{List, []}
@@ -43,12 +43,12 @@ module _ (g : Settings) (s : List ℕ) (out : List Float) (shelf : List ℕ) whe
   unfolding renderOf
   render-refused why e = sym (leads-first why refusals _ (madeOf g s n) (refused-leads refusals n why e))
 
-  -- what it answers goes by the list, and what it leaves by what it answers
+  -- the list of refusals decides the answer, and the answer decides what is left
   pub render-decided : Decided (λ (o : Outcome Rendered). o .result .answer) refusals (λ (why : Refusal). leaves (says (Refused why) (freshOf 0)) out shelf) (madeOf g s n) n (renderOf g s out shelf)
   unfolding renderOf
   render-decided = decided (λ (o : Outcome Rendered). o .result .answer) refusals _ (madeOf g s n) n (λ why. refl) refl
 
-  -- sample zero has no record before it
+  -- no record lies before sample 0
   at-zero : Cut s 0 0
   at-zero = record { inside = omega arith; lows = λ i l. omega arith; highs = λ i a b. omega arith }
 
@@ -68,7 +68,7 @@ module _ (g : Settings) (s : List ℕ) (v : State) (p : ℕ) (part : List Float)
   abbrev room : Bool
   room = isStretch p (length part)
 
-  -- what is left of the call where 6, 7 and the score's numbers are not given
+  -- the outcome where 6, 7 and the score's faults are not given
   abbrev rest : PartOutcome
   rest = firstOf (unless (isGiven s p v) GivenState) (keptPart v part) (madePart g s v p (length part))
 
@@ -87,7 +87,7 @@ module _ (g : Settings) (s : List ℕ) (v : State) (p : ℕ) (part : List Float)
     pub continue-goes : (m : ℕ) → firstOf (refusalsOf g room s) Refused (Done n) ≡ Done m → rest ≡ continueOf g s v p part
     continue-goes m e = sym (in-turn ∙ rw (done-none (refusalsOf g room s) n m e) refl)
 
-  -- the state is looked at through two records
+  -- in a sorted score two records tell whether as many acted as lie below p
   module _ (o : Sorted s) where
     given : isState v && partsAt s (v .acted) p ≡ isGiven s p v
     given = rw (parts-count s o (v .acted) p) refl

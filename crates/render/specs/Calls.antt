@@ -1,6 +1,11 @@
--- A render, and a render continued. 01, "Making sample n"; "A continuing call takes a state, its position and the next part of the output, and no shelf"; "The end of a caller's buffer reduces nothing"; "0 | done;
--- count .. samples written"; "10 | continuing: the given state fails the shelf's test, or the score's records below its position differ in number from those acted"; "A continuing call that would pass 16,777,216 is 7";
--- "A refusal .. hands back state by value as it came, and writes nowhere". Stricter than 01: a render answers its end state too, the one before sample N is begun; refused, the fresh state.
+-- A render, and a render continued part by part.
+-- 01, "Making sample n": "A continuing call takes a state, its position and the next part of the output, and no shelf";
+-- "The end of a caller's buffer reduces nothing". "What a call says": "0 | done; count .. samples written"; "10 |
+-- continuing: the given state fails the shelf's test, or the score's records below its position differ in number from
+-- those acted"; "A continuing call that would pass 16,777,216 is 7"; "A refusal .. hands back state by value as it
+-- came, and writes nowhere".
+-- Stricter than 01: a render answers its end state too, the state before sample N is begun; a refused render answers
+-- the fresh state.
 -- The samples, states and entries are those of `state`'s specs/Heart.antt. Definitions only.
 use mathlib.Core.Bool.{Bool, _&&_}
 use mathlib.Core.List.{List, _++_}
@@ -28,11 +33,11 @@ abbrev pub says : Answer → State → Rendered
 says answer v = record { answer = answer; state = v }
 
 -- ---- render: from the fresh state at sample 0
--- n samples and their entries
+-- n samples, their entries and the end state
 abbrev pub madeOf : Settings → List ℕ → ℕ → Outcome Rendered
 madeOf g s n = leaves (says (Done n) (stateFrom g s 0 (freshOf 0) n)) (samplesFrom g s 0 (freshOf 0) n) (shelfOf (entriesFrom g s 0 (freshOf 0) (entriesFor n)))
 
--- a refusal leaves all as it came
+-- a refusal leaves output and shelf as they came
 unfoldable pub renderOf : Settings → List ℕ → List Float → List ℕ → Outcome Rendered
 renderOf g s out shelf =
     firstOf (refusalsOf g (isRoom (length out) (length shelf)) s)
@@ -47,11 +52,11 @@ pub record PartOutcome : Type 0 where
 abbrev pub leavesPart : Rendered → List Float → PartOutcome
 leavesPart r part = record { result = r; heard = part }
 
--- a state, and as many records acted as the score has below p
+-- v is within the shelf's limits, and as many records acted as the score has below p
 abbrev pub isGiven : List ℕ → ℕ → State → Bool
 isGiven s p v = isState v && eqb (v .acted) (countBelow s p)
 
--- 10 after the others, unless what is given is taken
+-- 6, 7 and the score's faults, then 10 where the given state is refused
 abbrev pub continueRefusals : Settings → List ℕ → Bool → ℕ → ℕ → List Refusal
 continueRefusals g s given p n = refusalsOf g (isStretch p n) s ++ unless given GivenState
 

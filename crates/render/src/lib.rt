@@ -1,6 +1,7 @@
-// The arranger's render, every sample from sample zero, and the stage player's, part by part from the state in the air.
-// From the fresh state at sample zero both are the samples that the score's records give; from another state, the samples
-// that they give from there. The end of a part reduces nothing. 01, "Making sample n" and "What a call says".
+// The arranger's render, every sample from sample zero, and the stage player's, part by part from a given state. From
+// the fresh state at sample zero both make the samples that the score's records give; from another state they make the
+// samples that the records give from there on. The end of a part reduces nothing. 01, "Making sample n" and "What a
+// call says".
 ghost use mathlib.Core.Path.{_≡_};
 ghost use lib.ListN.{length};
 ghost use Rattle.score.specs.Below.{Sorted};
@@ -14,8 +15,8 @@ use spans::Place;
 use state::Settings;
 use state::State;
 
-// What a call says, and the state before the sample after its last. Refused, it is the fresh state of a render, and the given
-// one of a continuing call.
+// What a call says, and the state before the sample after its last. A refused render answers the fresh state, a refused
+// continuing call the given state.
 pub struct Rendered {
     pub answer: Answer,
     pub state: State,
@@ -47,7 +48,7 @@ pub fn render(settings: Settings, score: &[u8], out: &mut [f64], shelf: &mut [u6
     }
 }
 
-// The next part of the output, from a given state before the sample at its position is begun.
+// The next part of the output, from a given state before the sample at `position` is begun.
 pub fn continue_render(
     settings: Settings,
     score: &[u8],
@@ -68,7 +69,8 @@ pub fn continue_render(
     }
 }
 
-// From the given state, or 10. A score in order tells by two of its records whether as many are below as have acted.
+// From the given state, or refusal 10. In a sorted score two records tell whether as many acted as lie below
+// `position`.
 fn go_on(
     settings: Settings,
     score: &[u8],

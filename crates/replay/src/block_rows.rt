@@ -1,6 +1,6 @@
-// The original's answers to the calls of oscillator.rs and lfo.rs: a row is ten u64 and one for each sample. The answer, the
-// phase after the call and every sample are compared bit for bit; but the samples of a sine, which is ours, must lie within
-// 0.000001 of the original's, times the depth.
+// The original's answers to the calls of oscillator.rs and lfo.rs: a row is ten u64 and one for each sample. The
+// answer, the phase after the call and every sample are compared bit for bit; but the samples of a sine, which is ours,
+// must lie within 0.000001 of the original's, times the depth.
 use crate::fields;
 use crate::tally::Finding;
 use answers::Answer;
@@ -12,20 +12,20 @@ use waveform::Waveform;
 // The bytes of a row before its samples.
 pub const ROW: usize = 80;
 
-// Where a row says how many samples it asks for: so many words follow.
+// The byte of a row where the number of samples asked for is kept: as many words follow the first bytes.
 pub const MORE: usize = 56;
 
-// A frequency that is refused where it sounds.
+// A frequency that a call refuses if it uses it.
 const UNHEARD: f64 = -1.0;
 
-// As much is lent as the row says, or as there is.
+// As many samples are lent as the row says, at most 1,000.
 pub fn compared(row: &[u8]) -> Finding {
     let mut out = [fields::UNWRITTEN; 1000];
     let lent = fields::at_most(words::u64_at(row, MORE), 1000);
     judged(row, &mut out[0..lent])
 }
 
-// The depth is the scale of all samples.
+// The depth scales the allowed difference of every sample: step 0.
 fn judged(row: &[u8], out: &mut [f64]) -> Finding {
     let told = is_called(row, out);
     let shape = words::u64_at(row, 8);
@@ -36,7 +36,7 @@ fn judged(row: &[u8], out: &mut [f64]) -> Finding {
     }
 }
 
-// Whether the call answers what it must, and leaves the phase that it must.
+// Whether the call's answer and the phase that it leaves are the row's.
 fn is_called(row: &[u8], out: &mut [f64]) -> bool {
     match words::u64_at(row, 0) {
         0 | 2 | 3 | 5 => is_oscillated(row, out),
@@ -51,7 +51,7 @@ fn is_oscillated(row: &[u8], out: &mut [f64]) -> bool {
     is_outcome(row, answer, got.block.phase.0)
 }
 
-// Set: made with settings that are refused where they are used. Cleared: given a note's frequency that is.
+// Calls 2 and 3 set settings over some that would be refused; call 5 clears a note's frequency that would be refused.
 fn oscillator_of(row: &[u8]) -> OscillatorBlock {
     match words::u64_at(row, 0) {
         0 => own_oscillator(row),

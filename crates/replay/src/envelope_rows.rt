@@ -1,5 +1,5 @@
-// The original's answers to the calls of envelope.rs: a row is 24 u64, compared bit for bit: the answer, the state after the
-// call, and eight numbers of which the first are lent to `process`.
+// The original's answers to the calls of envelope.rs: a row is 24 u64, compared bit for bit: the answer, the state
+// after the call, and eight numbers, the first of which are lent to `process`.
 use crate::fields;
 use answers::Answer;
 use envelope::Adsr;
@@ -17,7 +17,7 @@ pub fn is_equal(row: &[u8]) -> bool {
     told & (words::u64_at(row, 0) < 5) & fields::are_slots(row, 128, &slots)
 }
 
-// Whether the call answers and leaves what it must.
+// Whether the call's answer and what it leaves are the row's.
 fn is_called(row: &[u8], out: &mut [f64]) -> bool {
     let got = called(row, given(row), out);
     let answer = got.answer;

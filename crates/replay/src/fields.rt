@@ -1,5 +1,5 @@
-// The fields of a row, where each part has its own: floats by their bits, answers by their numbers, waveforms by their codes; and
-// the samples and words that a call has written, beside those of a row.
+// The fields of a row, which differ from part to part of `replay`: floats by their bits, answers by their numbers,
+// waveforms by their codes; and the samples and words that a call has written, compared with those of a row.
 ghost use Prim.Native.Nat.{_≤_};
 use crate::nearness;
 use crate::tally::Finding;
@@ -10,7 +10,7 @@ use waveform::Waveform;
 // What each number holds before a call: no sample is that high.
 pub const UNWRITTEN: f64 = 42.0;
 
-// So many, but not more than there are.
+// The smaller of `wanted` and `most`.
 pub fn at_most(wanted: u64, most: usize) -> usize
     ensures { λ r. ⌜ r ≤ most ⌝ }
 {
@@ -20,12 +20,12 @@ pub fn at_most(wanted: u64, most: usize) -> usize
     most
 }
 
-// The byte so many words after another.
+// The byte `words` words after byte `at`.
 pub fn after(at: usize, words: usize) -> usize {
     std::num::wrapping_add_usize(at, words << 3)
 }
 
-// The byte so many words before another.
+// The byte `words` words before byte `at`.
 pub fn before(at: usize, words: usize) -> usize {
     std::num::wrapping_sub_usize(at, words << 3)
 }
@@ -38,8 +38,8 @@ pub fn is_word(row: &[u8], at: usize, x: f64) -> bool {
     words::f64_bits(x) == words::u64_at(row, at)
 }
 
-// Whether a row's word is the answer, packed as the library's header packs it: the number, from bit 8 on the place, from bit
-// 32 on the count.
+// Whether a row's word is the answer, packed as include/gavberin.h says: bits 0 to 7 the number, 8 to 31 the place, 32
+// to 63 the count.
 pub fn says(answer: Answer, word: u64) -> bool {
     let numbers = answers::in_numbers(answer);
     (numbers.number as u64 == word % 0x100)
@@ -47,13 +47,13 @@ pub fn says(answer: Answer, word: u64) -> bool {
         & (numbers.count as u64 == word / 0x1_0000_0000)
 }
 
-// Whether two words of a row are the answer and the number beside it.
+// Whether two words of a row are the answer and the bits of the value.
 pub fn is_value(row: &[u8], answer_at: usize, value_at: usize, got: Value) -> bool {
     let answer = got.answer;
     says(answer, words::u64_at(row, answer_at)) & is_word(row, value_at, got.value)
 }
 
-// A waveform by its code, and the duty after it.
+// The waveform of the code at a byte of the row; a pulse's duty is the word after it.
 pub fn waveform_of(row: &[u8], at: usize) -> Waveform {
     match words::u64_at(row, at) {
         0 => Waveform::Sine,
@@ -64,7 +64,7 @@ pub fn waveform_of(row: &[u8], at: usize) -> Waveform {
     }
 }
 
-// The words from a byte of the row on, as many as there is room for.
+// Words from a byte of the row on, as many as `kept` has room for.
 pub fn put_words(row: &[u8], first: usize, kept: &mut [u64]) {
     let mut i = 0;
     while i < kept.len() {
@@ -73,7 +73,7 @@ pub fn put_words(row: &[u8], first: usize, kept: &mut [u64]) {
     }
 }
 
-// The same as floats.
+// Floats from a byte of the row on, by their bits, as many as `samples` has room for.
 pub fn put_floats(row: &[u8], first: usize, samples: &mut [f64]) {
     let mut i = 0;
     while i < samples.len() {
@@ -82,7 +82,7 @@ pub fn put_floats(row: &[u8], first: usize, samples: &mut [f64]) {
     }
 }
 
-// Whether the words from a byte of the row on are these.
+// Whether the words from a byte of the row on are `kept`.
 pub fn are_words(row: &[u8], first: usize, kept: &[u64]) -> bool {
     let mut i = 0;
     while i < kept.len() {
@@ -94,7 +94,7 @@ pub fn are_words(row: &[u8], first: usize, kept: &[u64]) -> bool {
     true
 }
 
-// Whether the words from a byte of the row on are the bits of these.
+// Whether the words from a byte of the row on are the bits of `samples`.
 pub fn are_floats(row: &[u8], first: usize, samples: &[f64]) -> bool {
     let mut i = 0;
     while i < samples.len() {
@@ -106,14 +106,14 @@ pub fn are_floats(row: &[u8], first: usize, samples: &[f64]) -> bool {
     true
 }
 
-// The same of the eight numbers of which the first are lent.
+// Whether the words from a byte of the row on are the bits of the eight numbers, the first of which were lent.
 pub fn are_slots(row: &[u8], first: usize, slots: &[f64; 8]) -> bool {
     are_floats(row, first, slots)
 }
 
-// Whether the samples are those from a byte of the row on. Where the row has a sine and its call was done, they are measured; a
-// refusal has left every number as it was. A sine's samples have scales: the first one's stands at `scales`, the next one's
-// so many bytes on.
+// Whether the samples are those from a byte of the row on. Where the row has a sine and its call was done, the samples
+// are measured; a refusal has left every number as it was. Each sample of a sine has a scale: the first scale is at
+// byte `scales`, each next one `step` bytes further on.
 pub fn compared(
     row: &[u8],
     shape: u64,
@@ -132,7 +132,7 @@ pub fn compared(
     }
 }
 
-// How far a sine's samples are off, and whether each is no farther off than its scale lets it be.
+// The largest difference of a sine's samples, and whether each differs by at most 0.000001 times its scale.
 fn measured(row: &[u8], first: usize, scales: usize, step: usize, samples: &[f64]) -> Finding {
     let mut equal = true;
     let mut farthest = 0.0;

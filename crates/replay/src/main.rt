@@ -1,6 +1,7 @@
-// Replays the original's answers: parts on standard input, each a head and its rows (oracle/README.md says what they are), and
-// a line for each part: how many rows there are, how many are equal, and of a part that measures a sine how far it is off. A row
-// that is cut short, names no call or is not there counts as unequal; a head that names no part ends the replay.
+// Replays the original's answers. Standard input is parts, each a head and its rows (oracle/README.md describes them);
+// for each part a line is printed: how many rows there are, how many are equal, and for a part that measures a sine the
+// largest difference. A row that is cut short, names no call or is missing counts as unequal; a head that names no part
+// ends the replay.
 use libc::STDIN_FILENO;
 use libc::STDOUT_FILENO;
 use tally::Finding;
@@ -19,13 +20,13 @@ mod tally;
 mod voice_rows;
 mod waveform_rows;
 
-// The bytes of a head: a name with zeros after it, and how many rows follow.
+// The bytes of a head: a name in eight bytes, padded with zeros, and how many rows follow.
 const HEAD: usize = 16;
 
 // The most words that follow the first bytes of a row.
 const MOST: u64 = 25170;
 
-// The names, low byte first.
+// The names as words, low byte first.
 const PHASE: u64 = 0x65_7361_6870;
 
 const POLYBLEP: u64 = 0x7065_6c62_796c_6f70;
@@ -49,7 +50,7 @@ fn main() {
     replay(&mut row);
 }
 
-// A proved loop has to end, and nothing says that the input does: the loop counts its turns down.
+// A proved loop has to end, and nothing says that the input does: the loop counts its turns down from 2^64 - 1.
 fn replay(row: &mut [u8]) {
     let mut turns = u64::MAX;
     while turns > 0 {
@@ -60,7 +61,7 @@ fn replay(row: &mut [u8]) {
     }
 }
 
-// Replays and tells a part; whether there was one.
+// Replays a part and prints its line; whether there was a part.
 fn is_part(row: &mut [u8]) -> bool {
     let got = filled(row, 0, HEAD);
     let name = words::u64_at(row, 0);
@@ -89,7 +90,7 @@ fn replayed(name: u64, rows: u64, row: &mut [u8]) -> Tally {
     tally
 }
 
-// Reads a row: its first bytes, then as many words as those say. Whether all of it was there.
+// Reads a row: its first bytes, then as many words as those say; whether all of the row was there.
 fn is_read(name: u64, row: &mut [u8]) -> bool {
     let first = first_of(name);
     if filled(row, 0, first) < first {
@@ -103,7 +104,7 @@ fn is_read(name: u64, row: &mut [u8]) -> bool {
     filled(row, first, size) == size
 }
 
-// Reads so many bytes to a place; how many there were, none where there is no room.
+// Reads `size` bytes to byte `first` of the row; how many there were, 0 where they do not fit.
 fn filled(row: &mut [u8], first: usize, size: usize) -> usize {
     if first > row.len() {
         return 0;
@@ -115,7 +116,7 @@ fn filled(row: &mut [u8], first: usize, size: usize) -> usize {
     io::read_full(STDIN_FILENO, &mut row[first..end])
 }
 
-// The first bytes of a part's rows; none where no part has that name.
+// How many first bytes a row of the part has; 0 where no part has that name.
 fn first_of(name: u64) -> usize {
     match name {
         PHASE => phase_rows::ROW,
@@ -131,7 +132,7 @@ fn first_of(name: u64) -> usize {
     }
 }
 
-// How many words follow them.
+// How many words follow the first bytes of a row.
 fn more_of(name: u64, row: &[u8]) -> u64 {
     match name {
         BLOCKS => words::u64_at(row, block_rows::MORE),
@@ -164,7 +165,7 @@ fn is_equal(name: u64, row: &[u8]) -> bool {
     }
 }
 
-// Where the input ends there is nothing to tell.
+// At the end of the input nothing is printed.
 fn tell_no_part(got: usize) {
     if got > 0 {
         io::write_all(STDOUT_FILENO, b"no part\n");

@@ -1,9 +1,9 @@
-// How far two numbers are apart, and how the largest of such differences is told.
+// How far two numbers are apart, and the largest such difference in billionths.
 
-// How far a sine may be off at full level.
+// The largest difference allowed to a sine at full level.
 pub const NEAR: f64 = 0.000001;
 
-// The largest number of billionths that is told.
+// The largest number of billionths that is printed.
 const MOST: u32 = 1000000;
 
 // The difference without its sign.
@@ -14,7 +14,7 @@ pub fn apart(x: f64, y: f64) -> f64 {
     x - y
 }
 
-// The second where one is no number.
+// The larger of two numbers; the second where either is a NaN.
 pub fn larger(x: f64, y: f64) -> f64 {
     if y < x {
         return x;
@@ -22,7 +22,7 @@ pub fn larger(x: f64, y: f64) -> f64 {
     y
 }
 
-// The least number of billionths that is not below x, or MOST.
+// x in billionths, rounded up, at most MOST.
 pub fn billionths(x: f64) -> u32 {
     let mut n = 0;
     while n < MOST {

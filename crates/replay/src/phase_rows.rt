@@ -7,7 +7,7 @@ use phase::PhaseAccumulator;
 
 pub const ROW: usize = 36;
 
-// Whether the call answers and leaves what it must.
+// Whether the call's answer and what it leaves are the row's.
 pub fn is_equal(row: &[u8]) -> bool {
     match words::u32_at(row, 0) {
         0 | 1 | 5 | 6 => is_changed(row),
@@ -46,7 +46,7 @@ fn set(row: &[u8], given: PhaseAccumulator) -> Changed {
     }
 }
 
-// A getter hands back no state: the one that was given.
+// A getter hands back no state: the row has the given one.
 fn is_shown(row: &[u8]) -> bool {
     let got = if words::u32_at(row, 0) == 2 {
         given(row).increment()
@@ -64,7 +64,7 @@ fn is_stepped(row: &[u8]) -> bool {
     is_outcome(row, answer, got.cycles.0, after)
 }
 
-// The answer, what is shown, and the state after.
+// Whether the answer, the value and the state after are the row's.
 fn is_outcome(row: &[u8], answer: Answer, value: f32, after: PhaseAccumulator) -> bool {
     fields::says(answer, words::u32_at(row, 20) as u64)
         & (words::f32_bits(value) == words::u32_at(row, 24))

@@ -1,7 +1,7 @@
-// The original's renders, driven span by span: a row is 38 u64, then its score, its samples and its shelf, all compared bit for
-// bit: the answer, the state after, every sample and every word of the shelf; but a sine, which is ours, must only be within
-// 0.000001 times level times velocity. A re-render's row has, before the samples that it must leave, its old score and the
-// samples and the shelf that it finds.
+// The original's renders, driven span by span: a row is 38 u64, then its score, its samples and its shelf. The answer,
+// the state after, every sample and every word of the shelf are compared bit for bit; but a sine, which is ours, must
+// only be within 0.000001 times level times velocity. A re-render's row has, before the samples that it must leave, its
+// old score and the samples and the shelf that it starts with.
 use crate::fields;
 use crate::tally::Finding;
 use envelope::Adsr;
@@ -12,13 +12,13 @@ use state::State;
 // The bytes of a row before its score.
 pub const ROW: usize = 304;
 
-// Where a row says how many words follow.
+// The byte of a row where the number of words that follow is kept.
 pub const MORE: usize = 8;
 
 // What each word of the shelf holds before a call: no entry has that stage.
 const UNKEPT: u64 = 0x2a2a_2a2a_2a2a_2a2a;
 
-// As much is lent as the row says, or as there is.
+// As many samples and words are lent as the row says, at most 10,000 and 48.
 pub fn compared(row: &[u8]) -> Finding {
     let mut out = [fields::UNWRITTEN; 10000];
     let mut shelf = [UNKEPT; 48];
@@ -27,7 +27,7 @@ pub fn compared(row: &[u8]) -> Finding {
     judged(row, &mut out[0..samples], &mut shelf[0..kept])
 }
 
-// The shelf is the last that a row has; before it stand the samples, and before those of a sine their scales.
+// A row ends with the shelf; before it lie the samples, and before a sine's samples their scales.
 fn judged(row: &[u8], out: &mut [f64], shelf: &mut [u64]) -> Finding {
     let told = is_called(row, out, shelf);
     let end = fields::after(ROW, words::u64_at(row, MORE) as usize);
@@ -42,7 +42,7 @@ fn judged(row: &[u8], out: &mut [f64], shelf: &mut [u64]) -> Finding {
     }
 }
 
-// Whether the call answers what it must, and the state after it is the one that it must be.
+// Whether the call's answer and the state after it are the row's.
 fn is_called(row: &[u8], out: &mut [f64], shelf: &mut [u64]) -> bool {
     match words::u64_at(row, 0) {
         0 => is_rendered(row, out, shelf),
@@ -88,7 +88,7 @@ fn find(row: &[u8], out: &mut [f64], shelf: &mut [u64]) {
     fields::put_words(row, fields::after(first, out.len()), shelf);
 }
 
-// The bytes of a score that begins there, as many as a word of the row says or as there are.
+// The bytes of the score at byte `at`: as many as the word at `size_at` says, at most as many as are left.
 fn bytes_at(row: &[u8], at: usize, size_at: usize) -> &[u8] {
     let first = fields::at_most(at as u64, row.len());
     let size = fields::at_most(words::u64_at(row, size_at), row.len() - first);
@@ -96,7 +96,7 @@ fn bytes_at(row: &[u8], at: usize, size_at: usize) -> &[u8] {
     &row[first..end]
 }
 
-// The byte after that score and its zeros.
+// The byte after the score at byte `at` and the zeros that pad it to whole words.
 fn past(row: &[u8], at: usize, size_at: usize) -> usize {
     let size = words::u64_at(row, size_at) as usize;
     fields::after(at, std::num::wrapping_add_usize(size, 7) >> 3)

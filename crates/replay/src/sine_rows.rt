@@ -1,5 +1,5 @@
-// Our sine beside the original's: a row is two u64, a phase in cycles and the original's sine there, which ours must be
-// within 0.000001 of. A phase that is refused is unequal; the rows of such are in the part waveform.
+// Our sine compared with the original's: a row is two u64, a phase in cycles and the original's sine there; ours must
+// lie within 0.000001 of it. A refused phase is unequal; the rows of refused phases are in part `waveform` of `replay`.
 use crate::fields;
 use crate::nearness;
 use crate::tally::Finding;

@@ -1,4 +1,4 @@
-// The count of a part: how many of its rows were equal, and how far a sine was off.
+// The tally of a part of `replay`: how many of its rows are equal, and the largest difference of a sine.
 use crate::nearness;
 
 pub struct Tally {
@@ -6,13 +6,13 @@ pub struct Tally {
     pub farthest: f64,
 }
 
-// Whether a row, or its samples, are what they must be; and how far a sine is off.
+// Whether a row, or its samples, are as they must be; and the largest difference of a sine.
 pub struct Finding {
     pub equal: bool,
     pub farthest: f64,
 }
 
-// A row more, of at most as many as there are: the sum does not wrap.
+// Counts a row. No part has 2^64 rows, so the sum does not wrap.
 pub fn counted(tally: Tally, row: Finding) -> Tally {
     let mut next = tally;
     next.farthest = nearness::larger(row.farthest, tally.farthest);

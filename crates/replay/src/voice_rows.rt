@@ -1,5 +1,5 @@
-// The original's answers to the calls of voice.rs: a row is 31 u32, compared bit for bit: the answer, what it gives, and the
-// state after with its held keys, which are 0 beyond their count.
+// The original's answers to the calls of voice.rs: a row is 31 u32, compared bit for bit: the answer, the value that
+// the call gives, and the state after with its held keys, whose pairs are 0 beyond their count.
 use crate::fields;
 use answers::Answer;
 use voice::VoiceState;
@@ -8,10 +8,10 @@ use voice::keys::Keys;
 
 pub const ROW: usize = 124;
 
-// What stands for no active note.
+// The number of a row for no active note.
 const NONE: u32 = 256;
 
-// Whether the call answers and leaves what it must.
+// Whether the call's answer and what it leaves are the row's.
 pub fn is_equal(row: &[u8]) -> bool {
     match words::u32_at(row, 0) {
         0 | 2 => is_changed(row),
@@ -41,7 +41,7 @@ fn is_lifted(row: &[u8]) -> bool {
     is_outcome(row, answer, number_of(got.released), after)
 }
 
-// A getter hands back no state: the one that was given.
+// A getter hands back no state: the row has the given one.
 fn is_activity(row: &[u8]) -> bool {
     let got = given(row).is_active();
     let answer = got.answer;
@@ -54,7 +54,7 @@ fn is_count(row: &[u8]) -> bool {
     is_outcome(row, answer, got.count as u64, given(row))
 }
 
-// The answer, a yes or no or a number of keys, and the state after.
+// Whether the answer, the value (a yes or no, or a number of keys) and the state after are the row's.
 fn is_outcome(row: &[u8], answer: Answer, value: u64, after: VoiceState) -> bool {
     let keys = after.keys;
     fields::says(answer, words::u32_at(row, 64) as u64)

@@ -1,12 +1,12 @@
-// The original's answers to the calls of waveform.rs, all waveforms but sine, and the refusals of a sine: a row is 17 u64,
-// compared bit for bit: the answer, the phase after, and eight numbers of which the first are written.
+// The original's answers to the calls of waveform.rs, for all waveforms but sine, and the refusals of a sine: a row is
+// 17 u64, compared bit for bit: the answer, the phase after, and eight numbers, the first of which are written.
 use crate::fields;
 use answers::Value;
 use waveform::Radians;
 
 pub const ROW: usize = 136;
 
-// Whether the call answers and leaves what it must.
+// Whether the call's answer and what it leaves are the row's.
 pub fn is_equal(row: &[u8]) -> bool {
     match words::u64_at(row, 0) {
         0 | 1 => is_block(row),
@@ -32,14 +32,14 @@ fn is_block(row: &[u8]) -> bool {
         & fields::are_slots(row, 72, &slots)
 }
 
-// A single sample goes to the first slot; it leaves no phase.
+// A single sample is compared with the first of the eight numbers; it leaves no phase.
 fn is_alone(row: &[u8], got: Value) -> bool {
     fields::is_value(row, 56, 72, got)
         & fields::is_word(row, 64, 0.0)
         & fields::are_floats(row, 80, &[fields::UNWRITTEN; 7])
 }
 
-// Only a block reduces the phase.
+// Call 0 is the inner loop alone; only a block reduces the phase after it.
 fn filled(row: &[u8], out: &mut [f64]) -> Radians {
     let start = Radians(fields::float_at(row, 24));
     let step = Radians(fields::float_at(row, 32));

@@ -55,7 +55,7 @@ module _ (old new : List ℕ) (n : ℕ) where
   unfolding planFor
   plan-from p e h = rw (e, lt-ltb p n h) refl
 
--- the mark of a plan lies below the end, and at or before the first difference
+-- the plan's section m holds the position where the scores first differ, which lies before the end
 pub record Planned (old new : List ℕ) (n m : ℕ) : Type 0 where
   pub change : ℕ
   pub differs : differenceOf old new ≡ At change
@@ -77,7 +77,7 @@ plan-says old new n m h = go (differenceOf old new) refl h
         at true q h = record { change = p; differs = e; heard = ltb-true p n q; mark-is = sym (from-inj h) }
         at false q h = absurd (clash (cc))
 
--- it is the last such mark: the next lies past the difference
+-- section m starts at or before that position, and section m + 1 after it
 pub plan-last : (old new : List ℕ) (n m : ℕ) (p : Planned old new n m) → (m * mark ≤ p .change) × (p .change < suc m * mark)
 plan-last old new n m p = rw (p .mark-is) (omega arith, omega arith)
 
@@ -85,12 +85,12 @@ pub plan-there : (old new : List ℕ) (n m : ℕ) → planOf old new n ≡ From 
 plan-there old new n m h = let p : Planned old new n m = plan-says old new n m h in rw (p .mark-is) (start-there n (p .change) (p .heard))
 
 -- ---- the run
--- up to the end
+-- the stop is the end of the list: nothing is kept after it
 pub none-after : {A : Type 0} (a b : ℕ) (xs ys : List A) → length xs ≤ b → between a b xs ys ≡ take a xs ++ ys
 none-after a b xs ys h = rw (drop-of-length-le xs {i = b} h, append-nil ys) refl
 
 module _ (g : Settings) (old new : List ℕ) (m : ℕ) (out : List Float) (shelf : List ℕ) where
-  -- the entry is looked at through two records of the new score
+  -- in a sorted score two records tell whether as many acted as lie below the section's first sample
   abbrev starts : Bool
   starts = isEntry (entryAt shelf m) && partsAt new (startOf shelf m .acted) (m * mark)
 
@@ -101,7 +101,7 @@ module _ (g : Settings) (old new : List ℕ) (m : ℕ) (out : List Float) (shelf
   unfolding fromOf
   from-refused o e = rw (start-is o ∙ e) refl
 
-  -- where the shelf fits, nothing stands from the stop on
+  -- where the shelf fits, no word lies beyond the stop
   pub made-is : length shelf ≡ wordsFor (length out) → madeFrom g old new m out shelf
       ≡ leaves (Done (length out - m * mark)) (take (m * mark) out ++ samplesFrom g new (m * mark) (startOf shelf m) (length out - m * mark))
       (take (m * entryWords) shelf ++ shelfOf (entriesFrom g new m (startOf shelf m) (entriesFor (length out) - m)))
@@ -117,7 +117,7 @@ module _ (g : Settings) (old new : List ℕ) (m : ℕ) (out : List Float) (shelf
       rw (start-is o ∙ e, made-is f, ← d .heard-is, ← d .stored-is, ← x) refl
 
 -- ---- the call
--- what is refused before a plan is made, and what the code answers to it
+-- what is refused before the plan is made, and what the code answers then
 module _ (g : Settings) (old new : List ℕ) (n words : ℕ) where
   abbrev pub checks : List Refusal
   checks = refusalsOf g (isRoom n words) old ++ newRefusalsOf new
@@ -134,7 +134,7 @@ module _ (g : Settings) (old new : List ℕ) (n words : ℕ) where
   pub answer-leads : (why : Refusal) → answered ≡ Refused why → Leads why checks
   answer-leads why e = refused-leads checks 0 why (answered-is ∙ e)
 
-  -- what the checks let through
+  -- what is true where the checks refuse nothing
   pub record Checked : Type 0 where
     pub settings : settingsOk g ≡ true
     pub room : Roomy n words
@@ -157,7 +157,7 @@ module _ (g : Settings) (old new : List ℕ) (out : List Float) (shelf : List �
   abbrev tests : List Refusal
   tests = checks g old new (length out) (length shelf)
 
-  -- what is left where the checks refuse nothing
+  -- the outcome where the checks refuse nothing
   abbrev rest : Outcome Answer
   rest = firstOf (startRefusals new plan shelf) (keptOf out shelf) (runOf g old new plan out shelf)
 
@@ -182,7 +182,7 @@ module _ (g : Settings) (old new : List ℕ) (out : List Float) (shelf : List �
     unfolding fromOf
     mark-run m q = sym (goes ∙ rw q refl)
 
-  -- what it answers goes by the list, and what it leaves by what it answers
+  -- the list of refusals decides the answer, and the answer decides what is left
   pub rerender-decided : Decided (λ (o : Outcome Answer). o .result) (rerenderRefusals g old new (length out) shelf) (keptOf out shelf) (runOf g old new plan out shelf) (countFor g old new plan (length out)) (rerenderOf g old new out shelf)
   unfolding rerenderOf
   rerender-decided = decided (λ (o : Outcome Answer). o .result) _ (keptOf out shelf) (runOf g old new plan out shelf) (countFor g old new plan (length out)) (λ why. refl) (run-counts plan)

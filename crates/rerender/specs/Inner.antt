@@ -1,4 +1,5 @@
--- What a private function is held to: the part of a re-render that starts at a mark. No public statement cites it. Definitions only.
+-- What a private function is held to: the run of a re-render from the start of a section on. No public statement cites
+-- it. Definitions only.
 use mathlib.Core.List.{List}
 use Prim.Native.Nat.{ℕ}
 use lib.Ieee.{Float}
@@ -9,6 +10,6 @@ use Rattle.answers.specs.declared.Refusal.the-variants.{StartEntry}
 use Rattle.state.specs.declared.Settings.{Settings}
 use Rattle.rerender.specs.Rerender.{isStart, madeFrom, keptOf}
 
--- what is left of the call at a mark where 6, 7 and the scores' numbers are not given.
+-- the outcome of the call from section m on, where 6, 7 and both scores' faults are not given
 unfoldable pub fromOf : Settings → List ℕ → List ℕ → ℕ → List Float → List ℕ → Outcome Answer
 fromOf g old new m out shelf = firstOf (unless (isStart new m shelf) StartEntry) (keptOf out shelf) (madeFrom g old new m out shelf)

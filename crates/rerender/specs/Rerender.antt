@@ -1,7 +1,13 @@
--- A re-render. 01, "The shelf": "A re-render takes both scores. P is the lower position of the two at the first index where they differ, or of the one that remains where the other has ended. It starts at entry
--- floor(P/4096). Equal scores, or P at or above N, write nothing and count 0"; "8 | start entry is no state, or its records acted differ from the new score's records below its position"; "Order: 6, 7, the old or only
--- score, the new score (same numbers plus 16), then 8"; "Where count is 0 for equal scores or a late P, no entry is read and 8 is not given". Demand 3: "The count is the samples from the mark to the end".
--- It is decided for every start entry that is a state, a doctored one too: what is made are the steps from it. A plan, what it makes, and the call. Definitions only.
+-- A re-render: its plan, what the plan makes, and the call.
+-- 01, "The shelf": "A re-render takes both scores. P is the lower position of the two at the first index where they
+-- differ, or of the one that remains where the other has ended. It starts at entry floor(P/4096). Equal scores, or P at
+-- or above N, write nothing and count 0". "What a call says": "8 | start entry is no state, or its records acted differ
+-- from the new score's records below its position"; "Order: 6, 7, the old or only score, the new score (same numbers
+-- plus 16), then 8"; "Where count is 0 for equal scores or a late P, no entry is read and 8 is not given". Demand 3:
+-- "The count is the samples from the mark to the end".
+-- The demand's mark is the first sample of a section: sample 4096 m for section m, whose entry is entry m.
+-- Wider than 01: the outcome is decided for every start entry that is a state, even one that no render leaves: the
+-- samples and entries are those of the steps from that state. Definitions only.
 use mathlib.Core.Bool.{Bool, cond, _&&_}
 use mathlib.Core.List.{List, [], _++_}
 use Prim.Native.Nat.{ℕ, _-_, _*_, _/_}
@@ -26,7 +32,7 @@ use Rattle.judging.specs.Judging.{refusalsOf, newRefusalsOf, isRoom}
 use Rattle.rerender.specs.declared.Plan.{Plan}
 use Rattle.rerender.specs.declared.Plan.the-variants.{Nothing, From}
 
--- ---- the plan: nothing, or from a mark on
+-- ---- the plan: nothing, or from the start of section m on
 unfoldable pub planFor : Difference → ℕ → Plan
 planFor Equal n = Nothing
 planFor (At p) n = cond (ltb p n) (From (p / mark)) Nothing
@@ -35,26 +41,26 @@ abbrev pub planOf : List ℕ → List ℕ → ℕ → Plan
 planOf old new n = planFor (differenceOf old new) n
 
 -- ---- the run
--- the words of entry m, and the state that they are read as
+-- the twelve words of entry m, and the state that they are read as
 abbrev pub entryAt : List ℕ → ℕ → List ℕ
 entryAt shelf m = take entryWords (drop (m * entryWords) shelf)
 
 abbrev pub startOf : List ℕ → ℕ → State
 startOf shelf m = stateOf (entryAt shelf m)
 
--- it is a state, with as many records acted as the new score has below its position
+-- entry m is a state, with as many records acted as the new score has below sample 4096 m
 abbrev pub isStart : List ℕ → ℕ → List ℕ → Bool
 isStart new m shelf = isEntry (entryAt shelf m) && eqb (startOf shelf m .acted) (countBelow new (m * mark))
 
--- the sample at which it stops, of an output of n: the end, whatever the scores and the shelf are
+-- the position at which the run stops, in an output of n samples: the end, whatever the scores and the shelf are
 abbrev pub stopOf : Settings → List ℕ → List ℕ → ℕ → ℕ → ℕ
 stopOf g old new m n = n
 
--- xs with ys in the place of what stands from a to b
+-- xs with ys in place of the items from index a up to, not including, b
 abbrev pub between : {A : Type 0} → ℕ → ℕ → List A → List A → List A
 between a b xs ys = take a xs ++ (ys ++ drop b xs)
 
--- what lies before the mark, and from the stop on, stays as it came
+-- what lies before section m, and from the stop on, stays as it came
 abbrev pub madeFrom : Settings → List ℕ → List ℕ → ℕ → List Float → List ℕ → Outcome Answer
 madeFrom g old new m out shelf =
     let stop = stopOf g old new m (length out) in
@@ -65,28 +71,28 @@ madeFrom g old new m out shelf =
     (between (m * entryWords) (entriesFor stop * entryWords) shelf (shelfOf (entriesFrom g new m v (entriesFor stop - m))))
 
 -- ---- the call
--- what a plan makes
+-- the outcome of a plan
 abbrev pub runOf : Settings → List ℕ → List ℕ → Plan → List Float → List ℕ → Outcome Answer
 runOf g old new Nothing out shelf = leaves (Done 0) out shelf
 runOf g old new (From m) out shelf = madeFrom g old new m out shelf
 
--- 8, where an entry is read
+-- 8, only where an entry is read
 abbrev pub startRefusals : List ℕ → Plan → List ℕ → List Refusal
 startRefusals new Nothing shelf = []
 startRefusals new (From m) shelf = unless (isStart new m shelf) StartEntry
 
--- 6, 7, the old score's, the new one's, 8
+-- 6, 7, the old score's faults, the new score's faults, 8
 abbrev pub rerenderRefusals : Settings → List ℕ → List ℕ → ℕ → List ℕ → List Refusal
 rerenderRefusals g old new n shelf = refusalsOf g (isRoom n (length shelf)) old ++ newRefusalsOf new ++ startRefusals new (planOf old new n) shelf
 
--- a refusal leaves all as it came
+-- a refusal leaves output and shelf as they came
 abbrev pub keptOf : List Float → List ℕ → Refusal → Outcome Answer
 keptOf out shelf why = leaves (Refused why) out shelf
 
 unfoldable pub rerenderOf : Settings → List ℕ → List ℕ → List Float → List ℕ → Outcome Answer
 rerenderOf g old new out shelf = firstOf (rerenderRefusals g old new (length out) shelf) (keptOf out shelf) (runOf g old new (planOf old new (length out)) out shelf)
 
--- how many samples a plan makes, of an output of n
+-- how many samples a plan makes in an output of n samples
 abbrev pub countFor : Settings → List ℕ → List ℕ → Plan → ℕ → ℕ
 countFor g old new Nothing n = 0
 countFor g old new (From m) n = stopOf g old new m n - m * mark

@@ -1,6 +1,7 @@
-// The re-render: each edit of a score carries on from what the score says, not from the air. The judging, then a plan,
-// which is the last mark at or before the first changed record, and then its run, from the state that the shelf keeps
-// there. 01, "The shelf", and demand 3. No state is answered: the shelf has them.
+// The re-render: after an edit the output goes on from the state that the score gives, not from the state of a part
+// that is playing. The judging, then a plan, which is the section that holds the first changed position, then the
+// plan's run, from the state that the shelf keeps for the start of that section. 01, "The shelf", and demand 3. No
+// state is answered: the shelf has the states.
 ghost use mathlib.Core.Path.{_≡_};
 ghost use Prim.Native.Nat.{_<_};
 ghost use lib.ListN.{length};
@@ -17,14 +18,15 @@ use shelf::MARK;
 use spans::Place;
 use state::Settings;
 
-// Where a re-render starts: nowhere, where the scores are equal or first differ at or past the end, or at the mark of a
-// number, whose sample is 4,096 times that.
+// Where a re-render starts: nowhere, where the scores are equal or first differ at or past the end; or at section k,
+// whose first sample is 4096 k.
 pub enum Plan {
     Nothing,
     From(usize),
 }
 
-// The samples and entries from the last mark at or before the first changed record on, as the new score gives them.
+// The samples and entries from the start of the section that holds the first changed position, as the new score gives
+// them.
 pub fn rerender(
     settings: Settings,
     old: &[u8],
@@ -62,7 +64,7 @@ fn planned(old: &[u8], new: &[u8], samples: usize) -> Plan
     }
 }
 
-// From the state that the shelf keeps at a mark, or 8.
+// From the state that the shelf keeps for the start of section `mark`, or refusal 8.
 fn run_from(
     settings: Settings,
     old: &[u8],

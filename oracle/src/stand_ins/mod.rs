@@ -1,4 +1,4 @@
-//! What the original's files lean on and is not held: ours, as small as they allow.
+//! What the original's files use and is not part of them: ours, as small as the files allow.
 
 // The files decide what is called; some of it nobody calls here.
 #![allow(dead_code)]

@@ -1,4 +1,5 @@
-//! Stands for bbx_core::random::XorShiftRng; leaves out its numbers: only Waveform::Noise draws one, and noise is not ported.
+//! Stands for bbx_core::random::XorShiftRng; leaves out its numbers: only Waveform::Noise draws one, and it is not
+//! ported.
 
 #[derive(Debug, Clone)]
 pub struct XorShiftRng;

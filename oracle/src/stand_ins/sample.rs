@@ -1,4 +1,4 @@
-//! Stands for bbx_core::sample::Sample; leaves out f32, the simd part and every constant and method that no file here reads.
+//! Stands for bbx_core::sample::Sample; leaves out f32, simd and every constant and method that no file here reads.
 
 use std::ops::{Add, AddAssign, Div, Mul, Neg, Sub, SubAssign};
 

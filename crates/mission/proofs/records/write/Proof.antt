@@ -1,4 +1,4 @@
--- `mission::records::write` is safe and ends: what is left of the bytes falls, of which there are as many as before. Assumes nothing.
+-- `mission::records::write` is safe and ends: what is left of the bytes falls, and their number stays. Assumes nothing.
 use borrow.Author.Needs.{needs}
 use mathlib.Core.Path.{_≡_}
 use Prim.Native.Nat.{_-_}
