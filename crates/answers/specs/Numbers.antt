@@ -12,8 +12,7 @@ use Rattle.answers.specs.declared.ScoreFault.{ScoreFault}
 use Rattle.answers.specs.declared.ScoreFault.the-variants.{Length, Mark, Kind, Field, Order}
 use Rattle.answers.specs.declared.Numbers.{Numbers}
 
--- wrong length; mark; kind; a field out of range or a last byte that is not 0; a position below that of the record
--- before
+-- length; mark; kind; a field out of range or a last byte that is not 0; a position below that of the record before
 abbrev pub faultNumber : ScoreFault → ℕ
 faultNumber Length = 1
 faultNumber (Mark i) = 2
