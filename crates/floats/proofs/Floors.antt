@@ -75,7 +75,7 @@ floor-small f x s a h A l = floor-at f x s a (2 ^ low f) (pow-pos (low f)) h ∙
     part true = roof-one a (2 ^ low f) A l
     part false = nat.div-eq-of-lt l
 
--- |x| ≥ 1: the floor is the whole part of the digits over 2 ^ (low + 1 - field)
+-- a field from 1 to low: the floor is the whole part of the digits over 2 ^ (low + 1 - field)
 pub floor-middle : (f : Format) (x : Float) (s : Bool) (e t : ℕ) → HasValue x s (fieldsOf f e t) (2 ^ low f) → 0 < e → e ≤ low f → floorOf f x ≡ round f s (wholeOf s (hid f + t) (2 ^ (suc (low f) - e))) 1
 floor-middle f x s e t h E l =
     floor-at f x s (fieldsOf f e t) (2 ^ low f) (pow-pos (low f)) h

@@ -1,6 +1,6 @@
-// The floor of an f32 and of an f64 ("`floor` is worked out from the bits", 01), and two tests that several crates make
-// of a float. proofs/ has the laws of float arithmetic that the other crates cite, most of them for both widths at
-// once. Left out: all other arithmetic, which is the language's own, and the C library.
+// The floor of an f32 and of an f64 ("`floor` is worked out from the bits", 01), and two tests of a float: that it is
+// in a range, and that it is finite. proofs/ has the laws of float arithmetic that the other crates cite, most of them
+// for both widths at once. Left out: all other arithmetic, which is the language's own, and the C library.
 ghost use mathlib.Core.Path.{_≡_};
 ghost use mathlib.Core.Bool.{Bool};
 ghost use Prim.Native.Nat.{_<_, _≤_, _^_};
@@ -56,7 +56,7 @@ pub fn floor_f32(x: f32) -> f32
     if negative { -(n as f32) } else { n as f32 }
 }
 
-// The floor of an f64: by two comparisons inside 0 < x < 2, where `polyblep` reads it, and elsewhere from the bits.
+// The floor of an f64: by comparisons inside 0 < x < 2, where `polyblep` needs it most, and elsewhere from the bits.
 pub fn floor_f64(x: f64) -> f64
     ensures { λ r. ⌜ r ≡ floorOf binary64 x ⌝ }
 {
