@@ -1,4 +1,6 @@
--- The first refusal that holds: what follows counts where nothing before refuses; a call that is done has no refusal; and a refusal is given exactly when its test fails and the list before it is empty. Assumes nothing.
+-- Laws of a list of refusals. A refusal counts only where none before it is in the list; a call that is done has an
+-- empty list; and a refusal is given exactly when its test fails and no refusal before it is in the list.
+-- Assumes nothing.
 use mathlib.Core.Path.{_≡_, refl, ap, _∙_}
 use mathlib.Core.Bool.{Bool, true, false}
 use mathlib.Core.List.{List, [], _∷_, _++_, map}
@@ -14,28 +16,28 @@ use Rattle.answers.specs.declared.Refusal.{Refusal}
 clash : _≡_ {A = ℕ} 0 1 → ⊥
 clash h = omega arith
 
--- ---- what a list leaves
--- what follows counts where nothing before refuses
+-- ---- the outcome of a list
+-- ys counts only where xs is empty
 pub first-append : {A R : Type 0} (xs ys : List A) (f : A → R) (d : R) → firstOf (xs ++ ys) f d ≡ firstOf xs f (firstOf ys f d)
 first-append [] ys f d = refl
 first-append (x ∷ xs) ys f d = refl
 
--- what is made of an outcome is made of each way out
+-- a function h of the outcome is h of the outcome for each refusal, and h of `done`
 pub first-through : {A R S : Type 0} (h : R → S) (xs : List A) (f : A → R) (d : R) → h (firstOf xs f d) ≡ firstOf xs (λ why. h (f why)) (h d)
 first-through h [] f d = refl
 first-through h (x ∷ xs) f d = refl
 
--- the same refusals under another name
+-- refusals mapped by h: the outcome for h x counts as the outcome for x
 pub first-map : {A B R : Type 0} (h : A → B) (xs : List A) (f : B → R) (d : R) → firstOf (map h xs) f d ≡ firstOf xs (λ x. f (h x)) d
 first-map h [] f d = refl
 first-map h (x ∷ xs) f d = refl
 
--- ---- no refusal
+-- ---- no refusal: the list is empty, so its tests pass
 pub passed : {A : Type 0} (t : Bool) (why : A) → unless t why ≡ [] → t ≡ true
 passed true why e = refl
 passed false why e = absurd (clash (cc))
 
--- the same, as a test that holds
+-- an empty list: the test passes, as the type `T t`
 pub held : {A : Type 0} (t : Bool) (why : A) → unless t why ≡ [] → T t
 held true why e = tt
 held false why e = absurd (clash (cc))
@@ -53,31 +55,31 @@ none-map h [] e = refl
 none-map h (x ∷ xs) e = absurd (clash (cc))
 
 -- ---- the first refusal
--- why is the first of the list
+-- `why` is the first refusal in the list
 abbrev pub Leads : {A : Type 0} → A → List A → Type 0
 Leads why [] = ⊥
 Leads why (x ∷ xs) = x ≡ why
 
--- the first of a list decides
+-- the first refusal in the list decides the outcome
 pub leads-first : {A R : Type 0} (why : A) (xs : List A) (f : A → R) (d : R) → Leads why xs → firstOf xs f d ≡ f why
 leads-first why [] f d h = absurd h
 leads-first why (x ∷ xs) f d h = ap f h
 
--- a list has a first, or none
+-- a list has a first refusal, or is empty
 pub leads-or-none : {A : Type 0} (xs : List A) → ((why : A) × Leads why xs) ⊎ (xs ≡ [])
 leads-or-none [] = inr refl
 leads-or-none (x ∷ xs) = inl (x, refl)
 
--- what holds of every way out holds of the outcome
+-- P holds for the first refusal, or for `done` where the list is empty: P holds for the outcome
 pub first-holds : {A R : Type 0} (P : R → Type 0) (xs : List A) (f : A → R) (d : R) → ((why : A) → Leads why xs → P (f why)) → (xs ≡ [] → P d) → P (firstOf xs f d)
 first-holds P [] f d a b = b refl
 first-holds P (x ∷ xs) f d a b = a x refl
 
--- the same of what holds of every refusal, whichever is first
+-- P holds for every refusal, and for `done` where the list is empty: P holds for the outcome
 pub first-keeps : {A R : Type 0} (xs : List A) (f : A → R) (d : R) (P : R → Type 0) → ((why : A) → P (f why)) → (xs ≡ [] → P d) → P (firstOf xs f d)
 first-keeps xs f d P h k = first-holds P xs f d (λ why l. h why) k
 
--- an outcome that says done is that of no refusal
+-- the outcome's answer is done: the list is empty
 pub none-refused : {R : Type 0} (xs : List Refusal) (f : Refusal → R) (d : R) (answer : R → Answer) (n : ℕ) → ((why : Refusal) → answer (f why) ≡ Refused why) → answer (firstOf xs f d) ≡ Done n → xs ≡ []
 none-refused [] f d answer n h e = refl
 none-refused (why ∷ later) f d answer n h e = absurd (clash (cc (h why)))
@@ -98,7 +100,7 @@ module _ (xs : List Refusal) (n : ℕ) where
       go [] e = absurd (clash (cc))
       go (x ∷ xs) e = cc
 
--- ---- a call: what it answers goes by its list, and what it leaves by what it answers, both ways
+-- ---- a call: its list decides its answer, and its answer decides what it leaves, each in both directions
 pub record Decided {R : Type 0} (says : R → Answer) (refusals : List Refusal) (kept : Refusal → R) (made : R) (n : ℕ) (o : R) : Type 0 where
   pub refused : (why : Refusal) → says o ≡ Refused why → Leads why refusals
   pub is-refused : (why : Refusal) → Leads why refusals → says o ≡ Refused why
@@ -108,7 +110,7 @@ pub record Decided {R : Type 0} (says : R → Answer) (refusals : List Refusal) 
   pub makes : (m : ℕ) → says o ≡ Done m → o ≡ made
   pub counts : (m : ℕ) → says o ≡ Done m → n ≡ m
 
--- of an outcome that is what the first refusal keeps, or what is made with a count n
+-- the outcome is `kept` of the first refusal, or else `made`, whose answer is done with the count n: it is `Decided`
 pub decided : {R : Type 0} (says : R → Answer) (refusals : List Refusal) (kept : Refusal → R) (made : R) (n : ℕ) → ((why : Refusal) → says (kept why) ≡ Refused why) → says made ≡ Done n
     → Decided says refusals kept made n (firstOf refusals kept made)
 decided says refusals kept made n a b = go refusals
@@ -136,7 +138,7 @@ decided says refusals kept made n a b = go refusals
           counts = λ m e. absurd (clash (cc));
         }
 
--- ---- a refusal in its place
+-- ---- the first refusal of two lists joined, of `unless` and of a mapped list
 pub leads-append : {A : Type 0} (why : A) (xs ys : List A) → Leads why xs → Leads why (xs ++ ys)
 leads-append why [] ys h = absurd h
 leads-append why (x ∷ xs) ys h = h

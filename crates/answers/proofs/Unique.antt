@@ -18,6 +18,6 @@ in-numbers-unique a r t p q = p ∙ sym q
 pub value-if-unique : (ok : Bool) (refusal : Refusal) (x : Float) (r t : Value) → r ≡ valueOr (unless ok refusal) x → t ≡ valueOr (unless ok refusal) x → r ≡ t
 value-if-unique ok refusal x r t p q = p ∙ sym q
 
--- of a block call the result and every lent number
+-- a block call: the result and every lent number
 pub same-left : {R : Type 0} (o : Outcome R) (r t : R) (ys zs : List Float) → leaves r ys ≡ o → leaves t zs ≡ o → (r ≡ t) × (ys ≡ zs)
 same-left {R} o r t ys zs p q = (ap (λ (x : Outcome R). x .result) (p ∙ sym q), ap (λ (x : Outcome R). x .lent) (p ∙ sym q))

@@ -1,6 +1,8 @@
--- The number, the place and the count of each answer. 01, "What a call says": the table of numbers; "the new score (same numbers plus 16)"; "Place is the record's index, else 0";
--- "A refusal returns number, place, count 0". Every statement that can refuse speaks of an `Answer`, and this is the one place that says what its cases stand for.
--- A number that a later request brings joins as a case of `Refusal`, with its line in each table here. Definitions only.
+-- The number, the place and the count of each answer. 01, "What a call says": the table of numbers; "the new score
+-- (same numbers plus 16)"; "Place is the record's index, else 0"; "A refusal returns number, place, count 0".
+--
+-- Every contract of a call that can refuse speaks of an `Answer`, and only this file gives the cases of `Answer` their
+-- numbers. A later request adds a number as a case of `Refusal`, with a row in each definition here. Definitions only.
 use Prim.Native.Nat.{ℕ, _+_}
 use Rattle.answers.specs.declared.Answer.{Answer}
 use Rattle.answers.specs.declared.Answer.the-variants.{Done, Refused}
@@ -10,7 +12,7 @@ use Rattle.answers.specs.declared.ScoreFault.{ScoreFault}
 use Rattle.answers.specs.declared.ScoreFault.the-variants.{Length, Mark, Kind, Field, Order}
 use Rattle.answers.specs.declared.Numbers.{Numbers}
 
--- a score's own numbers: no multiple of 10 or too long; wrong mark; wrong kind; a field out of range or a last byte that is not 0; a position that falls
+-- length; mark; kind; a field out of range or a last byte that is not 0; a position below that of the record before
 abbrev pub faultNumber : ScoreFault → ℕ
 faultNumber Length = 1
 faultNumber (Mark i) = 2
@@ -26,7 +28,7 @@ faultPlace (Kind i) = i
 faultPlace (Field i) = i
 faultPlace (Order i) = i
 
--- the old or only score's numbers stand as they are, the new score's 16 higher
+-- the old or only score has the numbers of its fault, the new score these numbers plus 16
 abbrev pub refusalNumber : Refusal → ℕ
 refusalNumber (Score fault) = faultNumber fault
 refusalNumber (NewScore fault) = faultNumber fault + 16
@@ -45,11 +47,11 @@ refusalPlace StartEntry = 0
 refusalPlace Argument = 0
 refusalPlace GivenState = 0
 
--- no refusal has a count today
+-- a refusal writes no sample
 abbrev pub refusalCount : Refusal → ℕ
 refusalCount r = 0
 
--- done is 0, and its count the samples written
+-- done has number 0, place 0, and as its count the samples written
 abbrev pub numbersOf : Answer → Numbers
 numbersOf (Done n) = record { number = 0; place = 0; count = n }
 numbersOf (Refused r) = record { number = refusalNumber r; place = refusalPlace r; count = refusalCount r }

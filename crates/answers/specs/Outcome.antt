@@ -1,4 +1,5 @@
--- What a block call leaves that is lent numbers: its result, and the lent numbers at its exit. 01, "What each statement must decide": "every byte or word lent, refusals too". Definitions only.
+-- What a block call leaves: its result, and the lent numbers at its exit. 01, "What each statement must decide": "every
+-- byte or word lent, refusals too". Definitions only.
 use mathlib.Core.List.{List}
 use lib.Ieee.{Float}
 

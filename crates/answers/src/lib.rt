@@ -1,13 +1,13 @@
-// What a call says: the lines of document 01's table ("What a call says") as enums, and the three numbers that stand for
-// each. What a call gives beside its answer, a number or a state, stands in a struct of its own crate; `Value` is the one that
-// several share.
+// What a call says: the rows of 01's table ("What a call says") as enums, and the number, place and count of each. What
+// a call returns beside its answer, a number or a state, is a field of a struct of the call's own crate; `Value` is the
+// one such struct that several crates share.
 ghost use mathlib.Core.Path.{_≡_};
 ghost use Prim.Native.Nat.{_≤_};
 ghost use Rattle.answers.specs.Order.{unless};
 ghost use Rattle.answers.specs.Value.{valueOr};
 ghost use Rattle.answers.specs.Numbers.{numbersOf, refusalNumber, refusalPlace, faultNumber, faultPlace};
 
-// What is wrong with a score; a fault of a record carries the record's index.
+// What is wrong with a score: its length, or a record, whose index the case carries.
 pub enum ScoreFault {
     Length,
     Mark(usize),
@@ -16,7 +16,7 @@ pub enum ScoreFault {
     Order(usize),
 }
 
-// Why a call was refused.
+// Why a call was refused: a score (numbers 1 to 5), a re-render's new score (17 to 21), or a number from 6 to 10.
 pub enum Refusal {
     Score(ScoreFault),
     NewScore(ScoreFault),
@@ -33,14 +33,14 @@ pub enum Answer {
     Refused(Refusal),
 }
 
-// An answer for a host that has no enums.
+// An answer as three numbers, for a host that has no enums.
 pub struct Numbers {
     pub number: u8,
     pub place: usize,
     pub count: usize,
 }
 
-// A single number beside its answer; +0 where the call was refused.
+// A call's answer and its single number, which is +0 where the call was refused.
 pub struct Value {
     pub answer: Answer,
     pub value: f64,
@@ -63,7 +63,7 @@ pub fn in_numbers(answer: Answer) -> Numbers
     }
 }
 
-// The number, or the refusal with +0.
+// Done, with the value, where ok is true; else the refusal, with +0.
 pub fn value_if(ok: bool, refusal: Refusal, value: f64) -> Value
     ensures { λ r. ⌜ r ≡ valueOr (unless ok refusal) value ⌝ }
 {

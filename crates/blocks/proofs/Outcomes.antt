@@ -1,4 +1,4 @@
--- What a run leaves, refused and done, from what its parts answer. Assumes nothing.
+-- What a run leaves, refused or done, from the answers of the functions that it calls. Assumes nothing.
 use mathlib.Core.Path.{_≡_, refl, sym, ap, subst, _∙_}
 use mathlib.Core.Bool.{Bool, true, false, not}
 use mathlib.Core.List.{List}
@@ -17,7 +17,7 @@ use Rattle.blocks.specs.Block.{isSetting, isTone, refusedOf, runOf}
 use Rattle.blocks.specs.declared.Ran.{Ran}
 use Rattle.blocks.specs.declared.Tone.{Tone}
 
--- the tests of the code are of `not b`
+-- the tests in the code are `!b`
 pub no : (b : Bool) → not b ≡ true → b ≡ false
 no true h = absurd (subst T (sym h) tt)
 no false h = refl
@@ -27,7 +27,7 @@ yes true h = refl
 yes false h = absurd (subst T h tt)
 
 module _ (t : Tone) (highest : Float) (rate : ℕ) (xs : List Float) where
-  -- 6, and 9 after it: all stays as it came
+  -- 6, and 9 after 6: the phase and the lent numbers stay as they came
   pub setting-refused : (r : Ran) → r ≡ refusedOf Setting (t .phase) → isSetting rate (t .waveform) ≡ false → leaves r xs ≡ runOf t highest rate xs
   unfolding runOf
   setting-refused r e s = rw (e, s) refl
@@ -36,7 +36,7 @@ module _ (t : Tone) (highest : Float) (rate : ℕ) (xs : List Float) where
   unfolding runOf
   argument-refused r e s a = rw (e, s, a) refl
 
-  -- nothing is wrong: the samples, and the phase after them reduced
+  -- done: the samples, and the phase after them, reduced
   pub run-done : (step last q : Radians) (ys : List Float) → isSetting rate (t .waveform) ≡ true → isTone t highest ≡ true →
       step ≡ radians (incrementOf (t .frequency) rate) → Filled (t .waveform) (t .phase .0) (step .0) (t .depth) xs ys last → q ≡ radians (reduceOf (last .0)) →
       leaves (record { answer = Done (length ys); phase = q }) ys ≡ runOf t highest rate xs

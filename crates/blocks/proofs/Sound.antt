@@ -1,5 +1,5 @@
--- A run that is done, for a highest frequency to 20,000 Hz: every sample is finite, and the phase after it lies from 0 up to, not including, TAU. The start phase is a value of an f64, which is what
--- owning it tells. Assumes nothing.
+-- A run that is done, for a highest frequency of at most 20,000 Hz: every sample is finite, and the phase after the run
+-- is at least 0 and below TAU. The start phase is a value of an f64, as every f64 of the code is. Assumes nothing.
 use mathlib.Core.Path.{_≡_, refl, subst}
 use mathlib.Core.Bool.{Bool, false, _&&_}
 use mathlib.Core.List.{List, [], _++_}
@@ -33,7 +33,7 @@ use Rattle.blocks.specs.Block.{isSetting, isTone, phaseAfter, runOf}
 use Rattle.blocks.specs.declared.Ran.{Ran}
 use Rattle.blocks.specs.declared.Tone.{Tone}
 
--- a rate as a float
+-- a rate of at most 192,000 Hz is finite as a float
 rate-finite : (rate : ℕ) → rate ≤ 192000 → T (finite (ofInt binary64 (pos rate)))
 unfolding ofInt
 rate-finite rate h =

@@ -1,6 +1,7 @@
-// What the two block calls share, oscillator.rs's and lfo.rs's of the original: the judging, the inner loop over the
-// output, and the reduction after it. They differ in their highest frequency, and the oscillator's depth is 1. Left out, as 01
-// says: parameters and their modulation, noise, and the simd path.
+// What the block calls of the oscillator and of the LFO share (oscillator.rs and lfo.rs of the original): the judging,
+// the inner loop over the output, and the reduction of the phase after it. The two calls differ in their highest
+// frequency, and the oscillator's depth is 1. Left out, as 01 says: parameters and their modulation, noise, and the
+// simd path.
 ghost use mathlib.Core.Path.{_≡_};
 ghost use Rattle.answers.specs.Outcome.{leaves};
 ghost use Rattle.blocks.specs.Block.{isTone, refusedOf, runOf};
@@ -9,7 +10,7 @@ use answers::Refusal;
 use waveform::Radians;
 use waveform::Waveform;
 
-// What a block sounds, and the phase that it starts at.
+// What a block call sounds: a frequency in Hz, a depth, the phase at which the block starts, and a waveform.
 pub struct Tone {
     pub frequency: f64,
     pub depth: f64,
@@ -17,7 +18,7 @@ pub struct Tone {
     pub waveform: Waveform,
 }
 
-// What a run answers, and the phase after it.
+// The answer of a run, and the phase after it.
 pub struct Ran {
     pub answer: Answer,
     pub phase: Radians,
@@ -43,7 +44,7 @@ pub fn run(tone: Tone, highest: f64, rate: u32, out: &mut [f64]) -> Ran
     }
 }
 
-// A depth, a frequency and a start phase that are accepted.
+// Whether the depth, the frequency (0 to highest, in Hz) and the start phase are accepted.
 fn is_tone(tone: Tone, highest: f64) -> bool
     ensures { λ r. ⌜ r ≡ isTone tone highest ⌝ }
 {
@@ -52,7 +53,7 @@ fn is_tone(tone: Tone, highest: f64) -> bool
         & domain::is_radians(tone.phase.0)
 }
 
-// The phase as it came.
+// A refusal, with the phase as it came.
 fn refused(why: Refusal, phase: Radians) -> Ran
     ensures { λ r. ⌜ r ≡ refusedOf why phase ⌝ }
 {

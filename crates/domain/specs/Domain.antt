@@ -1,7 +1,11 @@
--- The domain of the ported calls, each limit once. 01, "Domain of the ported calls": "Phase and dt are normalised: phase 0 to 1, dt 0 to 4, duty 0 to 1. Block calls take a rate of 8,000 to 192,000 (whole Hz),
--- frequency 0 to 20,000 Hz (LFO 0 to 100), depth 0 to 1, start phase 0 up to but not including 1,000 radians. Notes and velocities are 0 to 127."; and of "the shelf's limits", which hold for a given voice too: "phase is at least 0 and below 1,000",
--- "frequency above 0 and at most 12,544". Ranges are comparisons of floats: a NaN is outside, and -0 counts as 0, so that a frequency of -0 sounds in a block and is none of a voice. Which number a refusal has stands
--- with the calls. Definitions only.
+-- The domain of the ported calls, each limit once. 01, "Domain of the ported calls": "Phase and dt are normalised:
+-- phase 0 to 1, dt 0 to 4, duty 0 to 1. Block calls take a rate of 8,000 to 192,000 (whole Hz), frequency 0 to 20,000
+-- Hz (LFO 0 to 100), depth 0 to 1, start phase 0 up to but not including 1,000 radians. Notes and velocities are 0 to
+-- 127."; and of "the shelf's limits", which a given voice must meet too: "phase is at least 0 and below 1,000",
+-- "frequency above 0 and at most 12,544".
+--
+-- Ranges are comparisons of floats: a NaN is outside, and -0 counts as 0, so that -0 is a frequency of a block call and
+-- none of a voice. The number of a refusal is defined with each call. Definitions only.
 use mathlib.Core.Bool.{Bool, _&&_}
 use Prim.Native.Nat.{ℕ}
 use lib.Dec.{leb}
@@ -17,11 +21,11 @@ abbrev pub isDuty : Float → Bool
 isDuty duty = within naught one duty
 
 -- ---- block calls
--- whole Hz
+-- a rate in whole Hz
 unfoldable pub isRate : ℕ → Bool
 isRate rate = leb 8000 rate && leb rate 192000
 
--- 20,000 Hz, and for the LFO 100 Hz
+-- the highest frequency of an oscillator, 20,000 Hz, and of an LFO, 100 Hz
 abbrev pub highestTone : Float
 highestTone = ofBits binary64 0x40d3_8800_0000_0000
 
@@ -47,7 +51,7 @@ isRadians x = le naught x && lt x thousand
 abbrev pub isMidi : ℕ → Bool
 isMidi n = leb n 127
 
--- 12,544 Hz, as code of either width has it: what sounds is an f32 in a voice and an f64 in a state
+-- 12,544 Hz at either width: the frequency that sounds is an f32 in a voice and an f64 in a state
 abbrev pub highestPitch : Format → Float
 highestPitch binary32 = ofBits binary32 0x4644_0000
 highestPitch binary64 = ofBits binary64 0x40c8_8000_0000_0000

@@ -1,4 +1,5 @@
--- Sizes: |x| ≤ a, and what each operation makes of it. So a long expression is finite where the same expression at the bounds is, and that is computed. Over the format. Assumes nothing.
+-- Sizes: |x| ≤ a, carried through each operation. So a long expression is finite if the same expression at the bounds
+-- is finite, which is computed. For either format. Assumes nothing.
 use mathlib.Core.Path.{_≡_, refl}
 use Prim.Native.Nat.{ℕ, _+_, _*_, _≤_}
 use native.Mathlib.Nat.{le-refl, mul-pos}
@@ -27,7 +28,7 @@ module _ (a x : Float) (s : Size a x) where
   high : T (le x a)
   high = and-r (le (neg a) x) (le x a) (s .between)
 
-  -- what has a size is finite
+  -- |x| ≤ a: x is finite
   pub size-finite : T (finite x)
   size-finite = between-finite (neg a) x a (finite-neg a (s .bound)) (s .bound) low high
 
@@ -35,7 +36,7 @@ module _ (a x : Float) (s : Size a x) where
   pub size-neg : Size a (neg x)
   size-neg = record { bound = s .bound; between = within-neg a x (s .between) }
 
--- -(a + b) ≤ -a + -b: they are one number, though a zero may differ in its sign
+-- -(a + b) ≤ -a + -b: the two are one number, but a zero may have the other sign
 neg-sum-le : (f : Format) (a b : Float) → T (finite a) → T (finite b) → T (le (neg (add f a b)) (add f (neg a) (neg b)))
 neg-sum-le f a b p q =
     let n = less a * den b + less b * den a in
@@ -68,7 +69,7 @@ pub size-sub : (f : Format) (a x b y : Float) → Size a x → Size b y → T (f
 unfolding sub
 size-sub f a x b y s t h = size-add f a x b (neg y) s (size-neg b y t) h
 
--- |x| ≤ a ≤ b
+-- |x| ≤ a ≤ b: |x| ≤ b
 pub size-widen : (a b x : Float) → T (finite b) → T (le a b) → Size a x → Size b x
 size-widen a b x h k s =
     record {
@@ -76,7 +77,7 @@ size-widen a b x h k s =
       between = and-i (le (neg b) x) (le x b) (fle-trans (neg b) (neg a) x (neg-order a b k) (low a x s)) (fle-trans x a b (high a x s) k);
     }
 
--- 0 ≤ x ≤ a
+-- 0 ≤ x ≤ a: |x| ≤ a
 pub size-of-range : (a x : Float) → T (finite a) → T (within nought a x) → Size a x
 size-of-range a x h p =
     let l : T (le nought x) = and-l (le nought x) (le x a) p in
@@ -87,7 +88,7 @@ size-of-range a x h p =
     minus-le : (a : Float) → T (le nought a) → T (le (neg a) nought)
     minus-le a k = fle-trans (neg a) (neg nought) nought (neg-order nought a k) (unfold neg in unfold le in tt)
 
--- |d| ≤ y, y above 0: |d / y| ≤ 1
+-- |d| ≤ y and 0 < y: |d / y| ≤ 1
 pub size-div : (f : Format) (d y : Float) → T (positive y) → Size y d → Size unity (div f d y)
 size-div f d y q s =
     let D = size-finite y d s in
@@ -105,7 +106,7 @@ size-div f d y q s =
     unit Format.binary32 = near-self Format.binary32 unity (unfold fits in tt) tt
     unit Format.binary64 = near-self Format.binary64 unity (unfold fits in tt) tt
 
-    -- y is num y / den y, with nothing below 0
+    -- y is positive: `plus y` is its numerator, and `less y` is 0
     positive-parts : (y : Float) → T (positive y) → (plus y ≡ num y) × (less y ≡ 0)
     positive-parts nan q = absurd q
     positive-parts (inf s) q = absurd q
@@ -118,6 +119,6 @@ size-div f d y q s =
     over : (p n c u v a b : ℕ) → (a ≡ u) × (b ≡ 0) → p * v + b * c ≤ a * c + n * v → p * v * 1 + 0 * (u * c) ≤ 1 * (u * c) + n * v * 1
     over p n c u v a b e h = omega (arith, rw (e .0, e .1) at h)
 
--- 0 ≤ x has its own size
+-- 0 ≤ x: |x| ≤ x
 pub size-own : (x : Float) → T (nonneg x) → Size x x
 size-own x p = size-of-range x x (nonneg→finite x p) (and-i (le nought x) (le x x) (ge0→le x (nonneg→ge0 x p)) (fle-refl x (nonneg→finite x p)))

@@ -1,4 +1,5 @@
--- How far below its fraction a rounded value can lie, in the normal range: a / c ≤ x * (1 + 2 ^ -prec), for x the fraction a / c rounded. Assumes nothing.
+-- How far a rounded value can lie below its fraction, in the normal range: if x is a / c rounded, then
+-- a / c ≤ x * (1 + 2 ^ -prec). Assumes nothing.
 use mathlib.Core.Path.{_≡_, sym, ap, _∙_, subst}
 use Prim.Native.Nat.{ℕ, suc, _+_, _-_, _*_, _/_, _%_, _^_}
 use Prim.Native.Nat.{_≤_, _<_, compare, Ordering, Ordering·lt, Ordering·eq, Ordering·gt}
@@ -18,7 +19,7 @@ use Rattle.floats.specs.Range.{nonneg}
 use Rattle.floats.proofs.Order.{nonneg→finite, under, le→cross}
 use Rattle.floats.proofs.Rounds.{Rounds, ge0-round}
 
--- n / u is at most a half above the whole number nearest to it
+-- n = q * u + r: n / u is at most a half above the whole number nearest to it
 nearest-err : (q r u : ℕ) (o : Ordering) → r < u → (T (isLe o) → r * 2 ≤ u) → 2 * (q * u + r) ≤ (2 * nearest q o + 1) * u
 nearest-err q r u Ordering·lt h k = omega (arith, k tt)
 nearest-err q r u Ordering·eq h k = even (q % 2)
@@ -27,13 +28,13 @@ nearest-err q r u Ordering·eq h k = even (q % 2)
     even z = omega (arith, k tt)
 nearest-err q r u Ordering·gt h k = omega arith
 
--- the same with the quotient and the remainder of n by u
+-- n / u is at most a half above the whole number nearest to it, by the quotient and the remainder of n by u
 closest-err : (n u : ℕ) → 0 < u → 2 * n ≤ (2 * closest n u + 1) * u
 closest-err n u U =
     subst (λ (z : ℕ). 2 * z ≤ (2 * closest n u + 1) * u) (div-add-mod' n u)
     (nearest-err (n / u) (n % u) u (compare (n % u * 2) u) (mod-lt n U) (leb→le (n % u * 2) u))
 
--- in the normal range the kept number has all of its digits
+-- in the normal range the kept number has all p digits
 kept-full : (p n c : ℕ) → 0 < p → p ≤ size (n / c) → 2 ^ (p - 1) ≤ kept p n c
 kept-full p n c P N =
     let k = drop p n c in
@@ -45,7 +46,7 @@ kept-full p n c P N =
 halves : (p : ℕ) → 0 < p → 2 ^ p ≡ 2 * 2 ^ (p - 1)
 halves p P = let e : p ≡ suc (p - 1) = omega arith in ap (λ (z : ℕ). 2 ^ z) e ∙ pow-succ' 2 (p - 1)
 
--- so a fraction in units of the smallest value is at most one part in 2 ^ prec above what it rounds to
+-- in the normal range, a fraction in units of the smallest value is at most one part in 2 ^ prec above its rounding
 grid-err : (f : Format) (a c : ℕ) → 0 < c → prec f ≤ size (a * 2 ^ low f / c) → a * 2 ^ low f * 2 ^ prec f ≤ grid f a c * c * (2 ^ prec f + 1)
 grid-err f a c C N =
     let p = prec f in

@@ -1,5 +1,6 @@
--- A long expression is finite where the same expression at its parts' largest sizes is: one computed test, and one law. Over the format. Assumes nothing.
--- `Expr` is an expression of sums, differences and products; a leaf x carries a bound on its size.
+-- A long expression is finite if it is finite with every leaf at its largest size: one computed test, and one law.
+-- `Expr` is an expression of sums, differences and products; a leaf x carries a bound on its size. For either format.
+-- Assumes nothing.
 use mathlib.Core.Bool.{Bool, _&&_}
 use lib.Dec.{T}
 use lib.Ieee.{Float, Format, add, sub, mul}
@@ -14,35 +15,35 @@ pub data Expr : Type 0 where
   _⊹_ _⊸_ _⊛_ : Expr → Expr → Expr
 
 module _ (f : Format) where
-  -- what the expression is, each operation rounded once
+  -- the value of the expression, each operation rounded once
   abbrev pub value : Expr → Float
   value (leaf a x) = x
   value (d ⊹ e) = add f (value d) (value e)
   value (d ⊸ e) = sub f (value d) (value e)
   value (d ⊛ e) = mul f (value d) (value e)
 
-  -- the same at the largest sizes, where a difference may be a sum
+  -- the expression with every leaf at its bound, and a sum for each difference
   abbrev pub most : Expr → Float
   most (leaf a x) = a
   most (d ⊹ e) = add f (most d) (most e)
   most (d ⊸ e) = add f (most d) (most e)
   most (d ⊛ e) = mul f (most d) (most e)
 
-  -- no bound on the way overflows: computed
+  -- no bound on the way overflows; this is computed
   abbrev pub bounded : Expr → Bool
   bounded (leaf a x) = finite a
   bounded (d ⊹ e) = bounded d && (bounded e && finite (add f (most d) (most e)))
   bounded (d ⊸ e) = bounded d && (bounded e && finite (add f (most d) (most e)))
   bounded (d ⊛ e) = bounded d && (bounded e && finite (mul f (most d) (most e)))
 
-  -- every leaf has the size that it says
+  -- every leaf is within its bound
   abbrev pub Sized : Expr → Type 0
   Sized (leaf a x) = Size a x
   Sized (d ⊹ e) = Sized d × Sized e
   Sized (d ⊸ e) = Sized d × Sized e
   Sized (d ⊛ e) = Sized d × Sized e
 
-  -- so |value| ≤ most
+  -- every leaf is within its bound, and no bound overflows: |value| ≤ most
   pub size : (e : Expr) → Sized e → T (bounded e) → Size (most e) (value e)
   size (leaf a x) s h = s
   size (d ⊹ e) s h =

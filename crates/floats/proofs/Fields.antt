@@ -1,5 +1,5 @@
--- A positive number by its pattern: the sign is clear, the pattern's number is the number's, and the exponent's field tells between which powers of two it lies.
--- Over the format. Assumes nothing.
+-- A positive number by its pattern: the sign bit is clear, the pattern's number is x, and the exponent field tells
+-- between which powers of two x lies. For either format. Assumes nothing.
 use mathlib.Core.Path.{_≡_, sym, ap, _∙_}
 use mathlib.Core.Bool.{Bool, true, false}
 use Prim.Native.Nat.{ℕ, zero, suc, _+_, _-_, _*_, _/_, _%_, _^_, _≤_, _<_}
@@ -13,7 +13,7 @@ use lib.Ieee.Positive.{num, den, den-pos, positive, positive-finite, value→cro
 use borrow.Author.Tests.{leb-false}
 use Rattle.floats.proofs.Pattern.{fieldsOf, unitsOf, negative, value, fields-lt}
 
--- ---- a field between powers of two
+-- ---- the least number of an exponent field
 fields-ge : (f : Format) (e t y : ℕ) → suc y ≤ e → 2 ^ (prec f - 1 + y) ≤ fieldsOf f e t
 fields-ge f zero t y h = absurd (nat.not-suc-le-zero h)
 fields-ge f (suc e) t y h = rw (pow-add 2 (prec f - 1) y) (nat.mul-le-mul (nat.le-add-right (hid f) t) (pow-mono (nat.le-of-suc-le-suc h)))
@@ -44,11 +44,11 @@ module _ (f : Format) (x : Float) (w : T (fits f x)) (p : T (positive x)) where
   plain : bits % top f ≡ bits
   plain = nat.mod-eq-of-lt (leb-false (top f) bits clear)
 
-  -- x is the number of its field and digits
+  -- x is the number of its exponent field and digits
   pub crossed : num x * 2 ^ low f ≡ fieldsOf f (toBits f x / hid f) (toBits f x % hid f) * den x
   crossed = value→cross x units (2 ^ low f) (rw (plain, clear) at found)
 
-  -- 2 ^ k ≤ x
+  -- 2 ^ k ≤ x: the field is at least emax + k
   pub field-ge : (k : ℕ) → 2 ^ k * den x ≤ num x → emax f + k ≤ toBits f x / hid f
   field-ge k h =
       nat.le-of-suc-le-suc (nat.lt-of-not-le (λ (l : suc field ≤ emax f + k).
@@ -62,7 +62,7 @@ module _ (f : Format) (x : Float) (w : T (fits f x)) (p : T (positive x)) where
       small : (a c u l q : ℕ) → 0 < c → a * l ≡ u * c → u < l * q → q * c ≤ a → ⊥
       small a c u l q C e h k = omega (arith, nat.mul-lt-mul-of-pos-right h C, nat.mul-le-mul-right l k)
 
-  -- x < 2 ^ k
+  -- x < 2 ^ k: the field is below emax + k
   pub field-lt : (k : ℕ) → num x < 2 ^ k * den x → toBits f x / hid f < emax f + k
   field-lt k h =
       nat.lt-of-not-le (λ (l : emax f + k ≤ field).

@@ -1,4 +1,5 @@
--- x - floor(x), rounded once, lies from 0 to 1, both ends included: the fraction below 1 may round up to it. Over the format. Assumes nothing.
+-- x - floor(x), rounded once, lies from 0 to 1, both ends included: a difference below 1 may round up to 1. For either
+-- format. Assumes nothing.
 use mathlib.Core.Path.{_≡_, sym, ap}
 use mathlib.Core.Bool.{true, false, true≢false}
 use Prim.Native.Nat.{ℕ, _+_, _-_, _*_, _/_, _≤_, _<_}
@@ -17,14 +18,14 @@ use Rattle.floats.proofs.Rounds.{Rounds, mono, rise, sub-rounds, one-ro
 use Rattle.floats.proofs.Roof.{le-roof, roof-lt}
 use Rattle.floats.proofs.Greatest.{floor-value}
 
--- a fraction that is at most 1, rounded
+-- x is a fraction of at most 1, rounded: 0 ≤ x ≤ 1
 unit-in : (f : Format) (x : Float) (a c : ℕ) → 0 < c → Rounds f x a c → a ≤ c → T (within nought unity x)
 unit-in f x a c C r h = and-i (le nought x) (le x unity) (ge0→le x (r .sign)) (mono f x unity a c 1 1 r (one-rounds f) C (lit< tt) (plain a c h))
   where
     plain : (a c : ℕ) → a ≤ c → a * 1 ≤ 1 * c
     plain a c h = omega arith
 
--- x is a / c, and the floor is w / v, the whole number n: what is left, over c * v
+-- x is a / c, and its floor is w / v, the whole number n: the sign and the size of the difference, over c * v
 module _ (a c n w v : ℕ) (e : w * 1 ≡ n * v) where
   floor-under : n * c ≤ a → w * c ≤ a * v
   floor-under h = go a c n w v e (nat.mul-le-mul-right v h)

@@ -1,5 +1,5 @@
--- `floorOf` is what its name says: of a finite x, the greatest whole number that is not above x, with x's sign (`IsFloor`), and there is one such value only.
--- What has no fraction is its own floor. Over the format. Assumes nothing.
+-- `floorOf` is the floor: of a finite x, the greatest whole number not above x, with the sign of x (`IsFloor`), and the
+-- only such float. A number without a fraction is its own floor. For either format. Assumes nothing.
 use mathlib.Core.Path.{_≡_, refl, sym, ap, _∙_, subst}
 use mathlib.Core.Bool.{Bool, true, false}
 use Prim.Native.Nat.{ℕ, suc, _+_, _-_, _*_, _/_, _%_, _^_, _≤_, _<_}
@@ -18,7 +18,7 @@ use Rattle.floats.proofs.Order.{Le2, le→Le, Le→le, zero-first}
 use Rattle.floats.proofs.Rounds.{self-value, fits-small}
 use Rattle.floats.proofs.Roof.{whole-le, whole-whole, whole-same, roof-le, le-roof}
 
--- ---- the floor has the whole part of x, exactly
+-- ---- the floor is exactly the whole part of x
 whole-over-one : (s : Bool) (a : ℕ) → wholeOf s a 1 ≡ a
 whole-over-one s a = ap (λ (z : ℕ). wholeOf s z 1) (sym (nat.mul-one a)) ∙ whole-whole s a 1 (nat.zero-lt-suc 0)
 
@@ -30,7 +30,7 @@ floor-value f s m (negsuc k) h =
     (nat.le-trans (whole-le s (m * 1) (2 ^ suc k) (pow-pos (suc k))) (nat.le-trans (nat.le-of-eq (nat.mul-one m)) (nat.le-of-lt (fits-small f s m (negsuc k) h))))
 
 -- ---- whole numbers among the floats
--- r is the whole number n with the sign s
+-- r is ±n, n a whole number: r is whole and has that sign; and a whole float is such an r
 value-whole : (r : Float) (s : Bool) (n : ℕ) → HasValue r s n 1 → Whole r
 value-whole nan s n h = h
 value-whole (inf t) s n h = h
@@ -48,7 +48,7 @@ whole-has s m e h = (refl, nat.mul-one (m * up e) ∙ sym (exact (m * up e) (dow
     exact a c h = sym (nat.add-zero (a / c * c)) ∙ ap (λ (z : ℕ). a / c * c + z) (sym h) ∙ nat.div-add-mod' a c
 
 -- ---- the order of ±n, a whole number, and ±a / c
--- s and t are the signs; a ≤ n * c and n * c ≤ a as the signs ask
+-- the whole part is at most ±a / c, and every whole ±q that is at most ±a / c is at most the whole part
 floor-below : (s : Bool) (a c : ℕ) → 0 < c → Le2 s (wholeOf s a c * c) s a
 floor-below false a c C = nat.div-mul-le-self a c
 floor-below true a c C = le-roof a c C
@@ -63,7 +63,7 @@ floor-greatest true false q a c C h = tt
 floor-greatest true true q a c C h = roof-le a c q C h
 
 -- ---- `le` of two values by any fractions that they equal
--- x / u is a / c and y / v is b / d: the order of the one pair is that of the other
+-- x / u is a / c and y / v is b / d: x / u ≤ y / v where a / c ≤ b / d
 le-same : (x u y v a b c d : ℕ) → 0 < c → 0 < d → x * c ≡ a * u → y * d ≡ b * v → a * d ≤ b * c → x * v ≤ y * u
 le-same x u y v a b c d C D p q h = nat.le-of-mul-le-mul-right (cross x u y v a b c d p q (nat.mul-le-mul-right (u * v) h)) (nat.mul-pos C D)
   where
@@ -100,7 +100,7 @@ le→values (fin i m e) (fin j n k) s t a b c d C D p q h =
 one-pos : 0 < 1
 one-pos = nat.zero-lt-suc 0
 
--- every whole number y that is not above x is not above the floor of x
+-- every whole number y not above x is not above the floor of x
 none-above : (f : Format) (s : Bool) (m : ℕ) (e : ℤ) → T (fits f (fin s m e)) → (y : Float) → Whole y → T (le y (fin s m e)) → T (le y (floorOf f (fin s m e)))
 none-above f s m e w nan k g = absurd k
 none-above f s m e w (inf t) k g = absurd k
@@ -129,7 +129,7 @@ floor-fits f nan w = w
 floor-fits f (inf s) w = w
 floor-fits f (fin s m e) w = round-fits f s (wholeOf s (m * up e) (down e)) 1
 
--- what has no fraction is its own floor
+-- a number without a fraction is its own floor
 pub whole-is-floor : (f : Format) (x : Float) → T (fits f x) → Whole x → floorOf f x ≡ x
 whole-is-floor f nan w h = absurd h
 whole-is-floor f (inf s) w h = absurd h

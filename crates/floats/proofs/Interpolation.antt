@@ -1,5 +1,5 @@
--- a + (b - a) * t, each operation rounded, lies between any two values of the format that a and b lie between, for t in [0, 1], where b - a is exact:
--- it lies between a + 0 and a + (b - a), which are a and b rounded. Assumes nothing.
+-- a + (b - a) * t for t in [0, 1], each operation rounded, where b - a is exact, lies between any two values of the
+-- format that a and b lie between: it lies between a + 0 and a + (b - a), which are a and b rounded. Assumes nothing.
 use mathlib.Core.Path.{_≡_, refl, sym, ap, subst}
 use Prim.Native.Nat.{ℕ, _+_, _*_}
 use native.Mathlib.Nat.{mul-le-mul-right, le-of-mul-le-mul-right}
@@ -17,11 +17,11 @@ pub use Rattle.floats.proofs.Order.{between-finite}
 use Rattle.floats.proofs.Near.{plus, less, order, near-self, near-add, le→frac, add-order, products}
 use Rattle.floats.proofs.Scale.{scale-up-in, scale-down-in}
 
--- the fraction of d is that of b less that of a
+-- d is exactly b - a, as fractions
 abbrev pub Exact : Float → Float → Float → Type 0
 Exact d b a = plus d * (den b * den a) + (less b * den a + plus a * den b) * den d ≡ less d * (den b * den a) + (plus b * den a + less a * den b) * den d
 
--- ---- where d is exactly b - a, the sum a + d is b rounded: it has the bounds of the format that b has
+-- ---- d is exactly b - a: the sum a + d is b rounded, and has the bounds of the format that b has
 module _ (f : Format) (a d b w : Float) (fa : T (finite a)) (fd : T (finite d)) (fb : T (finite b)) (ww : T (fits f w)) (fw : T (finite w)) (x : Exact d b a) where
   sum-le : T (le b w) → T (le (add f a d) w)
   sum-le k =
@@ -48,7 +48,7 @@ lerp-in f a b t lo hi fa fb fd x nt t1 wl fl wh fh ha hb = go (le nought d) refl
     s : Float
     s = mul f d t
 
-    -- a + e has the bounds that z has, where e is exactly z - a: a + 0 those of a, and a + d those of b
+    -- e is exactly z - a: a + e has the bounds of z. So a + 0 has those of a, and a + d those of b
     sum-in : (e z : Float) → T (finite e) → T (finite z) → Exact e z a → T (within lo hi z) → T (within lo hi (add f a e))
     sum-in e z fe fz y h =
         and-i (le lo (add f a e)) (le (add f a e) hi)
@@ -61,7 +61,7 @@ lerp-in f a b t lo hi fa fb fd x nt t1 wl fl wh fh ha hb = go (le nought d) refl
     end : T (within lo hi (add f a d))
     end = sum-in d b fd fb x hb
 
-    -- and so has a + s, for an s between u and v where a + u and a + v have them
+    -- s lies between u and v, and a + u and a + v have the bounds: a + s has the bounds
     between : (u v : Float) → T (finite u) → T (finite v) → T (within lo hi (add f a u)) → T (within lo hi (add f a v)) → T (within u v s) → T (within lo hi (add f a s))
     between u v fu fv hu hv h =
         let l : T (le u s) = and-l (le u s) (le s v) h in
@@ -71,7 +71,7 @@ lerp-in f a b t lo hi fa fb fd x nt t1 wl fl wh fh ha hb = go (le nought d) refl
         (fle-trans lo (add f a u) (add f a s) (and-l (le lo (add f a u)) (le (add f a u) hi) hu) (add-order f a a u s fa fa fu fs (fle-refl a fa) l))
         (fle-trans (add f a s) (add f a v) hi (add-order f a a s v fa fa fs fv (fle-refl a fa) r) (and-r (le lo (add f a v)) (le (add f a v) hi) hv))
 
-    -- s lies between 0 and d, whichever is the greater
+    -- s lies between 0 and d, whichever is greater
     go : (c : Bool) → le nought d ≡ c → T (within lo hi (add f a s))
     go true c = between nought d tt fd start end (scale-up-in f d t (sub-fits f b a) fd nt t1 (subst T (sym c) tt))
     go false c =

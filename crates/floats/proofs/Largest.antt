@@ -1,5 +1,6 @@
--- The largest finite value of a format: a value of the format is finite exactly where it lies between that and its negation. So a finite result is one
--- that is bounded, and an operation is finite where it is at the worst of its arguments. Assumes nothing.
+-- The largest finite value of a format: a value of the format is finite exactly where it lies between `largest` and its
+-- negation. So a result is finite if it is bounded, and an operation is finite if it is finite at its extreme
+-- arguments. Assumes nothing.
 use mathlib.Core.Path.{_≡_, refl, sym}
 use Prim.Native.Nat.{ℕ, zero, suc, _+_, _-_, _*_, _^_, _≤_, _<_}
 use native.Mathlib.Nat as nat
@@ -20,29 +21,29 @@ use Rattle.floats.proofs.Signed.{neg-neg, neg-order, finite-neg}
 use Rattle.floats.proofs.Near.{add-order}
 use Rattle.floats.proofs.Ranges.{within-nonneg}
 
--- ---- what it is
--- the pattern of bits in binary32
+-- ---- what `largest` is
+-- its bits in binary32
 pub largest-bits32 : largest binary32 ≡ ofBits binary32 0x7f7fffff
 unfolding ofBits
 largest-bits32 = refl
 
--- and in binary64
+-- its bits in binary64
 pub largest-bits64 : largest binary64 ≡ ofBits binary64 0x7fefffffffffffff
 unfolding ofBits
 largest-bits64 = refl
 
--- the format holds it
+-- it is a value of the format
 pub largest-fits : (f : Format) → T (fits f (largest f))
 unfolding fits
 largest-fits binary32 = tt
 largest-fits binary64 = tt
 
--- ---- it bounds the finite values
+-- ---- `largest` bounds the finite values
 -- m * 2 ^ k for m below 2 ^ p, below 2 ^ (g + p): at most (2 ^ p - 1) * 2 ^ g
 at-most : (m k p g : ℕ) → m < 2 ^ p → m * 2 ^ k < 2 ^ (g + p) → m * 2 ^ k ≤ (2 ^ p - 1) * 2 ^ g
 at-most m k p g M h = go (leb k g) (leb→le k g) (nleb→lt k g)
   where
-    -- whether 2 ^ k is at most the step 2 ^ g of the largest values, or a multiple of it
+    -- 2 ^ k is at most the spacing 2 ^ g of the largest values, or a multiple of 2 ^ g
     go : (b : Bool) → (T b → k ≤ g) → (T (not b) → g < k) → m * 2 ^ k ≤ (2 ^ p - 1) * 2 ^ g
     go true l n = nat.mul-le-mul (omega arith) (pow-mono (l tt))
     go false l n =
@@ -50,7 +51,7 @@ at-most m k p g M h = go (leb k g) (leb→le k g) (nleb→lt k g)
         let s : m * 2 ^ (k - g) < 2 ^ p = nat.lt-of-mul-lt-mul-right (2 ^ g) (rw (← e, nat.mul-comm (2 ^ p) (2 ^ g), ← pow-add 2 g p) h) in
         rw e (nat.mul-le-mul-right (2 ^ g) (omega arith))
 
--- x of the format, finite: x ≤ largest
+-- x is a finite value of the format: x ≤ largest
 pub finite-at-most : (f : Format) (x : Float) → T (fits f x) → T (finite x) → T (le x (largest f))
 finite-at-most f nan w p = absurd p
 finite-at-most f (inf s) w p = absurd p
@@ -64,11 +65,11 @@ finite-at-most f (fin false (suc m) (negsuc k)) w p =
     let small : suc m ≤ 2 ^ prec f - 1 = omega (arith, fits-small f false (suc m) (negsuc k) w) in
     Le→le (fin false (suc m) (negsuc k)) (largest f) (nat.mul-le-mul (nat.mul-le-mul small (pow-pos (suc (emax f) - prec f))) (pow-pos (suc k)))
 
--- and -largest ≤ x
+-- x is a finite value of the format: -largest ≤ x
 pub finite-at-least : (f : Format) (x : Float) → T (fits f x) → T (finite x) → T (le (neg (largest f)) x)
 finite-at-least f x w p = rw (neg-neg x) at (neg-order (neg x) (largest f) (finite-at-most f (neg x) (neg-fits f x w) (finite-neg x p)))
 
--- x of the format is finite exactly where -largest ≤ x ≤ largest
+-- a value x of the format is finite exactly where -largest ≤ x ≤ largest
 pub finite-is-bounded : (f : Format) (x : Float) → T (fits f x) → finite x ≡ (le (neg (largest f)) x && le x (largest f))
 unfolding neg le
 finite-is-bounded f nan w = refl
@@ -76,14 +77,14 @@ finite-is-bounded f (inf true) w = refl
 finite-is-bounded f (inf false) w = refl
 finite-is-bounded f (fin s m e) w = sym (is-true _ (and-i (le (neg (largest f)) (fin s m e)) (le (fin s m e) (largest f)) (finite-at-least f (fin s m e) w tt) (finite-at-most f (fin s m e) w tt)))
 
--- ---- a sum with a value of [0, 1]
+-- ---- a sum with a value in [0, 1]
 -- 0 - largest and 1 + largest are finite
 ends-finite : (f : Format) → T (finite (add f nought (neg (largest f)))) × T (finite (add f unity (largest f)))
 unfolding add neg
 ends-finite binary32 = (tt, tt)
 ends-finite binary64 = (tt, tt)
 
--- so p + x, which lies between them, is finite for p in [0, 1] and any finite x of the format
+-- p + x lies between 0 - largest and 1 + largest for p in [0, 1] and any finite x of the format: p + x is finite
 pub add-finite-unit : (f : Format) (p x : Float) → T (fits f x) → T (finite x) → T (within nought unity p) → T (finite (add f p x))
 add-finite-unit f p x w q h =
     let fp : T (finite p) = nonneg→finite p (within-nonneg unity p tt h) in

@@ -1,4 +1,4 @@
--- The floor of a number above 0 and below 2, by comparisons: 0 below 1, and 1 from there on. Assumes nothing.
+-- The floor of a number above 0 and below 2 by comparisons: 0 below 1, else 1. Assumes nothing.
 use mathlib.Core.Path.{_≡_, refl, sym, ap, _∙_, subst}
 use mathlib.Core.Bool.{Bool, true, false, not, _&&_}
 use Prim.Native.Nat.{ℕ, _*_, _/_, _≤_, _<_}
@@ -54,7 +54,7 @@ module _ (x : Float) (t : (lt naught x && lt x two) ≡ true) where
   x-positive : T (positive x)
   x-positive = above-positive nought x tt x-finite above
 
-  -- below a number, by the fractions
+  -- x < y, as fractions
   under : (y : Float) → T (nonneg y) → T (lt x y) → num x * den y < num y * den x
   under y q l = nat.lt-of-not-le (λ (g : num y * den x ≤ num x * den y). lt-not-le x y l (cross→le y x q (positive-nonneg x x-positive) g))
 

@@ -1,5 +1,6 @@
--- Each operation grows with its arguments, or shrinks, on values that are finite and not negative (`nonneg`).
--- Sums and differences are instances of the laws for either sign; a product or a quotient is `mono` of `Rounds.antt` at an inequality of fractions. Assumes nothing.
+-- Each operation rises or falls with each argument, on values that are finite and not negative (`nonneg`). Sums and
+-- differences are instances of the laws for either sign; a product or a quotient is `mono` of `Rounds.antt` at an
+-- inequality of fractions. Assumes nothing.
 use native.Mathlib.Nat.{mul-le-mul}
 use native.Mathlib.Omega.{arith}
 use lib.Dec.{T}
@@ -16,7 +17,7 @@ module _ (f : Format) where
   pub add-mono : (x x' y y' : Float) → T (nonneg x) → T (nonneg x') → T (nonneg y) → T (nonneg y') → T (le x x') → T (le y y') → T (le (add f x y) (add f x' y'))
   add-mono x x' y y' p p' q q' h k = add-order f x x' y y' (nonneg→finite x p) (nonneg→finite x' p') (nonneg→finite y q) (nonneg→finite y' q') h k
 
-  -- x - y ≤ x' - y' for x ≤ x' and y' ≤ y (that y ≤ x besides is not needed)
+  -- x - y ≤ x' - y' for x ≤ x' and y' ≤ y (y ≤ x is asked too, and not needed)
   pub sub-mono : (x x' y y' : Float) → T (nonneg x) → T (nonneg x') → T (nonneg y) → T (nonneg y') → T (le x x') → T (le y' y) → T (le y x) → T (le (sub f x y) (sub f x' y'))
   sub-mono x x' y y' p p' q q' h k l = sub-order f x x' y y' (nonneg→finite x p) (nonneg→finite x' p') (nonneg→finite y q) (nonneg→finite y' q') h k
 

@@ -1,5 +1,6 @@
--- The laws for values of either sign. A finite x is the fraction (p - n) / d: `plus`, `less` and `den`, one of p and n being 0.
--- `Near f x p n c` says that x is (p - n) / c rounded to f. Each operation gives such an x, and their order is that of the fractions (`order`). Assumes nothing.
+-- The laws for values of either sign. A finite x is the fraction (p - n) / d, where p is `plus x`, n is `less x`, d is
+-- `den x`, and p or n is 0. `Near f x p n c` says that x is (p - n) / c rounded to f. Every operation gives such an x,
+-- and such x have the order of their fractions (`order`). Assumes nothing.
 use mathlib.Core.Path.{_≡_, refl, sym, ap}
 use Prim.Native.Nat.{ℕ, _+_, _-_, _*_, _≤_, _<_}
 use native.Mathlib.Nat.{le-of-lt, mul-pos, mul-le-mul, mul-le-mul-right, zero-mul, add-mul, mul-add, mul-assoc, mul-comm, mul-left-comm}
@@ -19,19 +20,19 @@ use Rattle.floats.proofs.Operations.{dens-pos, quot-pos, add-is, mul-is
 use Rattle.floats.proofs.Signed.{neg-neg, finite-neg, neg-round, neg-zero, below-zero, sum-down}
 pub use Rattle.floats.proofs.Signed.{neg-order}
 
--- the numerator of x where x has no minus sign, and else 0
+-- the numerator of x where x has no minus sign, else 0
 abbrev pub plus : Float → ℕ
 plus nan = 0
 plus (inf s) = 0
 plus (fin s m e) = cond s 0 (m * up e)
 
--- the numerator of -x where x has a minus sign, and else 0
+-- the numerator of -x where x has a minus sign, else 0
 abbrev pub less : Float → ℕ
 less nan = 0
 less (inf s) = 0
 less (fin s m e) = cond s (m * up e) 0
 
--- x is (p - n) / c rounded where that is not negative, and -x is (n - p) / c rounded where that is not
+-- x is (p - n) / c rounded where n ≤ p, and -x is (n - p) / c rounded where p ≤ n
 pub record Near (f : Format) (x : Float) (p n c : ℕ) : Type 0 where
   pub above : n ≤ p → Rounds f x (p - n) c
   pub under : p ≤ n → Rounds f (neg x) (n - p) c
@@ -41,12 +42,12 @@ pub record Near (f : Format) (x : Float) (p n c : ℕ) : Type 0 where
 pub le-neg : (x y : Float) → T (le (neg x) (neg y)) → T (le y x)
 le-neg x y h = rw (neg-neg x, neg-neg y) at (neg-order (neg x) (neg y) h)
 
--- x is (p - n) / c rounded, y is (p' - n') / c' rounded, and the one fraction is at most the other: x ≤ y.
--- A call may leave the values and the fractions as `_`: the two `Near` show them
+-- x is (p - n) / c rounded, y is (p' - n') / c' rounded, and the first fraction is at most the second: x ≤ y.
+-- A caller may write `_` for the values and the fractions: the two `Near` determine them
 pub order : (f : Format) (x y : Float) (p n c p' n' c' : ℕ) → Near f x p n c → Near f y p' n' c' → 0 < c → 0 < c' → p * c' + n' * c ≤ p' * c + n * c' → T (le x y)
 order f x y p n c p' n' c' r r' C C' h = go (leb n p) (leb→le n p) (nleb→lt n p) (leb n' p') (leb→le n' p') (nleb→lt n' p')
   where
-    -- by the signs of the two fractions, k and k' being their sizes
+    -- by the signs of the two fractions; k and k' are the sizes of their numerators
     both : (k k' : ℕ) → k + n ≡ p → k' + n' ≡ p' → k * c' ≤ k' * c
     both k k' e e' = omega (arith, ap (λ (z : ℕ). z * c') e, ap (λ (z : ℕ). z * c) e')
 
@@ -82,7 +83,7 @@ near-round f true k c p n C e =
 pub near-neg : (f : Format) (x : Float) (p n c : ℕ) → Near f x p n c → Near f (neg x) n p c
 near-neg f x p n c r = record { above = λ h. r .under h; under = λ h. rw (neg-neg x) (r .above h) }
 
--- a value of the format without its sign
+-- a value of the format without a minus sign is its own fraction, rounded
 self-up : (f : Format) (m : ℕ) (e : ℤ) → T (fits f (fin false m e)) → Near f (fin false m e) (m * up e) 0 (down e)
 self-up f m e w =
     let k = m * up e in
@@ -92,7 +93,7 @@ self-up f m e w =
       under = λ h. let z : 0 - k ≡ 0 = omega arith in let o : k ≡ 0 = omega arith in rw z (neg-zero f (fin false m e) (down e) (down-pos e) (rw o at r));
     }
 
--- x of the format, finite, is its own fraction rounded
+-- a finite value x of the format is its own fraction, rounded
 pub near-self : (f : Format) (x : Float) → T (fits f x) → T (finite x) → Near f x (plus x) (less x) (den x)
 unfolding neg
 near-self f nan w h = absurd h
@@ -101,14 +102,14 @@ near-self f (fin false m e) w h = self-up f m e w
 near-self f (fin true m e) w h = near-neg f (fin false m e) (m * up e) 0 (down e) (self-up f m e (neg-fits f (fin true m e) w))
 
 -- ---- the operations on finite values
--- the parts of x are its numerator, by its sign
+-- `plus x` and `less x` from the sign and the numerator of x
 parts-are : (x : Float) → (plus x ≡ cond (signed x) 0 (num x)) × (less x ≡ cond (signed x) (num x) 0)
 parts-are nan = (refl, refl)
 parts-are (inf true) = (refl, refl)
 parts-are (inf false) = (refl, refl)
 parts-are (fin s m e) = (refl, refl)
 
--- the same over any denominator k
+-- `plus x * k` and `less x * k` from the sign and the numerator of x, for any k
 over : (x : Float) (k : ℕ) → (cond (signed x) 0 (num x * k) ≡ plus x * k) × (cond (signed x) (num x * k) 0 ≡ less x * k)
 over x k = rw (parts-are x .0, parts-are x .1) (signs (signed x) (num x))
   where
@@ -116,7 +117,7 @@ over x k = rw (parts-are x .0, parts-are x .1) (signs (signed x) (num x))
     signs true a = (sym (zero-mul k), refl)
     signs false a = (refl, sym (zero-mul k))
 
--- the parts of a product
+-- `plus` and `less` of a product
 times : (x y : Float)
     → cond (unlike (signed x) (signed y)) 0 (num x * num y) + (plus x * less y + less x * plus y) ≡ plus x * plus y + less x * less y + cond (unlike (signed x) (signed y)) (num x * num y) 0
 times x y = rw (parts-are x .0, parts-are x .1, parts-are y .0, parts-are y .1) (signs (signed x) (signed y) (num x) (num y))
@@ -141,7 +142,7 @@ near-add f x y p q =
     rw (add-is f x y p q)
     (near-sum f (signed x) (num x * den y) (signed y) (num y * den x) (den x * den y) _ _ (dens-pos x y) (cc (i .0, j .0)) (cc (i .1, j .1)))
 
--- -y has the parts of y exchanged
+-- negation exchanges `plus` and `less`
 pub neg-parts : (y : Float) → (plus (neg y) ≡ less y) × (less (neg y) ≡ plus y) × (den (neg y) ≡ den y)
 unfolding neg
 neg-parts nan = (refl, refl, refl)
@@ -166,11 +167,11 @@ near-div f x y p q =
     let i = over x (den y) in
     rw (div-is f x y p q) (near-round f (signed x) (num x * den y) (num y * den x) _ _ (quot-pos x y q) (cc (i .0, i .1)))
 
--- ---- each operation keeps the order, at any signs
--- what writes out a sum of products, the factors of each in one order, so that `omega` sees which are the same
+-- ---- each operation keeps the order, whatever the signs
+-- these write out a sum of products and sort the factors of each, so that `omega` sees equal products as equal
 pub ruleset products = (add-mul, mul-add, mul-assoc, mul-comm, mul-left-comm)
 
--- x ≤ y, both finite, as one of fractions
+-- x ≤ y, both finite: the fractions of x and y are in that order
 pub le→frac : (x y : Float) → T (finite x) → T (finite y) → T (le x y) → plus x * den y + less y * den x ≤ plus y * den x + less x * den y
 le→frac nan y p q h = absurd p
 le→frac (inf s) y p q h = absurd p

@@ -1,4 +1,5 @@
--- A number is written in one way: two values of a format with one sign and one size are the same float. So x * 1 is x, to the bit. Over the format. Assumes nothing.
+-- A number is written in one way: two values of a format with one sign and one size are the same float. So x * 1 is x,
+-- to the bit. For either format. Assumes nothing.
 use mathlib.Core.Path.{_≡_, refl, sym, ap, _∙_}
 use mathlib.Core.Bool.{Bool, true, false, _&&_}
 use Prim.Native.Nat.{ℕ, zero, suc, _+_, _-_, _*_, _%_, _^_, _<_}
@@ -20,7 +21,7 @@ use Rattle.floats.proofs.Held.{ups, downs, up-is, down-is, self-value}
 odd-even : (m t : ℕ) → m % 2 ≡ 1 → m ≡ 2 * t → ⊥
 odd-even m t o h = omega arith
 
--- m * 2 ^ a is n * 2 ^ b with m and n odd: they are the same
+-- m * 2 ^ a is n * 2 ^ b with m and n odd: m is n, and a is b
 odd-pow : (m n a b : ℕ) → m % 2 ≡ 1 → n % 2 ≡ 1 → m * 2 ^ a ≡ n * 2 ^ b → (m ≡ n) × (a ≡ b)
 odd-pow m n zero zero o p h = (sym (nat.mul-one m) ∙ h ∙ nat.mul-one n, refl)
 odd-pow m n zero (suc b) o p h = absurd (odd-even m (n * 2 ^ b) o (sym (nat.mul-one m) ∙ h ∙ ap (λ (x : ℕ). n * x) (nat.pow-succ' 2 b) ∙ nat.mul-left-comm n 2 (2 ^ b)))
@@ -35,7 +36,7 @@ odd-pow m n (suc a) (suc b) o p h =
     halve : (x y : ℕ) → 2 * x ≡ 2 * y → x ≡ y
     halve x y h = omega arith
 
--- 2 ^ e is one e's
+-- 2 ^ e is 2 ^ g: e is g
 exponent-one : (e g : ℤ) → ups e + downs g ≡ ups g + downs e → e ≡ g
 exponent-one (pos a) (pos b) h = ap pos (omega arith)
 exponent-one (pos a) (negsuc b) h = absurd (none a b h)
@@ -51,7 +52,7 @@ exponent-one (negsuc a) (negsuc b) h = ap negsuc (same a b h)
     same : (a b : ℕ) → 0 + suc b ≡ 0 + suc a → a ≡ b
     same a b h = omega arith
 
--- ---- of a value that fits m is odd, or it is 0 with the exponent 0
+-- ---- in a value that fits, m is odd, or m and the exponent are 0
 fits-odd : (f : Format) (s : Bool) (m : ℕ) (e : ℤ) → T (fits f (fin s (suc m) e)) → suc m % 2 ≡ 1
 unfolding fits
 fits-odd f s m e h =
@@ -74,18 +75,18 @@ fits-zero f s e h = flat e (eqb→eq (up e * down e) 1 h)
     flat (negsuc k) h = absurd (two-up (2 ^ k) (sym (nat.pow-succ' 2 k) ∙ sym (nat.one-mul (2 ^ suc k)) ∙ h))
 
 -- ---- equal values
--- the same fraction twice, without it
+-- x / u and y / v are both a / c: x / u is y / v
 cross : (x u y v a c : ℕ) → 0 < c → x * c ≡ a * u → y * c ≡ a * v → x * v ≡ y * u
 cross x u y v a c C p q = nat.eq-of-mul-eq-mul-right c C (x * v) (y * u) (turn x u y v a c p q)
   where
     turn : (x u y v a c : ℕ) → x * c ≡ a * u → y * c ≡ a * v → x * v * c ≡ y * u * c
     turn x u y v a c p q = omega (arith, ap (λ (z : ℕ). z * v) p, ap (λ (z : ℕ). z * u) q)
 
--- a positive product is not 0
+-- 0 is not a positive product
 some : (n x y u v : ℕ) → 0 < u → 0 < v → 0 * x * y ≡ suc n * u * v → ⊥
 some n x y u v U Y h = nat.lt-irrefl 0 (rw (← h, nat.zero-mul x, nat.zero-mul y) at (nat.mul-pos (nat.mul-pos (nat.zero-lt-suc n) U) Y))
 
--- ±a / c is one float of the format
+-- two values of the format that are ±a / c are the same float
 pub value-is-one : (f : Format) (x y : Float) (s : Bool) (a c : ℕ) → 0 < c → T (fits f x) → T (fits f y) → HasValue x s a c → HasValue y s a c → x ≡ y
 value-is-one f nan y s a c C p q v w = absurd v
 value-is-one f (inf t) y s a c C p q v w = absurd v
@@ -107,7 +108,7 @@ value-is-one f (fin t m e) (fin u n g) s a c C p q v w = go m n p q (cross (m * 
         let r = odd-pow (suc m) (suc n) (ups e + downs g) (ups g + downs e) (fits-odd f t m e p) (fits-odd f u n g q) (powers (suc m) (suc n) h) in
         rw (sign, r .0, exponent-one e g (r .1)) refl
 
--- x of the format is its own fraction, rounded
+-- a finite value x of the format is its own fraction, rounded
 pub self-is : (f : Format) (x : Float) → T (fits f x) → T (finite x) → round f (signed x) (num x) (den x) ≡ x
 self-is f nan w p = absurd p
 self-is f (inf s) w p = absurd p

@@ -1,5 +1,5 @@
--- Each operation on finite values, as the fraction that it rounds. A finite x is ±num x / den x, with a minus where `signed x` is true, and every
--- later law reads an operation here. Assumes nothing.
+-- Each operation on finite values as the fraction that it rounds. A finite x is ±num x / den x, with a minus where
+-- `signed x` is true. Every later law reads the operations here. Assumes nothing.
 use mathlib.Core.Path.{_≡_, refl}
 use Prim.Native.Nat.{ℕ, _*_, _%_, _<_}
 use native.Mathlib.Nat.{mul-pos}
@@ -17,11 +17,11 @@ use Rattle.floats.proofs.Order.{signed, positive-num}
 pub dens-pos : (x y : Float) → 0 < den x * den y
 dens-pos x y = mul-pos (den-pos x) (den-pos y)
 
--- and so is that of a quotient by a positive y
+-- the denominator of a quotient by a positive y is positive
 pub quot-pos : (x y : Float) → T (positive y) → 0 < num y * den x
 quot-pos x y q = mul-pos (positive-num y q) (den-pos x)
 
--- n is positive: the test n = 0 that `div` and `rem` make fails
+-- n is positive: the test n = 0 in `div` and `rem` fails
 pub not-zero : (n : ℕ) → T (ltb 0 n) → eqb n 0 ≡ false
 not-zero n h = is-false (eqb n 0) (not-T (eqb n 0) (λ (t : T (eqb n 0)). omega (arith, eqb→eq n 0 t, ltb→lt 0 n h)))
 

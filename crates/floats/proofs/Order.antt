@@ -1,5 +1,6 @@
--- `le` and `lt` as orders of numbers. `Le x y` is `T (le x y)` as a type that computes to an inequality of natural numbers, and each law is one of those:
--- `le` is reflexive, transitive and total on the finite values, and on those that are not negative it is the order of the fractions num / den. Assumes nothing.
+-- `le` and `lt` as orders of numbers. `Le x y` is the test `T (le x y)` as a type that computes to an inequality of
+-- natural numbers, and each law is proved on that inequality: `le` is reflexive, transitive and total on the finite
+-- values, and on values that are not negative it is the order of the fractions num / den. Assumes nothing.
 use mathlib.Core.Path.{_≡_, sym, _∙_}
 use mathlib.Core.Logic.{_⊎_, inl, inr}
 use Prim.Native.Nat.{ℕ, _+_, _*_, _≤_, _<_}
@@ -15,7 +16,7 @@ use lib.Ieee.Scale.{finite}
 use lib.Ieee.Positive.{num, den, positive, through}
 use Rattle.floats.specs.Range.{nought, ge0, nonneg}
 
--- ---- a test that is one of two
+-- ---- one of two tests passes
 or-split : (a b : Bool) → T (a || b) → T a ⊎ T b
 or-split true b t = inl tt
 or-split false b t = inr t
@@ -28,21 +29,21 @@ or-r : (a b : Bool) → T b → T (a || b)
 or-r true b t = tt
 or-r false b t = t
 
--- ---- ±a ≤ ±b, a minus where the Boolean is true: -a ≤ b always, and a ≤ -b only at two zeros
+-- ---- ±a ≤ ±b, a minus where the Boolean is true: -a ≤ b always, and a ≤ -b only where a and b are 0
 abbrev pub Le2 : Bool → ℕ → Bool → ℕ → Type 0
 Le2 false a false b = a ≤ b
 Le2 false a true b = (a ≡ 0) × (b ≡ 0)
 Le2 true a false b = Unit
 Le2 true a true b = b ≤ a
 
--- a + b is positive, or both are zero
+-- a + b is positive, or a and b are 0
 some : (a b : ℕ) → 0 < a + b ⊎ ((a ≡ 0) × (b ≡ 0))
 some a b = elim (eq-zero-or-pos (a + b)) [ inl z ↦ inr (omega arith) | inr p ↦ inl p ]
 
 same : (a b : ℕ) → T (eqb a b && true) → a ≡ b
 same a b t = eqb→eq a b (and-l (eqb a b) true t)
 
--- the test of `le` on ±a and ±b says that ±a ≤ ±b
+-- the test of `le` on ±a and ±b passes: ±a ≤ ±b
 from-test : (s : Bool) (a : ℕ) (t : Bool) (b : ℕ) → T (below s a t b || level s a t b) → Le2 s a t b
 from-test false a false b h = elim (or-split (ltb a b) (eqb a b && true) h) [ inl u ↦ le-of-lt (ltb→lt a b u) | inr u ↦ le-of-eq (same a b u) ]
 from-test false a true b h =
@@ -51,7 +52,7 @@ from-test false a true b h =
 from-test true a false b h = tt
 from-test true a true b h = elim (or-split (ltb b a) (eqb a b && true) h) [ inl u ↦ le-of-lt (ltb→lt b a u) | inr u ↦ le-of-eq (sym (same a b u)) ]
 
--- and back
+-- ±a ≤ ±b: the test of `le` on ±a and ±b passes
 to-test : (s : Bool) (a : ℕ) (t : Bool) (b : ℕ) → Le2 s a t b → T (below s a t b || level s a t b)
 to-test false a false b h =
     elim (eq-or-lt-of-le h) [
@@ -98,28 +99,28 @@ le↔Le (fin s m e) (inf true) = alike
 le↔Le (fin s m e) (inf false) = alike
 le↔Le (fin s m e) (fin t n d) = (from-test s (m * up e * down d) t (n * up d * down e), to-test s (m * up e * down d) t (n * up d * down e))
 
--- the test x ≤ y, passed, as the inequality of naturals
+-- the test x ≤ y passes: the inequality of natural numbers holds
 pub le→Le : (x y : Float) → T (le x y) → Le x y
 le→Le x y = le↔Le x y .0
 
--- and back
+-- the inequality of natural numbers holds: the test x ≤ y passes
 pub Le→le : (x y : Float) → Le x y → T (le x y)
 Le→le x y = le↔Le x y .1
 
 -- ---- transitive
--- a * u is zero and u is not: a is zero
+-- a * u is 0 and u is not: a is 0
 pub zero-first : (a u : ℕ) → 0 < u → a * u ≡ 0 → a ≡ 0
 zero-first a u U h = elim (eq-zero-or-pos a) [ inl z ↦ z | inr p ↦ omega (arith, mul-pos p U) ]
 
--- a is zero: a * u is zero
+-- a is 0: a * u is 0
 pub times-zero : (a u : ℕ) → a ≡ 0 → a * u ≡ 0
 times-zero a u z = rw z (zero-mul u)
 
--- a / v ≤ b / u with b zero: a is zero
+-- a / v ≤ b / u, and b is 0: a is 0
 zero-le-zero : (a b u v : ℕ) → 0 < u → a * u ≤ b * v → b ≡ 0 → a ≡ 0
 zero-le-zero a b u v U h z = zero-first a u U (omega (arith, times-zero b v z))
 
--- ±x / p ≤ ±y / q ≤ ±z / r, with the signs s, t and u
+-- ±x / p ≤ ±y / q and ±y / q ≤ ±z / r, with the signs s, t and u: ±x / p ≤ ±z / r
 Le2-trans : (s t u : Bool) (x y z p q r : ℕ) → 0 < p → 0 < q → 0 < r → Le2 s (x * q) t (y * p) → Le2 t (y * r) u (z * q) → Le2 s (x * r) u (z * p)
 Le2-trans false false false x y z p q r P Q R h k = through x y z p q r Q h k
 Le2-trans false false true x y z p q r P Q R h k =
@@ -179,7 +180,7 @@ ge0-refl (inf true) h = absurd h
 ge0-refl (inf false) h = Le→le (inf false) (inf false) tt
 ge0-refl (fin s m e) h = fle-refl (fin s m e) tt
 
--- ---- total, and what a test that failed says
+-- ---- total: what follows from a test that fails
 -- not ±a < ±b: ±b ≤ ±a
 not-below : (s : Bool) (a : ℕ) (t : Bool) (b : ℕ) → T (not (below s a t b)) → Le2 t b s a
 not-below false a false b h = nltb→le a b h
@@ -214,7 +215,7 @@ lt-not-le (fin s m e) (inf true) h k = h
 lt-not-le (fin s m e) (inf false) h k = le→Le (inf false) (fin s m e) k
 lt-not-le (fin s m e) (fin t n d) h k = below-not s (m * up e * down d) t (n * up d * down e) h (le→Le (fin t n d) (fin s m e) k)
 
--- not x < y, neither a NaN: y ≤ x, infinities too
+-- not x < y, and neither is a NaN: y ≤ x, infinities included
 pub not-lt-le-any : (x y : Float) → T (not (isNan x)) → T (not (isNan y)) → T (not (lt x y)) → T (le y x)
 unfolding lt isNan
 not-lt-le-any nan y p q h = absurd p
@@ -228,7 +229,7 @@ not-lt-le-any (fin s m e) (inf true) p q h = Le→le (inf true) (fin s m e) tt
 not-lt-le-any (fin s m e) (inf false) p q h = absurd h
 not-lt-le-any (fin s m e) (fin t n d) p q h = Le→le (fin t n d) (fin s m e) (not-below s (m * up e * down d) t (n * up d * down e) h)
 
--- x is finite: it is no NaN
+-- x is finite: x is no NaN
 pub finite-not-nan : (x : Float) → T (finite x) → T (not (isNan x))
 unfolding isNan
 finite-not-nan nan h = h
@@ -248,15 +249,15 @@ pub not-le-le : (x y : Float) → T (finite x) → T (finite y) → T (not (le x
 unfolding le
 not-le-le x y p q h = not-lt-le x y p q (not-or (lt x y) (eq x y) h)
 
--- ---- not negative: `ge0`, and `nonneg` where x is finite besides
--- `ge0` is the test 0 ≤ x
+-- ---- not negative: `ge0`, and `nonneg` where x is also finite
+-- `ge0 x`: 0 ≤ x
 pub ge0→le : (x : Float) → T (ge0 x) → T (le nought x)
 ge0→le nan h = absurd h
 ge0→le (inf s) h = Le→le nought (inf s) h
 ge0→le (fin true n d) h = Le→le nought (fin true n d) (zero-mul (down d), times-zero (n * up d) 1 (times-zero n (up d) (eqb→eq n 0 h)))
 ge0→le (fin false n d) h = Le→le nought (fin false n d) (omega (arith, zero-mul (down d)))
 
--- and back
+-- 0 ≤ x: `ge0 x`
 pub le→ge0 : (x : Float) → T (le nought x) → T (ge0 x)
 le→ge0 nan h = absurd (le→Le nought nan h)
 le→ge0 (inf s) h = le→Le nought (inf s) h
@@ -270,7 +271,7 @@ nonneg→ge0 (inf s) h = absurd h
 nonneg→ge0 (fin true m e) h = h
 nonneg→ge0 (fin false m e) h = h
 
--- and finite
+-- x is finite and not negative: x is finite
 pub nonneg→finite : (x : Float) → T (nonneg x) → T (finite x)
 nonneg→finite nan h = h
 nonneg→finite (inf s) h = h
@@ -297,25 +298,25 @@ between-finite (fin t n d) (inf false) (inf u) p q h k = absurd q
 between-finite (fin t n d) (inf false) (fin u l c) p q h k = absurd (le→Le (inf false) (fin u l c) k)
 between-finite lo (fin s m e) hi p q h k = tt
 
--- ---- the order of two values that are finite and not negative is that of their fractions
+-- ---- values that are finite and not negative have the order of their fractions
 -- whether x is written with a minus sign
 abbrev pub signed : Float → Bool
 signed nan = false
 signed (inf s) = s
 signed (fin s m e) = s
 
--- a minus sign before a value that is not negative stands before a zero
+-- x is not negative and has a minus sign: x is -0, so its numerator is 0
 pub signed-zero : (x : Float) → T (nonneg x) → T (signed x) → num x ≡ 0
 signed-zero nan p h = absurd p
 signed-zero (inf s) p h = absurd p
 signed-zero (fin true m e) p h = times-zero m (up e) (eqb→eq m 0 p)
 signed-zero (fin false m e) p h = absurd h
 
--- the same over any denominator k
+-- x is not negative and has a minus sign: num x * k is 0 for any k
 pub signed-zero-over : (x : Float) (k : ℕ) → T (nonneg x) → T (signed x) → num x * k ≡ 0
 signed-zero-over x k p h = times-zero (num x) k (signed-zero x p h)
 
--- ±a ≤ ±b with a minus only at a zero is a ≤ b
+-- only a 0 has a minus sign: ±a ≤ ±b exactly where a ≤ b
 unsigned : (s t : Bool) (a b : ℕ) → (T s → a ≡ 0) → (T t → b ≡ 0) → (Le2 s a t b → a ≤ b) × (a ≤ b → Le2 s a t b)
 unsigned false false a b p q = alike
 unsigned false true a b p q = (λ h. omega arith, λ h. omega (arith, q tt))
@@ -333,23 +334,23 @@ le↔cross (fin s m e) (fin t n d) p q =
     let r = unsigned s t (m * up e * down d) (n * up d * down e) (signed-zero-over x (down d) p) (signed-zero-over y (down e) q) in
     (λ h. r .0 (le→Le x y h), λ h. Le→le x y (r .1 h))
 
--- x ≤ y: their fractions, multiplied crosswise
+-- x ≤ y: the fractions of x and y are in that order, by cross products
 pub le→cross : (x y : Float) → T (nonneg x) → T (nonneg y) → T (le x y) → num x * den y ≤ num y * den x
 le→cross x y p q = le↔cross x y p q .0
 
--- and back
+-- the fractions of x and y are in order, by cross products: x ≤ y
 pub cross→le : (x y : Float) → T (nonneg x) → T (nonneg y) → num x * den y ≤ num y * den x → T (le x y)
 cross→le x y p q = le↔cross x y p q .1
 
 -- ---- positive
--- x is positive: it is finite and not negative
+-- x is positive: x is finite and not negative
 pub positive-nonneg : (x : Float) → T (positive x) → T (nonneg x)
 positive-nonneg nan h = h
 positive-nonneg (inf s) h = h
 positive-nonneg (fin true m e) h = absurd h
 positive-nonneg (fin false m e) h = tt
 
--- and its numerator is
+-- x is positive: its numerator is positive
 pub positive-num : (x : Float) → T (positive x) → 0 < num x
 positive-num nan p = absurd p
 positive-num (inf s) p = absurd p
@@ -366,7 +367,7 @@ not-positive-le (fin false n d) q h = Le→le (fin false n d) nought (omega (ari
     none : (n : ℕ) → n ≤ 0 → n ≡ 0
     none n h = omega arith
 
--- a test that cannot fail
+-- a test whose failure is absurd passes
 pub by-contra : (b : Bool) → (T (not b) → ⊥) → T b
 by-contra true h = tt
 by-contra false h = absurd (h tt)
@@ -375,7 +376,7 @@ by-contra false h = absurd (h tt)
 pub above-positive : (x y : Float) → T (nonneg x) → T (finite y) → T (lt x y) → T (positive y)
 above-positive x y p q h = by-contra (positive y) (λ (n : T (not (positive y))). lt-not-le x y h (fle-trans y nought x (not-positive-le y q n) (ge0→le x (nonneg→ge0 x p))))
 
--- ---- one strict step among others
+-- ---- x < y ≤ z, or x ≤ y < z: x < z
 pub lt-le-lt : (x y z : Float) → T (finite x) → T (finite z) → T (lt x y) → T (le y z) → T (lt x z)
 lt-le-lt x y z p q h k = by-contra (lt x z) (λ (n : T (not (lt x z))). lt-not-le x y h (fle-trans y z x k (not-lt-le x z p q n)))
 

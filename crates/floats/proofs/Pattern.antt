@@ -1,5 +1,5 @@
--- What number a bit pattern stands for, in units of the format's smallest value 2 ^ -low: by the exponent's field and the digits below it.
--- Over the format, so that both widths of `floor` read it. Assumes nothing.
+-- The number of a bit pattern, in units of the format's smallest value 2 ^ -low, from the exponent field and the digits
+-- below it. For either format, so that both widths of `floor` use it. Assumes nothing.
 use mathlib.Core.Path.{_≡_, sym, ap, _∙_, subst}
 use mathlib.Core.Bool.{Bool, true, false, cond}
 use Prim.Native.Nat.{ℕ, zero, suc, _+_, _-_, _*_, _/_, _%_, _^_, _≤_, _<_}
@@ -13,7 +13,7 @@ use lib.Ieee.Bits.{ofBits-toBits}
 use lib.Ieee.Exact.{HasValue, odd-sign}
 use lib.Ieee.Scale.{finite}
 
--- the number of a pattern with the sign clear, by its exponent's field and its digits: a field of 0 has no leading digit
+-- the number of a pattern with a clear sign bit, from its exponent field and digits; a field of 0 has no leading digit
 abbrev pub fieldsOf : Format → ℕ → ℕ → ℕ
 fieldsOf f zero t = t
 fieldsOf f (suc x) t = (hid f + t) * 2 ^ x
@@ -21,7 +21,7 @@ fieldsOf f (suc x) t = (hid f + t) * 2 ^ x
 abbrev pub unitsOf : Format → ℕ → ℕ
 unitsOf f a = fieldsOf f (a / hid f) (a % hid f)
 
--- whether the sign is set, and the pattern without it
+-- whether the sign bit is set, and the pattern without the sign bit
 abbrev pub negative : Format → ℕ → Bool
 negative f b = leb (top f) b
 
@@ -39,7 +39,7 @@ fields-value f s (suc x) t h = go (eqb (suc x) (ones f)) (eqb t 0) h
     go true false h = absurd h
     go false z h = odd-sign (prec f) s (hid f + t) x (low f)
 
--- the sign is a multiple of the digits' weight
+-- the sign bit is a multiple of the digits' weight: clearing it keeps the digits
 digits-below : (f : Format) (b : ℕ) → b % hid f ≡ b % top f % hid f
 digits-below f b = sym (nat.mod-mod-of-dvd (hid f) b (nat.dvd-mul-right (hid f) (suc (ones f))))
 
@@ -56,8 +56,8 @@ value f x w h =
     subst (λ (y : Float). HasValue y (negative f (toBits f x)) (unitsOf f (sizeBits f x)) (2 ^ low f)) e
     (bits-value f (toBits f x) (subst (λ (y : Float). T (finite y)) (sym e) h))
 
--- ---- the exponent's field
--- of an infinity all its digits are ones, and of a finite value they are not
+-- ---- the exponent field
+-- the exponent field of a finite value is not all ones
 pub field-lt : (f : Format) (x : Float) → T (fits f x) → T (finite x) → sizeBits f x / hid f < ones f
 unfolding ofFields ofBits
 field-lt f x w h = below (sizeBits f x / hid f) (ones f) (within f (toBits f x)) (λ (p : sizeBits f x / hid f ≡ ones f). at-ones (negative f (toBits f x)) (sizeBits f x / hid f) (toBits f x % hid f) p (subst (λ (y : Float). T (finite y)) (sym (ofBits-toBits f x w)) h))
@@ -79,8 +79,8 @@ field-lt f x w h = below (sizeBits f x / hid f) (ones f) (within f (toBits f x))
         all-ones Format.binary32 s t h = ends s (eqb t 0) h
         all-ones Format.binary64 s t h = ends s (eqb t 0) h
 
--- ---- small and middling sizes
--- a field e is below 2 ^ (prec - 1 + e) units
+-- ---- numbers below 1, and numbers with a fraction
+-- a pattern with the field e is below 2 ^ (prec - 1 + e) units
 pub fields-lt : (f : Format) (e t : ℕ) → t < hid f → fieldsOf f e t < 2 ^ (prec f - 1 + e)
 fields-lt f zero t h = rw (nat.add-zero (prec f - 1)) h
 fields-lt f (suc y) t h = rw (pow-add 2 (prec f - 1) (suc y), nat.pow-succ' 2 y) (go (hid f) t (2 ^ y) h (pow-pos y))
@@ -88,7 +88,7 @@ fields-lt f (suc y) t h = rw (pow-add 2 (prec f - 1) (suc y), nat.pow-succ' 2 y)
     go : (w t p : ℕ) → t < w → 0 < p → (w + t) * p < w * (2 * p)
     go w t p h P = omega (arith, nat.mul-lt-mul-of-pos-right h P)
 
--- so below the field emax the number is below 1
+-- a pattern with a field below emax is below 1
 pub below-one : (f : Format) (e t : ℕ) → e < emax f → t < hid f → fieldsOf f e t < 2 ^ low f
 below-one f e t h k = nat.lt-of-lt-of-le (fields-lt f e t k) (pow-mono (room f e h))
   where
@@ -96,12 +96,12 @@ below-one f e t h k = nat.lt-of-lt-of-le (fields-lt f e t k) (pow-mono (room f e
     room Format.binary32 e h = omega arith
     room Format.binary64 e h = omega arith
 
--- a pattern that is not 0 stands for a number that is not
+-- a pattern that is not 0 has a number that is not 0
 pub above-zero : (f : Format) (e t : ℕ) → 0 < e + t → 0 < fieldsOf f e t
 above-zero f zero t h = omega arith
 above-zero f (suc x) t h = nat.mul-pos (nat.lt-of-lt-of-le (pow-pos (prec f - 1)) (nat.le-add-right (hid f) t)) (pow-pos x)
 
--- from the field emax up to low the digits stand 2 ^ (low + 1 - field) above the units
+-- for a field e from 1 to low, the number is the digits over 2 ^ (low + 1 - e)
 pub scaled : (f : Format) (e t : ℕ) → 0 < e → e ≤ low f → fieldsOf f e t * 2 ^ (suc (low f) - e) ≡ (hid f + t) * 2 ^ low f
 scaled f zero t h k = absurd (nat.lt-irrefl 0 h)
 scaled f (suc x) t h k =

@@ -1,5 +1,5 @@
--- The signs of results, and bounds on them, for values that are finite and not negative (`nonneg`): each is a sign, or `mono` of `Rounds.antt` at an inequality of fractions.
--- Assumes nothing.
+-- Signs of results, and bounds on them, for values that are finite and not negative (`nonneg`): each law is the sign of
+-- a rounded fraction, or `mono` of `Rounds.antt` at an inequality of fractions. Assumes nothing.
 use Prim.Native.Nat.{_*_}
 use native.Mathlib.Nat.{le-of-lt, mul-le-mul-right, mod-lt, mod-le}
 use native.Mathlib.Omega.{arith}
@@ -18,7 +18,7 @@ use Rattle.floats.proofs.Rounds.{mono, self, add-rounds, sub-rounds, mu
 use Rattle.floats.proofs.Signed.{neg-sub-rounds, neg-mul-rounds, below-zero}
 use Rattle.floats.proofs.Scale.{scale-up-in}
 
--- ---- what a range says of x
+-- ---- from a range to its values
 -- 0 ≤ x ≤ hi with hi finite: x is finite and not negative
 pub within-nonneg : (hi x : Float) → T (finite hi) → T (within nought hi x) → T (nonneg x)
 within-nonneg hi x p h = under x hi (le→ge0 x (and-l (le nought x) (le x hi) h)) p (and-r (le nought x) (le x hi) h)
@@ -76,7 +76,7 @@ module _ (f : Format) where
   pub sub-in : (x y : Float) → T (fits f x) → T (nonneg x) → T (nonneg y) → T (le y x) → T (within nought x (sub f x y))
   sub-in x y w p q h = and-i (le nought (sub f x y)) (le (sub f x y) x) (ge0→le (sub f x y) (sub-ge0 x y p q h)) (sub-le x y w p q h)
 
-  -- -(x - y) is finite and not negative for x ≤ y: it is at most y
+  -- -(x - y) for x ≤ y is at most y, so it is finite and not negative
   pub neg-sub-nonneg : (x y : Float) → T (fits f y) → T (nonneg x) → T (nonneg y) → T (le x y) → T (nonneg (neg (sub f x y)))
   neg-sub-nonneg x y w p q h =
       let r = neg-sub-rounds f x y p q h in

@@ -1,5 +1,5 @@
--- The remainder is exact, so x % y is below y, strictly: written over one power of two, x % y is a number of at most as many digits as x or y has, times a power of
--- two that the format holds (`exact` of `Held.antt`). Assumes nothing.
+-- The remainder is exact, so x % y is strictly below y: over one power of two, x % y has at most as many digits as x or
+-- as y, times a power of two that the format has (`exact` of `Held.antt`). Assumes nothing.
 use mathlib.Core.Path.{_≡_, ap, _∙_}
 use Prim.Native.Nat.{ℕ, zero, suc, _+_, _-_, _*_, _/_, _%_, _^_, _≤_, _<_}
 use native.Mathlib.Nat as nat
@@ -22,16 +22,16 @@ pub mod-scale : (a b k : ℕ) → 0 < k → a * k % (b * k) ≡ a % b * k
 mod-scale a b k K = nat.mod-def (a * k) (b * k) ∙ rw (nat.mul-div-mul-right a b K, nat.mod-def a b, nat.mul-comm (a - b * (a / b)) k, nat.mul-sub k a (b * (a / b))) (omega arith)
 
 -- ---- the remainder's value
--- a * 2 ^ u / 2 ^ v, with the powers written out
+-- a * 2 ^ u / 2 ^ v as a times one power of two
 powers : (a : ℕ) (u v : ℤ) → a * up u * down v ≡ a * 2 ^ (ups u + downs v)
 powers a u v = rw (up-is u, down-is v) (simp (pow-add, nat.mul-assoc))
 
--- ±m * 2 ^ e % n * 2 ^ d, rounded, is itself
+-- the remainder of ±m * 2 ^ e by n * 2 ^ d rounds to itself
 pub rem-value : (f : Format) (s : Bool) (m : ℕ) (e : ℤ) (n : ℕ) (d : ℤ) → T (fits f (fin s m e)) → T (fits f (fin false (suc n) d))
     → HasValue (round f s (m * up e * down d % (suc n * up d * down e)) (down e * down d)) s (m * up e * down d % (suc n * up d * down e)) (down e * down d)
 rem-value f s m e n d h k = rw (powers m e d, powers (suc n) d e, down-is e, down-is d, ← pow-add 2 (downs e) (downs d)) (go (leb j i) (leb→le j i) (nleb→lt j i))
   where
-    -- over 2 ^ w the one is m * 2 ^ i and the other (n + 1) * 2 ^ j
+    -- over the denominator 2 ^ w the dividend is m * 2 ^ i and the divisor (n + 1) * 2 ^ j
     i : ℕ
     i = ups e + downs d
 
@@ -41,14 +41,14 @@ rem-value f s m e n d h k = rw (powers m e d, powers (suc n) d e, down-is e, dow
     w : ℕ
     w = downs e + downs d
 
-    -- the remainder is a number below n + 1 times the power of y
+    -- j ≤ i: the remainder is a number below n + 1, times the divisor's power of two
     coarse : j ≤ i → HasValue (round f s (m * 2 ^ i % (suc n * 2 ^ j)) (2 ^ w)) s (m * 2 ^ i % (suc n * 2 ^ j)) (2 ^ w)
     coarse l =
         let q = m * 2 ^ (i - j) % suc n in
         rw (split-pow m i j l, mod-scale (m * 2 ^ (i - j)) (suc n) (2 ^ j) (pow-pos j))
         (exact f s false n d k q (q * 2 ^ j) w (nat.le-of-lt (nat.mod-lt (m * 2 ^ (i - j)) (nat.zero-lt-suc n))) (simp (pow-add, nat.mul-assoc)))
 
-    -- or a number up to m times the power of x
+    -- i ≤ j: the remainder is a number up to m, times the dividend's power of two
     fine : (m : ℕ) → T (fits f (fin s m e)) → i ≤ j → HasValue (round f s (m * 2 ^ i % (suc n * 2 ^ j)) (2 ^ w)) s (m * 2 ^ i % (suc n * 2 ^ j)) (2 ^ w)
     fine zero h l =
         let z : 0 % (suc n * 2 ^ j) ≡ 0 = nat.mod-eq-of-lt (nat.mul-pos (nat.zero-lt-suc n) (pow-pos j)) in
@@ -63,7 +63,7 @@ rem-value f s m e n d h k = rw (powers m e d, powers (suc n) d e, down-is e, dow
     go false a b = fine m h (nat.le-of-lt (b tt))
 
 -- ---- x % y < y
--- z is ±r / c, and r / c is below n * 2 ^ d: z is
+-- z is ±r / c, and r / c < n * 2 ^ d: z < n * 2 ^ d
 lt-of-value : (z : Float) (s : Bool) (r c n : ℕ) (d : ℤ) → 0 < c → HasValue z s r c → 0 < n → r * down d < n * up d * c → T (lt z (fin false n d))
 unfolding lt
 lt-of-value nan s r c n d C h N l = absurd h
@@ -73,7 +73,7 @@ lt-of-value (fin false m e) s r c n d C h N l =
     lt→ltb (m * up e * down d) (n * up d * down e)
     (nat.lt-of-mul-lt-mul-right c (omega (arith, ap (λ (z : ℕ). z * down d) (h .1), nat.mul-lt-mul-of-pos-right l (down-pos e))))
 
--- x and y of the format, 0 ≤ x and 0 < y: x % y < y
+-- x and y are values of the format, 0 ≤ x and 0 < y: x % y < y
 pub rem-lt : (f : Format) (x y : Float) → T (fits f x) → T (fits f y) → T (nonneg x) → T (positive y) → T (lt (rem f x y) y)
 rem-lt f nan y h k p q = absurd p
 rem-lt f (inf s) y h k p q = absurd p

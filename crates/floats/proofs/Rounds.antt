@@ -1,6 +1,7 @@
--- `Rounds f x a c`: x is not negative, and is the fraction a / c rounded to the format f (as a number: a zero may have either sign, and an infinity counts).
--- Every operation on values that are finite and not negative gives such an x, and the order of such x is that of the fractions (`mono`).
--- So a law on floats is an inequality of natural numbers. Assumes nothing.
+-- `Rounds f x a c`: x is not negative, and is the fraction a / c rounded to the format f (as a number: a zero may have
+-- either sign, and an infinity counts). Every operation on values that are finite and not negative gives such an x, and
+-- such x have the order of their fractions (`mono`). So a law on floats becomes an inequality of natural numbers.
+-- Assumes nothing.
 use mathlib.Core.Path.{_≡_, refl, sym, _∙_, subst}
 use Prim.Native.Nat.{ℕ, zero, suc, _+_, _-_, _*_, _%_, _^_, _≤_, _<_}
 use native.Mathlib.Nat as nat
@@ -20,17 +21,18 @@ use Rattle.floats.proofs.Held.{zero-value}
 use Rattle.floats.proofs.Operations.{dens-pos, quot-pos, add-is, sub-is, mul-is, div-is, rem-is}
 pub use Rattle.floats.proofs.Operations.{not-zero}
 
--- x is not negative, and is at most a / c rounded and at least that
+-- x is not negative, at most a / c rounded, and at least a / c rounded
 pub record Rounds (f : Format) (x : Float) (a c : ℕ) : Type 0 where
   pub sign : T (ge0 x)
   pub upper : T (le x (round f false a c))
   pub lower : T (le (round f false a c) x)
 
--- x is a / b rounded, y is c / d rounded, and a / b ≤ c / d: x ≤ y. A call may leave the values and the fractions as `_`: the two `Rounds` show them
+-- x is a / b rounded, y is c / d rounded, and a / b ≤ c / d: x ≤ y.
+-- A caller may write `_` for the values and the fractions: the two `Rounds` determine them
 pub mono : (f : Format) (x y : Float) (a b c d : ℕ) → Rounds f x a b → Rounds f y c d → 0 < b → 0 < d → a * d ≤ c * b → T (le x y)
 mono f x y a b c d p q B D h = fle-trans x (round f false a b) y (p .upper) (fle-trans (round f false a b) (round f false c d) y (round-mono f a b c d B D h) (q .lower))
 
--- ---- a fraction rounded, as it comes from `round`
+-- ---- a rounded fraction, as `round` returns it
 ge0-odd : (d q k l : ℕ) → T (ge0 (odd d false q k l))
 unfolding odd
 ge0-odd d zero k l = tt
@@ -48,14 +50,14 @@ ge0-units f q k = go (ltb (q * 2 ^ k) (2 ^ (low f + suc (emax f))))
 pub ge0-round : (f : Format) (a c : ℕ) → T (ge0 (round f false a c))
 ge0-round f a c = rw (round-is f false a c) (ge0-units f (kept (prec f) (a * 2 ^ low f) c) (drop (prec f) (a * 2 ^ low f) c))
 
--- and is `Rounds` of its fraction
+-- a / c rounded is `Rounds` of a / c
 of-round : (f : Format) (a c : ℕ) → Rounds f (round f false a c) a c
 of-round f a c =
     let r : T (le (round f false a c) (round f false a c)) = ge0-refl (round f false a c) (ge0-round f a c) in
     record { sign = ge0-round f a c; upper = r; lower = r }
 
 -- ---- a zero of either sign
--- what has the value ±0 / c has the numerator 0, and is finite and not negative
+-- x has the value ±0 / c: its numerator is 0, and x is finite and not negative
 value-num : (x : Float) (s : Bool) (c : ℕ) → 0 < c → HasValue x s 0 c → num x ≡ 0
 value-num nan s c C h = absurd h
 value-num (inf t) s c C h = absurd h
@@ -71,7 +73,7 @@ value-nonneg (fin false m e) s c C h = tt
 pub zero-nonneg : (f : Format) (s : Bool) (c : ℕ) → 0 < c → T (nonneg (round f s 0 c)) × (num (round f s 0 c) ≡ 0)
 zero-nonneg f s c C = (value-nonneg (round f s 0 c) s c C (zero-value f s c C), value-num (round f s 0 c) s c C (zero-value f s c C))
 
--- any two zeros are at most one another
+-- x is a zero, and y is finite and not negative: x ≤ y
 zeros-le : (x y : Float) → T (nonneg x) → T (nonneg y) → num x ≡ 0 → T (le x y)
 zeros-le x y p q h = cross→le x y p q (omega (arith, times-zero (num x) (den y) h))
 
@@ -81,7 +83,7 @@ of-zero f x c C p h =
     let z = zero-nonneg f false c C in
     record { sign = nonneg→ge0 x p; upper = zeros-le x (round f false 0 c) p (z .0) h; lower = zeros-le (round f false 0 c) x (z .0) p (z .1) }
 
--- a / c rounded with a sign s, where s is negative only if a is 0
+-- a / c rounded with the sign s, where s is a minus only if a is 0
 pub of-signed : (f : Format) (s : Bool) (a c : ℕ) → 0 < c → (T s → a ≡ 0) → Rounds f (round f s a c) a c
 of-signed f false a c C h = of-round f a c
 of-signed f true a c C h =
@@ -102,7 +104,7 @@ self f (fin false m e) h p =
     let c : num y * down e ≡ m * up e * den y = value→cross y (m * up e) (down e) v in
     record { sign = tt; upper = cross→le (fin false m e) y tt q (nat.le-of-eq (sym c)); lower = cross→le y (fin false m e) q tt (nat.le-of-eq c) }
   where
-    -- what has a value without a minus sign is not negative
+    -- y has a value without a minus sign: y is not negative
     has-nonneg : (y : Float) (a c : ℕ) → HasValue y false a c → T (nonneg y)
     has-nonneg nan a c v = absurd v
     has-nonneg (inf s) a c v = absurd v
@@ -115,7 +117,7 @@ one-rounds Format.binary32 = self Format.binary32 unity (unfold fits in tt) tt
 one-rounds Format.binary64 = self Format.binary64 unity (unfold fits in tt) tt
 
 -- ---- sums
--- ±a / c + ±b / c is one fraction k / c rounded, with a sign: the parts that are added less those that are taken away
+-- ±a / c + ±b / c is one fraction k / c rounded, with a sign: k is what is added less what is subtracted
 pub sum-cases : (f : Format) (s : Bool) (a : ℕ) (t : Bool) (b c : ℕ) (P : Float → Type 0)
     → ((k : ℕ) → cond s a 0 + cond t b 0 + k ≡ cond s 0 a + cond t 0 b → P (round f false k c))
     → ((k : ℕ) → cond s 0 a + cond t 0 b + k ≡ cond s a 0 + cond t b 0 → P (round f true k c))
@@ -135,19 +137,19 @@ sum-cases f true a false b c P gain loss = go (ltb a b) (ltb b a) (ltb→lt a b)
     go false true l g n = loss (a - b) (omega (arith, g tt))
     go false false l g n = gain (a - b) (omega (arith, g tt, n tt))
 
--- where what is added is what is taken away and k more, the sum is k / c rounded
+-- what is added exceeds what is subtracted by k: the sum is k / c rounded
 pub sum-up : (f : Format) (s : Bool) (a : ℕ) (t : Bool) (b c k : ℕ) → 0 < c → cond s a 0 + cond t b 0 + k ≡ cond s 0 a + cond t 0 b → Rounds f (sum f s a t b c) k c
 sum-up f s a t b c k C e =
     sum-cases f s a t b c (λ x. Rounds f x k c)
     (λ j h. let w : k ≡ j = omega arith in rw w (of-round f j c))
     (λ j h. let w : k ≡ j = omega arith in rw w (of-signed f true j c C (λ _. omega arith)))
 
--- a sign that only a zero has makes no difference to the parts
+-- a has a minus sign only if a is 0: a counts as added, and as subtracted where the sign is reversed
 pub parts : (s : Bool) (a : ℕ) → (T s → a ≡ 0) → (cond s a 0 ≡ 0) × (cond s 0 a ≡ a) × (cond (not s) a 0 ≡ a) × (cond (not s) 0 a ≡ 0)
 parts true a h = (h tt, sym (h tt), sym (h tt), h tt)
 parts false a h = (refl, refl, refl, refl)
 
--- ±a / c + ±b / c, a sign being negative only at a zero: (a + b) / c rounded
+-- ±a / c + ±b / c, where only a 0 has a minus sign: (a + b) / c rounded
 pub sum-rounds : (f : Format) (s : Bool) (a : ℕ) (t : Bool) (b c : ℕ) → 0 < c → (T s → a ≡ 0) → (T t → b ≡ 0) → Rounds f (sum f s a t b c) (a + b) c
 sum-rounds f s a t b c C p q = sum-up f s a t b c (a + b) C (omega (arith, parts s a p, parts t b q))
 

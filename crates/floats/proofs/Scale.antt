@@ -1,5 +1,5 @@
--- x * t for t in [0, 1] lies between 0 and x, for either sign of x: the parts of x that are not there are 0, and the rest is `order` of `Near.antt`.
--- Assumes nothing.
+-- x * t for t in [0, 1] lies between 0 and x, for either sign of x: `less x` or `plus x` is 0, and the rest is `order`
+-- of `Near.antt`. Assumes nothing.
 use mathlib.Core.Path.{_≡_, refl}
 use Prim.Native.Nat.{_*_, _≤_}
 use native.Mathlib.Nat.{mul-le-mul-right}
@@ -16,14 +16,14 @@ use Rattle.floats.proofs.Order.{le→Le, ge0→le, nonneg→ge0, nonneg
 use Rattle.floats.proofs.Signed.{below-zero}
 use Rattle.floats.proofs.Near.{plus, less, order, near-self, near-mul, le→frac}
 
--- 0 ≤ x: x has no negative part
+-- 0 ≤ x: `less x` is 0
 no-less : (x : Float) → T (le nought x) → less x ≡ 0
 no-less nan h = refl
 no-less (inf s) h = refl
 no-less (fin true m e) h = omega (arith, le→Le nought (fin true m e) h .1)
 no-less (fin false m e) h = refl
 
--- x ≤ 0: x has no positive part
+-- x ≤ 0: `plus x` is 0
 no-plus : (x : Float) → T (le x nought) → plus x ≡ 0
 no-plus nan h = refl
 no-plus (inf s) h = refl

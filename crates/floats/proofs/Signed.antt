@@ -1,5 +1,5 @@
--- Results that are not positive, each by its negation: a difference x - y for x ≤ y, and a product with a factor that is not positive.
--- Negation goes through `round`, and turns the order round. Assumes nothing.
+-- Results that are not positive, each through its negation: a difference x - y for x ≤ y, and a product with a factor
+-- that is not positive. Rounding commutes with negation, and negation reverses the order. Assumes nothing.
 use mathlib.Core.Path.{_≡_, refl, sym, ap, _∙_}
 use Prim.Native.Nat.{ℕ, zero, suc, _+_, _-_, _*_, _^_, _<_}
 use native.Mathlib.Omega.{arith}
@@ -27,7 +27,7 @@ neg-neg (inf false) = refl
 neg-neg (fin true m e) = refl
 neg-neg (fin false m e) = refl
 
--- x is finite: -x is
+-- x is finite: so is -x
 pub finite-neg : (x : Float) → T (finite x) → T (finite (neg x))
 unfolding neg
 finite-neg nan h = h
@@ -102,14 +102,14 @@ neg-zero f x c C r =
     of-zero f (neg x) c C (q .0) (q .1)
 
 -- ---- x - y for x ≤ y
--- where what is taken away is what is added and k more, the negated sum is k / c rounded
+-- what is subtracted exceeds what is added by k: the negated sum is k / c rounded
 pub sum-down : (f : Format) (s : Bool) (a : ℕ) (t : Bool) (b c k : ℕ) → 0 < c → cond s 0 a + cond t 0 b + k ≡ cond s a 0 + cond t b 0 → Rounds f (neg (sum f s a t b c)) k c
 sum-down f s a t b c k C e =
     sum-cases f s a t b c (λ x. Rounds f (neg x) k c)
     (λ j h. let w : k ≡ j = omega arith in rw (w, neg-round f false j c) (of-signed f true j c C (λ _. omega arith)))
     (λ j h. let w : k ≡ j = omega arith in rw (w, neg-round f true j c) (of-signed f false j c C absurd))
 
--- -(x - y) for x ≤ y is the fraction of y less that of x, rounded
+-- -(x - y) for x ≤ y is the fraction of y less the fraction of x, rounded
 pub neg-sub-rounds : (f : Format) (x y : Float) → T (nonneg x) → T (nonneg y) → T (le x y) → Rounds f (neg (sub f x y)) (num y * den x - num x * den y) (den x * den y)
 neg-sub-rounds f x y p q h =
     rw (sub-is f x y (nonneg→finite x p) (nonneg→finite y q))

@@ -1,4 +1,5 @@
--- What the tests of `floor_f32` and `floor_by_bits` on x's pattern show of x's floor, over the format: each law answers one return of either function. Assumes nothing.
+-- What the tests of `floor_f32` and `floor_by_bits` on the bits of x show of its floor, for either format: one law for
+-- each return of these functions. Assumes nothing.
 use mathlib.Core.Path.{_≡_, refl, sym, ap, _∙_, subst}
 use mathlib.Core.Bool.{Bool, true, false, not, true≢false}
 use Prim.Native.Nat.{ℕ, suc, _+_, _-_, _*_, _/_, _%_, _^_, _≤_, _<_}
@@ -26,14 +27,14 @@ pub floor-nan : (f : Format) (x : Float) → ne x x ≡ true → x ≡ floorOf f
 unfolding floorOf
 floor-nan f x h = rw (differs-from-itself x (subst T (sym h) tt)) refl
 
--- what is not finite is its own floor
+-- an infinity or a NaN is its own floor: what remains is a finite x
 unless-finite : (f : Format) (x : Float) → (T (finite x) → x ≡ floorOf f x) → x ≡ floorOf f x
 unfolding floorOf
 unless-finite f nan h = refl
 unless-finite f (inf s) h = refl
 unless-finite f (fin s m e) h = h tt
 
--- below an infinity's pattern x is finite
+-- the pattern is below that of an infinity: x is finite
 size-finite : (f : Format) (x : Float) → sizeBits f x < ones f * hid f → T (finite x)
 unfolding toBits
 size-finite Format.binary32 nan h = absurd (nat.not-le-of-lt h (lit≤ tt))
@@ -59,11 +60,11 @@ module _ (f : Format) (x : Float) (w : T (fits f x)) where
   field-less : (k : ℕ) → sizeBits f x < k * hid f → sizeBits f x / hid f < k
   field-less k h = nat.div-lt-iff-lt-mul (pow-pos (prec f - 1)) .1 h
 
-  -- a number with the sign that the test found
+  -- x has the sign that the test found
   known : (s : Bool) → negative f (toBits f x) ≡ s → T (finite x) → HasValue x s (unitsOf f (sizeBits f x)) (2 ^ low f)
   known s e h = subst (λ (z : Bool). HasValue x z (unitsOf f (sizeBits f x)) (2 ^ low f)) e (value f x w h)
 
-  -- the digits' weight is a whole number: no fraction
+  -- the last digit counts 1 or more: x has no fraction
   pub returns-large : suc (low f) * hid f ≤ sizeBits f x → x ≡ floorOf f x
   returns-large l =
       unless-finite f x
@@ -78,7 +79,7 @@ module _ (f : Format) (x : Float) (w : T (fits f x)) where
       none Format.binary32 = refl
       none Format.binary64 = refl
 
-  -- below 1
+  -- 0 < |x| < 1
   pub returns-small : (s : Bool) → negative f (toBits f x) ≡ s → (sizeBits f x ≡ 0 → ⊥) → sizeBits f x < emax f * hid f → round f s (wholeOf s 1 2) 1 ≡ floorOf f x
   returns-small s e n l =
       sym (floor-small f x s (unitsOf f (sizeBits f x)) (known s e (size-finite f x (nat.lt-of-lt-of-le l (under f))))
@@ -93,7 +94,7 @@ module _ (f : Format) (x : Float) (w : T (fits f x)) where
       some Format.binary32 a n = omega arith
       some Format.binary64 a n = omega arith
 
-  -- from 1 on, with a fraction: n is the whole part of the digits over 2 ^ (low + 1 - field)
+  -- |x| ≥ 1, with a fraction: n is the whole part of the digits over 2 ^ (low + 1 - field)
   pub returns-middle : (s : Bool) (n : ℕ) → negative f (toBits f x) ≡ s → emax f * hid f ≤ sizeBits f x → sizeBits f x < suc (low f) * hid f
       → n ≡ wholeOf (negative f (toBits f x)) (hid f + sizeBits f x % hid f) (2 ^ (suc (low f) - sizeBits f x / hid f)) → round f s n 1 ≡ floorOf f x
   returns-middle s n e g l is =
@@ -105,7 +106,7 @@ module _ (f : Format) (x : Float) (w : T (fits f x)) where
       some Format.binary32 = lit≤ tt
       some Format.binary64 = lit≤ tt
 
--- ---- the two literals of the code
+-- ---- the literals 0.0 and -1.0 of the code
 pub nought-is : (f : Format) → ofBits f 0 ≡ round f false 0 1
 unfolding ofBits round
 nought-is Format.binary32 = refl

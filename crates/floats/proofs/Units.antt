@@ -1,5 +1,6 @@
--- The remainder without dividing, with the same bits. Below y, x % y is x, and below y + y it is x - y. And where x and y are whole numbers of one unit, x % y is the remainder of those, in that unit:
--- the two are one fraction, rounded once. Over the format. Assumes nothing.
+-- The remainder without a division, to the bit. For x below y, x % y is x, and for x from y up to y + y it is x - y.
+-- Where x and y are whole multiples a and b of one unit, x % y is a % b units: the same fraction, rounded once. For
+-- either format. Assumes nothing.
 use mathlib.Core.Path.{_≡_, refl, sym, ap, _∙_}
 use Prim.Native.Nat.{ℕ, _+_, _-_, _*_, _%_, _^_, _≤_, _<_}
 use native.Mathlib.Nat as nat
@@ -38,7 +39,7 @@ rem-below f x y w p q h =
     turn a c d = omega arith
 
 -- ---- below y + y
--- ±a - ±b for b ≤ a, both plain
+-- a / c - b / c for b ≤ a is (a - b) / c rounded
 less : (f : Format) (a b c : ℕ) → b ≤ a → sum f false a true b c ≡ round f false (a - b) c
 unfolding sum
 less f a b c h = rw (is-false (ltb a b) (not-T (ltb a b) (λ (t : T (ltb a b)). omega (arith, ltb→lt a b t)))) refl
@@ -56,7 +57,7 @@ less-nought f x w p = sub-is f x nought finite-x tt ∙ rest
     rest : sum f (signed x) (num x * 1) true (0 * den x) (den x * 1) ≡ x
     rest = rw (plain x p, nat.mul-one (num x), nat.mul-one (den x), nat.zero-mul (den x)) (less f (num x) 0 (den x) (omega arith) ∙ ap (λ (n : ℕ). round f false n (den x)) (nat.sub-zero (num x)) ∙ own)
 
--- y ≤ x < y + y: x % y is x - y, which nothing rounds
+-- y ≤ x < y + y: x % y is x - y, because both round the same fraction
 pub rem-once : (f : Format) (x y : Float) → T (positive x) → T (positive y) → num y * den x ≤ num x * den y → num x * den y < num y * den x + num y * den x → sub f x y ≡ rem f x y
 rem-once f x y p q h l =
     sub-is f x y (nonneg→finite x (positive-nonneg x p)) (nonneg→finite y (positive-nonneg y q))
@@ -67,13 +68,13 @@ rem-once f x y p q h l =
     once : (a b : ℕ) → b ≤ a → a < b + b → a % b ≡ a - b
     once a b h l = nat.mod-eq-sub-mod h ∙ nat.mod-eq-of-lt (omega arith)
 
--- ---- whole numbers of a unit
+-- ---- whole multiples of a unit
 of-value : (z : Float) (s : Bool) (a c : ℕ) → HasValue z s a c → T (finite z) × (signed z ≡ s) × (num z * c ≡ a * den z)
 of-value nan s a c h = absurd h
 of-value (inf t) s a c h = absurd h
 of-value (fin t m e) s a c h = (tt, h .0, h .1)
 
--- what is left of x over y is that of the whole numbers a and b, over g: x is n / v, and y is m / d
+-- x is n / v = a / g and y is m / d = b / g: the remainder of x by y is (a % b) / g
 left-is : (n v m d a b g : ℕ) → 0 < v → 0 < d → 0 < g → n * g ≡ a * v → m * g ≡ b * d → n * d % (m * v) * g ≡ a % b * (v * d)
 left-is n v m d a b g W D G p q =
     sym (mod-scale (n * d) (m * v) g G)
@@ -85,7 +86,7 @@ left-is n v m d a b g W D G p q =
     bottom : m * v * g ≡ b * (v * d)
     bottom = omega (arith, ap (λ (z : ℕ). z * v) q)
 
--- x is a / g and y is b / g, and u is g: x % y is (a % b) / g
+-- x is a / g, y is b / g, and u is g: x % y is (a % b) / u
 pub rem-units : (f : Format) (x y u : Float) (a b g : ℕ) → T (positive x) → T (positive y) → T (positive u) → num x * g ≡ a * den x → num y * g ≡ b * den y → num u ≡ g * den u → a % b ≤ 2 ^ prec f
     → div f (ofInt f (pos (a % b))) u ≡ rem f x y
 unfolding ofInt

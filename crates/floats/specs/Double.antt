@@ -1,4 +1,5 @@
--- The operations of an f64, each rounded once, as infix signs, and the numbers that the crates above write as literals. Definitions only.
+-- The f64 operations + - * / as infix ⊕ ⊖ ⊗ ⊘, each rounded once, and the numbers that other crates write as literals.
+-- Definitions only.
 use lib.Ieee.{Float, binary64, ofBits, add, sub, mul, div}
 use Rattle.floats.specs.Range.{lit0, lit1}
 

@@ -1,4 +1,4 @@
--- Ranges of floats, for contracts and laws: 0, 1 and the largest value of a format, signs, and intervals. Definitions only.
+-- 0, 1 and the largest value of a format, tests of a sign, and intervals, for contracts and laws. Definitions only.
 use Prim.Native.Nat.{suc, _-_, _^_}
 use mathlib.Core.Bool.{Bool, true, false, not, _&&_}
 use lib.IntN.{pos}
@@ -13,18 +13,18 @@ nought = fin false 0 (pos 0)
 abbrev pub unity : Float
 unity = fin false 1 (pos 0)
 
--- the largest finite value of the format f: every digit is set, and the exponent is the largest (0x7f7fffff and 0x7fefffffffffffff)
+-- the largest finite value of f: every digit set, the exponent greatest (bits 0x7f7fffff and 0x7fefffffffffffff)
 abbrev pub largest : Format → Float
 largest f = fin false (2 ^ prec f - 1) (pos (suc (emax f) - prec f))
 
--- 0 ≤ x, +infinity included, -0 included: the same as `le nought x` (`ge0→le` and `le→ge0` of proofs/Order.antt)
+-- 0 ≤ x, +infinity and -0 included; it is the test `le nought x` (`ge0→le` and `le→ge0` of proofs/Order.antt)
 abbrev pub ge0 : Float → Bool
 ge0 nan = false
 ge0 (inf s) = not s
 ge0 (fin true m e) = eqb m 0
 ge0 (fin false m e) = true
 
--- finite and 0 ≤ x
+-- 0 ≤ x, and x is finite
 abbrev pub nonneg : Float → Bool
 nonneg nan = false
 nonneg (inf s) = false
@@ -35,7 +35,7 @@ nonneg (fin false m e) = true
 abbrev pub within : Float → Float → Float → Bool
 within lo hi x = le lo x && le x hi
 
--- the literals 0.0 and 1.0, as code of either width has them: `nought` and `unity` (proofs/Literals.antt)
+-- the literals 0.0 and 1.0 in code of either width; they are `nought` and `unity` (proofs/Literals.antt)
 abbrev pub lit0 : Format → Float
 lit0 f = ofBits f 0
 

@@ -1,6 +1,6 @@
-// floor of an f32 and of an f64, worked out from the bits, as 01 asks: the two widths share their argument, which is over the
-// format (proofs/); and tests of a float that several crates make. The laws of float arithmetic that the crates above lean on are
-// this crate's files of proofs/. Left out: all other arithmetic, which is the language's own, and C's library.
+// The floor of an f32 and of an f64 ("`floor` is worked out from the bits", 01), and two tests of a float: that it is
+// in a range, and that it is finite. proofs/ has the laws of float arithmetic that the other crates cite, most of them
+// for both widths at once. Left out: all other arithmetic, which is the language's own, and the C library.
 ghost use mathlib.Core.Path.{_≡_};
 ghost use mathlib.Core.Bool.{Bool};
 ghost use Prim.Native.Nat.{_<_, _≤_, _^_};
@@ -9,24 +9,24 @@ ghost use lib.Ieee.Scale.{finite};
 ghost use Rattle.floats.specs.Floor.{floorOf, wholeOf};
 ghost use Rattle.floats.specs.Range.{within};
 
-// The largest finite f32.
+// The largest finite f32, 2^128 - 2^104.
 const LARGEST: f32 = 340282346638528859811704183484516925440.0;
 
-// From low to high, both included; a NaN is outside.
+// Whether low <= x <= high; false for a NaN.
 pub fn is_within(low: f64, high: f64, x: f64) -> bool
     ensures { λ r. ⌜ r ≡ within low high x ⌝ }
 {
     (low <= x) & (x <= high)
 }
 
-// Neither an infinity nor a NaN.
+// Whether x is neither an infinity nor a NaN.
 pub fn is_finite_f32(x: f32) -> bool
     ensures { λ r. ⌜ r ≡ finite x ⌝ }
 {
     (-LARGEST <= x) & (x <= LARGEST)
 }
 
-// The greatest whole number that is not above x, with x's sign: floor(-0) is -0. What is not finite comes back as it is.
+// The greatest whole number not above x, with the sign of x: floor(-0) is -0. An infinity or a NaN comes back as it is.
 pub fn floor_f32(x: f32) -> f32
     ensures { λ r. ⌜ r ≡ floorOf binary32 x ⌝ }
 {
@@ -35,7 +35,7 @@ pub fn floor_f32(x: f32) -> f32
     }
     let bits = f32::to_bits(x);
     let size = bits % 0x8000_0000;
-    // 2^23 or more has no fraction
+    // |x| >= 2^23: the last digit counts 1 or more, so x is whole, or it is an infinity
     if size >= 0x4b00_0000 {
         return x;
     }
@@ -43,7 +43,7 @@ pub fn floor_f32(x: f32) -> f32
         return x;
     }
     let negative = bits >= 0x8000_0000;
-    // below 1
+    // |x| < 1
     if size < 0x3f80_0000 {
         if negative {
             return -1.0;
@@ -56,7 +56,7 @@ pub fn floor_f32(x: f32) -> f32
     if negative { -(n as f32) } else { n as f32 }
 }
 
-// The same at 64 bits; a number from 0 to 2, which is what a phase asks for, by a comparison.
+// The floor of an f64: by comparisons inside 0 < x < 2, where `polyblep` needs it most, and elsewhere from the bits.
 pub fn floor_f64(x: f64) -> f64
     ensures { λ r. ⌜ r ≡ floorOf binary64 x ⌝ }
 {
@@ -77,7 +77,7 @@ fn floor_by_bits(x: f64) -> f64
     }
     let bits = f64::to_bits(x);
     let size = bits % 0x8000_0000_0000_0000;
-    // 2^52 or more has no fraction
+    // |x| >= 2^52: the last digit counts 1 or more, so x is whole, or it is an infinity
     if size >= 0x4330_0000_0000_0000 {
         return x;
     }
@@ -85,7 +85,7 @@ fn floor_by_bits(x: f64) -> f64
         return x;
     }
     let negative = bits >= 0x8000_0000_0000_0000;
-    // below 1
+    // |x| < 1
     if size < 0x3ff0_0000_0000_0000 {
         if negative {
             return -1.0;
@@ -98,7 +98,7 @@ fn floor_by_bits(x: f64) -> f64
     if negative { -(n as f64) } else { n as f64 }
 }
 
-// s / 2^k as a whole number: rounded up where the number is negative, else down.
+// s / 2^k rounded to a whole number: up where the float is negative, since its floor lies farther from 0, else down.
 fn whole(s: u64, k: u32, negative: bool) -> u64
     requires { ⌜ (s < 2 ^ 53) × (k < 53) ⌝ }
     ensures { λ r. ⌜ (r ≡ wholeOf negative s (2 ^ k)) × (r ≤ s) ⌝ }

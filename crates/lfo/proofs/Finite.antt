@@ -1,4 +1,5 @@
--- A block call that is done: every sample is finite, and the phase after it lies from 0 up to, not including, TAU. Assumes nothing.
+-- A block call that is done: every sample is finite, and the phase after the call is at least 0 and below TAU.
+-- Assumes nothing.
 use mathlib.Core.Path.{_≡_}
 use mathlib.Core.List.{List}
 use Prim.Native.Nat.{ℕ}

@@ -1,5 +1,5 @@
 -- What holds of the LFO beyond its contracts.
--- what is done is sound
+-- the laws of a call that is done
 pub mod Finite
 -- two outcomes of a public function are equal
 pub mod Unique

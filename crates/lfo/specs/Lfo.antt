@@ -1,5 +1,8 @@
--- The LFO's calls. 01, "Domain": frequency "(LFO 0 to 100), depth 0 to 1"; "Steps": "the value is taken .., times depth in the LFO". What a block call is, what it refuses and what a refusal
--- leaves is in blocks' specs/Block.antt. A setting is judged by the call that uses it, which is `process`: the other calls refuse nothing. Definitions only.
+-- The LFO's calls. 01, "Domain of the ported calls": frequency "(LFO 0 to 100), depth 0 to 1"; "Steps": "times depth in
+-- the LFO".
+--
+-- A block call, what it refuses and what a refusal leaves are defined in specs/Block.antt of `blocks`. Only `process`
+-- uses a setting, so only `process` judges one; the other calls refuse nothing. Definitions only.
 use mathlib.Core.List.{List}
 use Prim.Native.Nat.{ℕ}
 use lib.Ieee.{Float}
@@ -25,10 +28,10 @@ withPhase b p = record { frequency = b .frequency; depth = b .depth; phase = p; 
 abbrev pub toneOf : LfoBlock → Tone
 toneOf b = record { frequency = b .frequency; depth = b .depth; phase = b .phase; waveform = b .waveform }
 
--- what a run leaves, handed on: the block has the phase after it
+-- what a run leaves, handed on: the block has the phase after the run
 abbrev pub handedOf : LfoBlock → Outcome Ran → Outcome Processed
 handedOf b o = leaves (record { answer = o .result .answer; block = withPhase b (o .result .phase) }) (o .lent)
 
--- every lent number is a value times the depth
+-- every lent number becomes a value of the waveform times the depth
 abbrev pub processOf : LfoBlock → ℕ → List Float → Outcome Processed
 processOf b rate xs = handedOf b (runOf (toneOf b) highestLfo rate xs)

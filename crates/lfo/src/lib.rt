@@ -1,5 +1,5 @@
-// lfo.rs of the original: a block of a slow waveform times a depth. State goes in by value and is handed back. Left out, as 01
-// says: `Block`, parameter names and modulation, noise and its seed, the simd path.
+// lfo.rs of the original: a block of a waveform at 0 to 100 Hz, times a depth. State goes in by value and is handed
+// back. Left out, as 01 says: `Block`, parameter names and modulation, noise and its seed, the simd path.
 ghost use mathlib.Core.Path.{_≡_};
 ghost use Rattle.answers.specs.Outcome.{leaves};
 ghost use Rattle.lfo.specs.Lfo.{newOf, withPhase, processOf};
@@ -17,14 +17,14 @@ pub struct LfoBlock {
     pub waveform: Waveform,
 }
 
-// What the block call answers, and the block after it.
+// The answer of the block call, and the block after it.
 pub struct Processed {
     pub answer: Answer,
     pub block: LfoBlock,
 }
 
 impl LfoBlock {
-    // At phase 0, with the settings as they are given: the block call judges them.
+    // Phase 0, and the settings as given: the block call judges them.
     pub fn new(frequency: f64, depth: f64, waveform: Waveform) -> LfoBlock
         ensures { λ r. ⌜ r ≡ newOf frequency depth waveform ⌝ }
     {
@@ -36,7 +36,7 @@ impl LfoBlock {
         }
     }
 
-    // The settings stay.
+    // Sets the phase to 0; the settings stay.
     pub fn reset(self) -> LfoBlock
         ensures { λ r. ⌜ r ≡ withPhase self (radians naught) ⌝ }
     {

@@ -1,4 +1,5 @@
--- The levels of (i) and (j), in one block call on any 4,098 lent numbers. The state before sample 4096 is computed once, and what follows is computed from it. Assumes nothing.
+-- The levels of (i) and (j), in one block call on any 4,098 lent numbers. The state before sample 4096 is computed
+-- once, and the levels after it from that state. Assumes nothing.
 use mathlib.Core.Path.{_≡_, refl, ap, _∙_}
 use mathlib.Core.List.{List}
 use Prim.Native.Nat.{ℕ, suc, _+_, _<_}
@@ -21,7 +22,7 @@ use Rattle.envelope.specs.declared.EnvelopeStage.the-variants.{Attack}
 use Rattle.envelope.proofs.RunsOn.{level-at, envelope-runs-on}
 use Rattle.marks.specs.Marks.{called, sample, MarkI}
 
--- ---- the numbers that are computed with
+-- ---- the numbers to compute with
 abbrev adsr : Adsr
 adsr = record { attack = fin false 1 (negsuc 1); decay = fin false 1 (negsuc 1); sustain = fin false 1 (negsuc 0); release = fin false 1 (negsuc 1) }
 
@@ -31,16 +32,16 @@ tick = fin false 1 (negsuc 13)
 abbrev start : Envelope
 start = record { stage = Attack; level = nought; «stage_time» = nought; «release_level» = nought }
 
--- before sample 4096: the level is that of sample 4095, and a quarter of a second has passed
+-- the state before sample 4096: the level is that of sample 4095, and the stage time is 0.25 s
 abbrev peak : Envelope
 peak = record { stage = Attack; level = fin false 4095 (negsuc 11); «stage_time» = fin false 1 (negsuc 1); «release_level» = nought }
 
--- the only long computation
+-- 4,096 steps: the only long computation
 to-peak : envelopeFrom adsr tick start 4096 ≡ peak
 unfolding run envelopeFrom stepOf ofBits add sub mul div le
 to-peak = refl
 
--- from there on, with the long way kept shut
+-- the states after that one, without computing the 4,096 steps again
 from-peak : (j : ℕ) → envelopeFrom adsr tick start (4096 + j) ≡ envelopeFrom adsr tick peak j
 from-peak j = envelope-runs-on adsr tick start 4096 j ∙ ap (λ (e : Envelope). envelopeFrom adsr tick e j) to-peak
 
@@ -52,7 +53,7 @@ two-on : envelopeFrom adsr tick peak 2 .level ≡ fin false 8191 (negsuc 12)
 unfolding run envelopeFrom stepOf ofBits add sub mul div le
 two-on = refl
 
--- ---- the call: it is done, and its levels are these
+-- ---- the block call is done, and its levels are those of the envelope
 call-is : (n : ℕ) (xs : List Float) → length xs ≡ n → (called xs .result .answer ≡ Done n) × (called xs .lent ≡ levelsFrom adsr tick start n)
 unfolding processOf isAdsr isRate isEnvelope clampedOf sampleTimeOf ofBits ofInt isNan lt le div
 call-is n xs e = rw e (refl, refl)

@@ -1,5 +1,5 @@
--- 01's table of marks, in the order to read it.
+-- 01's worked examples, in the order to read them.
 -- the levels of (i) and (j), over 4,098 samples
 pub mod Levels
--- the table holds
+-- all worked examples hold
 pub mod Marks

@@ -1,4 +1,4 @@
--- 01's table of marks holds: what is short is computed, crate by crate. Assumes nothing.
+-- 01's worked examples hold: (i) and (j) by Levels.antt, the others by computing them here. Assumes nothing.
 use mathlib.Core.Path.{refl}
 use lib.Ieee.{ofBits, ofInt, neg, add, sub, mul, div, lt, le, eq, round}
 use Rattle.floats.specs.Floor.{floorOf}

@@ -1,5 +1,8 @@
--- 01, "Marks on both sides": "To prove, as a set", (a) to (m), one field each, over the definitions that the contracts cite. A number that a call answers stands beside its 0.
--- `fin s m e` is m * 2 ^ e, negative where s is true; `negsuc k` is -(k + 1). Definitions only.
+-- 01's worked examples, "Marks on both sides": "To prove, as a set", (a) to (m), one field each, over the definitions
+-- that the contracts cite.
+--
+-- A number that a call returns is beside its answer, `Done 0`. `fin s m e` is m * 2 ^ e, negative where s is true;
+-- `negsuc k` is -(k + 1). Definitions only.
 use mathlib.Core.Path.{_≡_}
 use mathlib.Core.Bool.{Bool, true, false}
 use mathlib.Core.List.{List, [], _∷_, _++_}
@@ -27,7 +30,7 @@ use Rattle.phase.specs.Phase as phase
 use Rattle.envelope.specs.Calls as envelope
 use Rattle.voice.specs.Voice as voice
 
--- ---- (a) to (g): the corrections and the waveforms over them
+-- ---- (a) to (g): the corrections, and the waveforms made with them
 abbrev pub eighth : Float
 eighth = ofBits binary64 0x3fc0_0000_0000_0000
 
@@ -40,12 +43,12 @@ threeQuarters = ofBits binary64 0x3fe8_0000_0000_0000
 abbrev pub sevenEighths : Float
 sevenEighths = ofBits binary64 0x3fec_0000_0000_0000
 
--- done, with this number
+-- the answer done, with the number x
 abbrev pub is : Float → Value
 is x = record { answer = Done 0; value = x }
 
 -- ---- (h): the accumulator, in f32
--- a new one, set to x, then asked
+-- a new accumulator, set to x, then asked for its phase
 abbrev pub setTo : Float → Shown
 setTo x = phaseOf (setPhaseOf phase.newOf (cyclesOf x) .accumulator)
 
@@ -53,11 +56,11 @@ abbrev pub shows : Float → Shown
 shows x = record { answer = Done 0; cycles = cyclesOf x }
 
 -- ---- (i) and (j): the envelope, in one block call
--- a note on a new block: attack 0.25 s, decay 0.25 s, sustain 0.5; of the release nothing is heard
+-- a new block, triggered: attack 0.25 s, decay 0.25 s, sustain 0.5; the release is never reached
 abbrev pub struck : EnvelopeBlock
 struck = envelope.noteOnOf (envelope.newOf quarter quarter half quarter) .block
 
--- the block call at 16,384 Hz on the numbers xs
+-- the block call at 16,384 Hz, lent the numbers xs
 abbrev pub called : List Float → Outcome Processed
 called xs = processOf struck 16384 xs
 
@@ -65,7 +68,7 @@ called xs = processOf struck 16384 xs
 abbrev pub sample : List Float → ℕ → Float
 sample xs i = getD (called xs .lent) i nan
 
--- whatever the 4,098 lent numbers were
+-- (i), whatever the 4,098 lent numbers were
 pub record MarkI (xs : List Float) : Type 0 where
   pub answer : called xs .result .answer ≡ Done 4098
   pub sample-4095 : sample xs 4095 ≡ fin false 4095 (negsuc 11)
@@ -77,7 +80,7 @@ abbrev pub from : ℕ → ℕ → List ℕ
 from n zero = []
 from n (suc k) = n ∷ from (n + 1) k
 
--- the voice after these keys went down, or up
+-- the voice after these keys were struck, or lifted
 abbrev pub down : VoiceState → List ℕ → VoiceState
 down s [] = s
 down s (n ∷ ns) = down (noteOnOf s n 100 .voice) ns
@@ -86,7 +89,7 @@ abbrev pub up : VoiceState → List ℕ → VoiceState
 up s [] = s
 up s (n ∷ ns) = up (noteOffOf s n .voice) ns
 
--- what each says as it goes up
+-- what the voice answers as each of these keys is lifted
 abbrev pub says : VoiceState → List ℕ → List (Answer × Bool)
 says s [] = []
 says s (n ∷ ns) = (noteOffOf s n .answer, noteOffOf s n .released) ∷ says (noteOffOf s n .voice) ns

@@ -1,4 +1,5 @@
--- The oscillator is a run at depth 1: x * 1 is x, so the samples are the values. Hence what is done is sound. Assumes nothing.
+-- The oscillator is a run at depth 1: x * 1 is x, so its samples are the values of the waveform. So the laws of a run
+-- that is done hold for it. Assumes nothing.
 use mathlib.Core.Path.{_≡_, refl}
 use mathlib.Core.Bool.{true}
 use mathlib.Core.List.{List}
@@ -22,7 +23,7 @@ use Rattle.blocks.proofs.Sound.{Sound, run-sound}
 use Rattle.oscillator.specs.Oscillator.{playedOf, valuesFrom, ranOf, processOf}
 use Rattle.oscillator.specs.declared.OscillatorBlock.{OscillatorBlock}
 
--- x * 1
+-- x * 1 is x
 one-times : (x : Float) → T (fits binary64 x) → x ⊗ one ≡ x
 one-times x w = rw (lit1-is binary64) (times-one binary64 x w)
 
@@ -30,7 +31,7 @@ pub samples-are-values : (w : Waveform) (step p : Float) (k : ℕ) → samplesFr
 unfolding samplesBy valuesFrom
 samples-are-values w step p k = listed-same _ _ k (λ i l. one-times (valueAt w step (phaseFrom step p i)) (value-fits w (normalOf (phaseFrom step p i)) (step ⊗ invTau)))
 
--- the block as a tone
+-- the block as a tone of depth 1
 abbrev pub toneOf : OscillatorBlock → Tone
 toneOf b = record { frequency = playedOf b; depth = one; phase = b .phase; waveform = b .waveform }
 
@@ -41,7 +42,7 @@ pub run-is : (b : OscillatorBlock) (rate : ℕ) (xs : List Float) → runOf (ton
 unfolding runOf isTone ranOf
 run-is b rate xs = rw (one-in, samples-are-values (b .waveform) (incrementOf (playedOf b) rate) (b .phase .0) (length xs)) refl
 
--- a call that is done: every sample is finite, and the phase after it lies from 0 up to, not including, TAU
+-- a call that is done: every sample is finite, and the phase after the call is at least 0 and below TAU
 pub process-sound : (b : OscillatorBlock) (rate : ℕ) (xs : List Float) → T (fits binary64 (b .phase .0)) → (n : ℕ) → processOf b rate xs .result .answer ≡ Done n →
     Sound (processOf b rate xs .lent) (processOf b rate xs .result .block .phase)
 process-sound b rate xs w n e =

@@ -1,7 +1,11 @@
--- The oscillator's calls. 01, "Domain": "frequency 0 to 20,000 Hz"; "Steps": "the increment is frequency / rate * TAU. For each sample the value is taken from (phase % TAU) * INV_TAU with
--- dt = increment * INV_TAU, .. then phase grows by the increment. After the block, phase is reduced by TAU"; what is refused, and what a refusal leaves, is in blocks' specs/Block.antt.
--- oscillator.rs decides the rest: a note's frequency, where it is set, goes before the block's own; the frequency that does not sound is not judged. A setting is judged by the call that
--- uses it, which is `process`: the other calls refuse nothing. Definitions only.
+-- The oscillator's calls. 01, "Domain of the ported calls": "frequency 0 to 20,000 Hz"; "Steps": "the increment is
+-- frequency / rate * TAU. For each sample the value is taken from (phase % TAU) * INV_TAU with dt = increment *
+-- INV_TAU", "then phase grows by the increment. After the block, phase is reduced by TAU".
+--
+-- What is refused, and what a refusal leaves, is defined in specs/Block.antt of `blocks`. oscillator.rs decides the
+-- rest: a note's frequency, where it is set, sounds in place of the block's own, and the frequency that does not sound
+-- is not judged. Only `process` uses a setting, so only `process` judges one; the other calls refuse nothing.
+-- Definitions only.
 use mathlib.Core.Bool.{_&&_}
 use mathlib.Core.List.{List, _++_}
 use Prim.Native.Nat.{ℕ}
@@ -38,7 +42,7 @@ abbrev pub withPhase : OscillatorBlock → Radians → OscillatorBlock
 withPhase b p = record { frequency = b .frequency; «midi_frequency» = b .«midi_frequency»; phase = p; waveform = b .waveform }
 
 -- ---- the block call
--- the frequency that sounds
+-- the frequency that sounds: the note's where it is set, else the block's own
 abbrev pub soundsAt : MidiFrequency → Float → Float
 soundsAt Unset own = own
 soundsAt (Set frequency) own = frequency
@@ -46,15 +50,15 @@ soundsAt (Set frequency) own = frequency
 unfoldable pub playedOf : OscillatorBlock → Float
 playedOf b = soundsAt (b .«midi_frequency») (b .frequency)
 
--- the first k values
+-- the first k values of the waveform, from the phase p
 unfoldable pub valuesFrom : Waveform → Float → Float → ℕ → List Float
 valuesFrom w step p k = listed (λ (i : ℕ). valueAt w step (phaseFrom step p i)) k
 
--- what a run leaves, handed on: the block has the phase after it
+-- what a run leaves, handed on: the block has the phase after the run
 abbrev pub handedOf : OscillatorBlock → Outcome Ran → Outcome Processed
 handedOf b o = leaves (record { answer = o .result .answer; block = withPhase b (o .result .phase) }) (o .lent)
 
--- every lent number is a value
+-- every lent number becomes a value of the waveform
 unfoldable pub ranOf : OscillatorBlock → ℕ → List Float → Outcome Ran
 ranOf b rate xs =
     let n = length xs in

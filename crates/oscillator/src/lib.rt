@@ -1,6 +1,6 @@
-// oscillator.rs of the original: a block of a waveform at a frequency of its own, or at the one that a note sets.
-// State goes in by value and is handed back. Left out, as 01 says: `Block`, parameter names and modulation, and with them the
-// pitch offset; noise and its seed; the simd path.
+// oscillator.rs of the original: a block of a waveform at the block's own frequency, or at the frequency of a note.
+// State goes in by value and is handed back. Left out, as 01 says: `Block`, parameter names and modulation, and with
+// them the pitch offset; noise and its seed; the simd path.
 ghost use mathlib.Core.Path.{_≡_};
 ghost use Rattle.answers.specs.Outcome.{leaves};
 ghost use Rattle.oscillator.specs.Oscillator.{newOf, withMidi, withWaveform, withPhase, playedOf, processOf};
@@ -12,7 +12,7 @@ use blocks::Tone;
 use waveform::Radians;
 use waveform::Waveform;
 
-// The frequency of a note, in Hz, or none.
+// The frequency of a note in Hz, or none.
 pub enum MidiFrequency {
     Unset,
     Set(f64),
@@ -25,14 +25,14 @@ pub struct OscillatorBlock {
     pub waveform: Waveform,
 }
 
-// What the block call answers, and the block after it.
+// The answer of the block call, and the block after it.
 pub struct Processed {
     pub answer: Answer,
     pub block: OscillatorBlock,
 }
 
 impl OscillatorBlock {
-    // At phase 0, with the settings as they are given: the block call judges what it uses.
+    // Phase 0, and the settings as given: the block call judges the settings that it uses.
     pub fn new(frequency: f64, waveform: Waveform) -> OscillatorBlock
         ensures { λ r. ⌜ r ≡ newOf frequency waveform ⌝ }
     {
@@ -44,7 +44,7 @@ impl OscillatorBlock {
         }
     }
 
-    // A note's frequency goes before the block's own.
+    // Sets a note's frequency in Hz, which sounds in place of the block's own.
     pub fn set_midi_frequency(self, frequency: f64) -> OscillatorBlock
         ensures { λ r. ⌜ r ≡ withMidi self (Set frequency) ⌝ }
     {
@@ -70,7 +70,7 @@ impl OscillatorBlock {
         }
     }
 
-    // The settings and the note's frequency stay.
+    // Sets the phase to 0; the settings and the note's frequency stay.
     pub fn reset(self) -> OscillatorBlock
         ensures { λ r. ⌜ r ≡ withPhase self (radians naught) ⌝ }
     {
@@ -101,7 +101,7 @@ impl OscillatorBlock {
     }
 }
 
-// The frequency that sounds.
+// The frequency that sounds, in Hz: the note's where it is set, else the block's own.
 fn played(block: OscillatorBlock) -> f64
     ensures { λ r. ⌜ r ≡ playedOf block ⌝ }
 {

@@ -1,5 +1,6 @@
--- The phase stays from 0 to 1: from an accepted state every call hands back an accepted one. 01: "The comment claims [0, 1); the true range is 0 to 1, both ends reached".
--- An accumulator is `Good` where it is accepted and its fields are values of an f32, which is what owning them tells. Assumes nothing.
+-- The phase stays from 0 to 1: from an accepted state every call hands back an accepted one. 01: "The comment claims
+-- [0, 1); the true range is 0 to 1, both ends reached". An accumulator is `Good` where it is accepted and its fields
+-- are values of an f32, as the fields of every accumulator of the code are. Assumes nothing.
 use mathlib.Core.Path.{_≡_, refl}
 use mathlib.Core.List.{List, [], _∷_}
 use mathlib.Core.Bool.{_&&_}
@@ -28,7 +29,7 @@ pub record Good (a : PhaseAccumulator) : Type 0 where
   pub increment-fits : T (fits binary32 (a .increment .0))
   pub accepted : T (isState a)
 
--- the range 0 to 1, by the code's literals and by the numbers
+-- the range from the literal 0.0 to the literal 1.0 is that from `nought` to `unity`
 unit-is : (x : Float) → within (lit0 binary32) (lit1 binary32) x ≡ within nought unity x
 unit-is x = rw (lit0-is binary32, lit1-is binary32) refl
 
@@ -45,7 +46,7 @@ module _ (a : PhaseAccumulator) (g : Good a) where
   increment-finite : T (finite (a .increment .0))
   increment-finite = and-r (within (lit0 binary32) (lit1 binary32) (a .phase .0)) (finite (a .increment .0)) (g .accepted)
 
-  -- phase + increment is finite: 1 and the largest f32 round to the largest
+  -- phase + increment is finite: 1 plus the largest f32 rounds to the largest f32
   sum-finite : T (finite (add binary32 (a .phase .0) (a .increment .0)))
   sum-finite = add-finite-unit binary32 (a .phase .0) (a .increment .0) (g .increment-fits) increment-finite (rw (unit-is (a .phase .0)) at phase-in)
 
@@ -92,7 +93,7 @@ after a (to x) = setPhaseOf a x .accumulator
 after a step = nextOf a .accumulator
 after a reset = resetOf a .accumulator
 
--- the numbers of cycles that a call is given are f32
+-- the cycles that a call is given are values of an f32
 abbrev pub Given : Call → Type 0
 Given (frequency f r) = Unit
 Given (increment x) = T (fits binary32 (x .0))
@@ -107,7 +108,7 @@ after-keeps a (to x) g w = set-phase-keeps a g x w
 after-keeps a step g w = next-keeps a g
 after-keeps a reset g w = reset-keeps a g
 
--- the state after the calls of a list, from a
+-- the state after the calls of a list, from the state a
 unfoldable pub run : PhaseAccumulator → List Call → PhaseAccumulator
 run a [] = a
 run a (c ∷ cs) = run (after a c) cs
@@ -121,6 +122,6 @@ unfolding run AllGiven
 run-keeps a [] g w = g
 run-keeps a (c ∷ cs) g w = run-keeps (after a c) cs (after-keeps a c g (w .0)) (w .1)
 
--- from `new`, through any calls, refused ones too, the phase stays from 0 to 1 and the state is accepted
+-- after any calls from `new`, refused ones included, the state is accepted: its phase is 0 to 1
 pub stays : (cs : List Call) → AllGiven cs → T (isState (run newOf cs))
 stays cs w = run-keeps newOf cs new-good w .accepted

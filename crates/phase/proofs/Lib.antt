@@ -1,7 +1,7 @@
 -- What holds of the accumulator beyond its contracts.
 -- from an accepted state every call hands back an accepted one
 pub mod Keeps
--- both ends reached, and -0
+-- examples: both ends of 0 to 1 are reached, and -0 wraps to +0
 pub mod Marks
 -- two outcomes of a public function are equal
 pub mod Unique

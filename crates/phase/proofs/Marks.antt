@@ -1,4 +1,5 @@
--- The accumulator by example, on the definitions that the contracts cite; 01's mark (h) stands in `marks`. Assumes nothing.
+-- The accumulator by example, on the definitions that the contracts cite; 01's worked example (h) is in the crate
+-- `marks`. Assumes nothing.
 use mathlib.Core.Path.{_≡_, refl}
 use mathlib.Core.List.{[]}
 use lib.Ieee.{Float, binary32, add, sub, neg, lt, le, eq, ofBits, round}
@@ -14,12 +15,12 @@ minusTiny = ofBits binary32 0xb080_0000
 abbrev pub setTo : Float → PhaseAccumulator
 setTo x = setPhaseOf newOf (cyclesOf x) .accumulator
 
--- "floor(-0) is -0": so -0 wraps to +0
+-- "floor(-0) is -0", so -0 wraps to +0
 pub minus-zero : phaseOf (setTo (ofBits binary32 0x8000_0000)) ≡ shownOr [] (lit0 binary32)
 unfolding ofBits le lt eq add sub neg floorOf round
 minus-zero = refl
 
--- both ends of 0 to 1 are reached, and by a step too: from 0 with the increment -2^-30 the phase is 1 after it
+-- both ends of 0 to 1 are reached, 1 by a step too: from phase 0 and the increment -2 ^ -30
 pub record EndsReached : Type 0 where
   pub low : phaseOf (setTo (lit1 binary32)) ≡ shownOr [] (lit0 binary32)
   pub high : phaseOf (setTo minusTiny) ≡ shownOr [] (lit1 binary32)

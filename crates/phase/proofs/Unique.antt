@@ -1,4 +1,5 @@
--- Two outcomes that meet a public function's statement are equal: each statement is an equation with one definition of specs/Phase.antt. Assumes nothing.
+-- Two outcomes that meet a public function's statement are equal: each statement is an equation with one definition of
+-- specs/Phase.antt. Assumes nothing.
 use mathlib.Core.Path.{_≡_, sym, _∙_}
 use lib.Ieee.{Float}
 use Rattle.phase.specs.Phase.{newOf, setFrequencyOf, setIncrementOf, incrementOf, nextOf, phaseOf, setPhaseOf, resetOf}

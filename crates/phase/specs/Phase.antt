@@ -1,6 +1,10 @@
--- The accumulator of phase.rs. 01, "Accumulator: wrap(x) = x - floor(x), in f32, where floor(-0) is -0"; "Accumulator arguments must be finite, its rate above 0 and the quotient finite";
--- "Given states: accumulator phase 0 to 1, increment finite"; number 9 for anything else; "any single value as +0 .. hands back state by value as it came". Count is 0: no samples are written.
--- A given state is judged by every call that takes it, also where the call reads or replaces one field only. Definitions only.
+-- The accumulator of phase.rs. 01: "Accumulator: wrap(x) = x - floor(x), in f32, where floor(-0) is -0"; "Accumulator
+-- arguments must be finite, its rate above 0 and the quotient finite"; "Given states: accumulator phase 0 to 1,
+-- increment finite"; number 9 for anything else, with "any single value as +0", and the call "hands back state by value
+-- as it came".
+--
+-- Every call judges the whole state that it is given, also where it reads or replaces one field only. The count is 0:
+-- no samples are written. Definitions only.
 use mathlib.Core.Bool.{Bool, _&&_}
 use mathlib.Core.List.{List}
 use lib.Ieee.{Float, binary32, add, sub, div, lt}
@@ -35,7 +39,7 @@ withPhase a x = record { phase = cyclesOf x; increment = a .increment }
 abbrev pub withIncrement : PhaseAccumulator → Float → PhaseAccumulator
 withIncrement a x = record { phase = a .phase; increment = cyclesOf x }
 
--- ---- answers, unless the call is refused: then the state as it came, and +0 for a number
+-- ---- what a call leaves, unless it is refused: then the state as it came, and +0 for a number of cycles
 abbrev pub changedOr : List Refusal → PhaseAccumulator → PhaseAccumulator → Changed
 changedOr refusals before after = firstOf refusals (λ (why : Refusal). record { answer = Refused why; accumulator = before }) (record { answer = Done 0; accumulator = after })
 
@@ -47,7 +51,7 @@ steppedOr refusals x before after =
     firstOf refusals (λ (why : Refusal). record { answer = Refused why; cycles = cyclesOf (lit0 binary32); accumulator = before }) (record { answer = Done 0; cycles = cyclesOf x; accumulator = after })
 
 -- ---- the calls
--- at phase zero, with no motion
+-- phase 0 and increment 0
 abbrev pub newOf : PhaseAccumulator
 newOf = record { phase = cyclesOf (lit0 binary32); increment = cyclesOf (lit0 binary32) }
 
@@ -70,10 +74,10 @@ nextOf a = steppedOr (unless (isState a) Argument) (a .phase .0) a (withPhase a 
 abbrev pub phaseOf : PhaseAccumulator → Shown
 phaseOf a = shownOr (unless (isState a) Argument) (a .phase .0)
 
--- any finite number of cycles is wrapped
+-- the phase is set to any finite number of cycles, wrapped
 abbrev pub setPhaseOf : PhaseAccumulator → Cycles → Changed
 setPhaseOf a x = changedOr (unless (isState a && finite (x .0)) Argument) a (withPhase a (wrapOf (x .0)))
 
--- back to phase zero; the increment stays
+-- the phase is set to 0; the increment stays
 abbrev pub resetOf : PhaseAccumulator → Changed
 resetOf a = changedOr (unless (isState a) Argument) a (withPhase a (lit0 binary32))

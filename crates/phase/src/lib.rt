@@ -1,6 +1,6 @@
-// phase.rs of the original: a phase counter in cycles, advanced once a sample, in f32. State goes in by value and is
-// handed back; what the original asserts or leaves open is refused (document 01, number 9). The original's traits are left
-// out. The voice itself counts in radians and does not use it.
+// phase.rs of the original: a phase in cycles, advanced once a sample, in f32. State goes in by value and is handed
+// back; what the original asserts or leaves open is refused with number 9. Left out: the original's traits. The voice
+// has a phase in radians and does not use this crate.
 ghost use mathlib.Core.Path.{_≡_};
 ghost use Rattle.answers.specs.Order.{unless};
 ghost use Rattle.answers.specs.declared.Refusal.the-variants.{Argument};
@@ -9,28 +9,28 @@ ghost use Rattle.phase.specs.Phase.{newOf, setFrequencyOf, setIncrementO
 use answers::Answer;
 use answers::Refusal;
 
-// A number of cycles: a phase in cycles is no phase in radians.
+// A number of cycles, with a type of its own so that cycles and radians stay apart.
 pub struct Cycles(pub f32);
 
-// The phase in cycles, and how many cycles it moves in one sample.
+// The phase, and the increment that a step adds to it.
 pub struct PhaseAccumulator {
     pub phase: Cycles,
     pub increment: Cycles,
 }
 
-// What a call that changes the state answers.
+// The answer of a call that changes the state, and the state after the call.
 pub struct Changed {
     pub answer: Answer,
     pub accumulator: PhaseAccumulator,
 }
 
-// What a call that reads a number of cycles answers.
+// The answer of a call that reads the phase or the increment, and the cycles that it read.
 pub struct Shown {
     pub answer: Answer,
     pub cycles: Cycles,
 }
 
-// What a step answers: the phase before it, and the state after.
+// The answer of a step, the phase before the step, and the state after it.
 pub struct Stepped {
     pub answer: Answer,
     pub cycles: Cycles,
@@ -38,7 +38,7 @@ pub struct Stepped {
 }
 
 impl PhaseAccumulator {
-    // At phase zero, with no motion.
+    // Phase 0 and increment 0.
     pub fn new() -> PhaseAccumulator
         ensures { λ r. ⌜ r ≡ newOf ⌝ }
     {
@@ -48,7 +48,7 @@ impl PhaseAccumulator {
         }
     }
 
-    // The increment from a frequency and a rate in Hz. A negative frequency runs the phase backwards.
+    // Sets the increment to frequency / sample_rate, both in Hz. A negative frequency runs the phase backwards.
     pub fn set_frequency(self, frequency: f32, sample_rate: f32) -> Changed
         ensures { λ r. ⌜ r ≡ setFrequencyOf self frequency «sample_rate» ⌝ }
     {
@@ -61,7 +61,7 @@ impl PhaseAccumulator {
         changed_if(ok, self, with_increment(self, increment))
     }
 
-    // The increment itself, in cycles a sample.
+    // Sets the increment, in cycles a sample.
     pub fn set_increment(self, increment: Cycles) -> Changed
         ensures { λ r. ⌜ r ≡ setIncrementOf self increment ⌝ }
     {
@@ -75,7 +75,7 @@ impl PhaseAccumulator {
         shown_if(is_state(self), self.increment.0)
     }
 
-    // The phase before the step, and the state after it.
+    // Hands out the phase before the step, and the state after it.
     pub fn next(self) -> Stepped
         ensures { λ r. ⌜ r ≡ nextOf self ⌝ }
     {
@@ -89,7 +89,7 @@ impl PhaseAccumulator {
         shown_if(is_state(self), self.phase.0)
     }
 
-    // Any finite number of cycles is wrapped.
+    // Sets the phase to any finite number of cycles, wrapped.
     pub fn set_phase(self, phase: Cycles) -> Changed
         ensures { λ r. ⌜ r ≡ setPhaseOf self phase ⌝ }
     {
@@ -97,7 +97,7 @@ impl PhaseAccumulator {
         changed_if(ok, self, with_phase(self, wrap(phase.0)))
     }
 
-    // Back to phase zero; the increment stays.
+    // Sets the phase to 0; the increment stays.
     pub fn reset(self) -> Changed
         ensures { λ r. ⌜ r ≡ resetOf self ⌝ }
     {
@@ -105,7 +105,7 @@ impl PhaseAccumulator {
     }
 }
 
-// A state that is accepted: the phase from 0 to 1, the increment finite.
+// Whether a given state is accepted: phase 0 to 1, increment finite.
 fn is_state(a: PhaseAccumulator) -> bool
     ensures { λ r. ⌜ r ≡ isState a ⌝ }
 {
@@ -113,7 +113,7 @@ fn is_state(a: PhaseAccumulator) -> bool
     (0.0 <= phase) & (phase <= 1.0) & floats::is_finite_f32(a.increment.0)
 }
 
-// x less its floor: of a finite x from 0 to 1, both ends reached.
+// x - floor(x), which for a finite x is 0 to 1, both ends reached.
 fn wrap(x: f32) -> f32
     ensures { λ r. ⌜ r ≡ wrapOf x ⌝ }
 {
@@ -140,7 +140,7 @@ fn with_increment(a: PhaseAccumulator, increment: f32) -> PhaseAccumulator
     }
 }
 
-// The state after, or a refusal with the state as it came.
+// Done, with the state after, where ok is true; else a refusal with the state as it came.
 fn changed_if(ok: bool, before: PhaseAccumulator, after: PhaseAccumulator) -> Changed
     ensures { λ r. ⌜ r ≡ changedOr (unless ok Argument) before after ⌝ }
 {
@@ -156,7 +156,7 @@ fn changed_if(ok: bool, before: PhaseAccumulator, after: PhaseAccumulator) -> Ch
     }
 }
 
-// The number, or a refusal with +0.
+// Done, with the cycles, where ok is true; else a refusal with +0.
 fn shown_if(ok: bool, cycles: f32) -> Shown
     ensures { λ r. ⌜ r ≡ shownOr (unless ok Argument) cycles ⌝ }
 {
@@ -172,7 +172,7 @@ fn shown_if(ok: bool, cycles: f32) -> Shown
     }
 }
 
-// The number and the state after, or a refusal with +0 and the state as it came.
+// Done, with the cycles and the state moved, where ok is true; else a refusal with +0 and the state as it came.
 fn stepped_if(ok: bool, cycles: f32, came: PhaseAccumulator, moved: PhaseAccumulator) -> Stepped
     ensures { λ r. ⌜ r ≡ steppedOr (unless ok Argument) cycles came moved ⌝ }
 {

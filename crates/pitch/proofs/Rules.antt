@@ -1,4 +1,5 @@
--- The rules of the 128 pitches: strictly rising, in tune, above 0 and at most 12,544. One test over the list, carried to every note. Assumes nothing.
+-- The rules of the 128 pitches: strictly rising, in tune, above 0 and at most 12,544 Hz. One test computed over the
+-- table gives the rules at every note. Assumes nothing.
 use mathlib.Core.Path.{_≡_, refl, ap}
 use mathlib.Core.Bool.{Bool, true, false, not, _&&_, _||_}
 use Prim.Native.Nat.{ℕ, suc, _*_, _^_, _<_, _≤_}
@@ -22,7 +23,7 @@ use Rattle.domain.specs.Domain.{highestPitch, isPitch}
 use Rattle.pitch.specs.Tuning.{InTune, tempered}
 use Rattle.floats.proofs.Carried.{every, at}
 
--- ---- the test at note k, whose pattern is b and whose pitch is x
+-- ---- the test at note k, whose bits are b and whose pitch is x
 abbrev rises : ℕ → Float → Bool
 rises k x = leb 127 k || lt x (ofBits binary32 (getD patterns (suc k) 0))
 
@@ -45,7 +46,7 @@ all-right : T (every right 0 patterns)
 unfolding patterns ofBits lt le
 all-right = tt
 
--- there are 128
+-- the table has 128 pitches
 count : length patterns ≡ 128
 unfolding patterns
 count = refl
@@ -88,12 +89,12 @@ module _ (note : ℕ) (h : note < 128) where
         below = ltb→lt _ _ (and-r (above note x) (below note x) tuned);
       }
 
-  -- above 0 and at most 12,544: as an f32 and as an f64
+  -- above 0 and at most 12,544 Hz, as an f32 and as an f64
   pub frequency-in : T (isPitch binary64 (frequencyOf note))
   unfolding frequencyOf
   frequency-in = and-r (above note x && below note x) (ranged x) rest
 
-  -- so it is finite, and has a size
+  -- the size is at most 12,544 Hz, so the pitch is finite
   pub frequency-sized : Size (highestPitch binary64) (frequencyOf note)
   frequency-sized =
       size-of-range (highestPitch binary64) (frequencyOf note) highest-finite
@@ -104,17 +105,17 @@ module _ (note : ℕ) (h : note < 128) where
   pub frequency-finite : T (finite (frequencyOf note))
   frequency-finite = size-finite (highestPitch binary64) (frequencyOf note) frequency-sized
 
--- each note lies above the one before it
+-- the pitch of each note is below that of the next
 pub frequency-rises : (note : ℕ) → note < 127 → T (lt (frequencyOf note) (frequencyOf (suc note)))
 frequency-rises note h = rises-at note (omega arith) h
 
--- note 69 is 440
+-- note 69 is 440 Hz
 pub concert-pitch : frequencyOf 69 ≡ ofBits binary64 0x407b_8000_0000_0000
 unfolding frequencyOf patterns ofBits
 concert-pitch = refl
 
--- ---- of every number, notes or not
--- what is above 0 is no NaN
+-- ---- for every number, a note or not
+-- x is above 0: x is no NaN
 above-no-nan : (x : Float) → T (lt naught x) → T (not (isNan x))
 unfolding ofBits lt isNan
 above-no-nan nan h = h
@@ -125,17 +126,17 @@ naught-no-nan : T (not (isNan naught))
 unfolding ofBits isNan
 naught-no-nan = tt
 
--- past the last note +0
+-- above note 127 the pitch is +0
 pub frequency-past : (note : ℕ) → 128 ≤ note → frequencyOf note ≡ naught
 unfolding frequencyOf ofBits
 frequency-past note h = ap (ofBits binary32) (List·getD-eq-default patterns 0 (rw count h))
 
--- an f32, so an f64 holds it
+-- a pitch is a value of an f32, hence of an f64
 pub frequency-fits : (note : ℕ) → T (fits binary32 (frequencyOf note))
 unfolding frequencyOf
 frequency-fits note = ofBits-fits binary32 (getD patterns note 0)
 
--- no NaN
+-- no pitch is a NaN
 pub frequency-no-nan : (note : ℕ) → T (not (isNan (frequencyOf note)))
 frequency-no-nan note = go (ltb note 128) refl
   where
@@ -143,7 +144,7 @@ frequency-no-nan note = go (ltb note 128) refl
     go true e = above-no-nan (frequencyOf note) (and-l (lt naught (frequencyOf note)) (le (frequencyOf note) (highestPitch binary64)) (frequency-in note (ltb-true note 128 e)))
     go false e = rw (frequency-past note (ltb-false note 128 e)) naught-no-nan
 
--- so the cast to an f64 loses nothing
+-- the cast of a pitch to an f64 loses nothing
 pub frequency-widens : (note : ℕ) → T (fits binary64 (frequencyOf note) && not (isNan (frequencyOf note)))
 frequency-widens note =
     and-i (fits binary64 (frequencyOf note)) (not (isNan (frequencyOf note))) (fits-widens (frequencyOf note) (frequency-fits note)) (frequency-no-nan note)

@@ -1,5 +1,8 @@
--- The 128 pitches. 01: "The 128 pitches are a table of the f32 answers of `midi_note_to_frequency`". These are the bits of what the original answers at notes 0 to 127, an octave to a line:
--- bbx_audio built unchanged on libm 0.2.1, whose `powf` differs from the C library's at notes 8, 20 and 76. Note 69 is 440, ISO 16's A. Definitions only.
+-- The 128 pitches. 01: "The 128 pitches are a table of the f32 answers of `midi_note_to_frequency`".
+--
+-- Each number is the bits of the original's answer in Hz, notes 0 to 127, an octave to a line: bbx_audio built
+-- unchanged on libm 0.2.1, whose `powf` differs from the C library's at notes 8, 20 and 76. Note 69 is 440 Hz, ISO 16's
+-- A. Definitions only.
 use mathlib.Core.List.{List, [], _∷_}
 use Prim.Native.Nat.{ℕ}
 

@@ -1,5 +1,8 @@
--- The pitch of a note. 01: "a table of the f32 answers of `midi_note_to_frequency`, widened"; "Notes and velocities are 0 to 127"; number 9 for any other note, with +0 for the number.
--- An f32 is the same number as an f64, so both readers have one definition. No samples are written: count is 0. Definitions only.
+-- The pitch of a note. 01: "a table of the f32 answers of `midi_note_to_frequency`, widened"; "Notes and velocities are
+-- 0 to 127"; number 9 for any other note, with "any single value as +0".
+--
+-- A value of an f32 is the same number as an f64, so both widths have one definition. The count is 0: no samples are
+-- written. Definitions only.
 use mathlib.Core.List.{List}
 use Prim.Native.Nat.{ℕ}
 use lib.ListN.{getD}
@@ -14,11 +17,11 @@ use Rattle.answers.specs.Value.{valueOr}
 use Rattle.pitch.specs.Patterns.{patterns}
 use Rattle.pitch.specs.declared.Frequency.{Frequency}
 
--- the number of the table; +0 above 127
+-- the pitch of a note in Hz, from the table; +0 above 127
 unfoldable pub frequencyOf : ℕ → Float
 frequencyOf note = ofBits binary32 (getD patterns note 0)
 
--- the number, unless the call is refused
+-- done, with the number x, unless the call is refused: then +0
 abbrev pub frequencyOr : List Refusal → Float → Frequency
 frequencyOr refusals x = firstOf refusals (λ (why : Refusal). record { answer = Refused why; value = ofBits binary32 0 }) (record { answer = Done 0; value = x })
 

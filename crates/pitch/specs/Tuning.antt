@@ -1,5 +1,7 @@
--- How near a pitch lies to equal temperament. 01: "each entry times 1.000001 lies above the equal-tempered pitch and times 0.999999 below it, compared at twelfth powers
--- (440^12 * 2^(note - 69)) over whole numbers". x is num x / den x; both sides are multiplied by 2^69, by 1000000^12 and by den x ^ 12. Definitions only.
+-- How near a pitch is to equal temperament. 01: "each entry times 1.000001 lies above the equal-tempered pitch and
+-- times 0.999999 below it, compared at twelfth powers (440^12 * 2^(note - 69)) over whole numbers".
+--
+-- A pitch x is num x / den x; both sides are multiplied by 2^69, by 1000000^12 and by den x ^ 12. Definitions only.
 use Prim.Native.Nat.{ℕ, _*_, _^_, _<_}
 use lib.Ieee.{Float}
 use lib.Ieee.Positive.{num, den}

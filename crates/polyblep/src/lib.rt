@@ -1,6 +1,6 @@
-// polyblep.rs of the original: corrections that round the corners of a waveform, and four waveforms over them, in f64.
-// The calls of document 01 judge their arguments; the plain functions under them take any number and are what a
-// waveform's inner loop uses. Left out: the simd lanes.
+// polyblep.rs of the original, in f64: corrections for the steps (`poly_blep`) and the corners (`poly_blamp`) of a
+// naive waveform, and four corrected waveforms. The calls of 01 judge their arguments; the functions under them take
+// any number, and a waveform's inner loop uses these. Left out: the simd lanes.
 ghost use mathlib.Core.Path.{_≡_};
 ghost use Rattle.polyblep.specs.Polyblep.{sideOf, blepOf, blampOf, fractOf, stepOf, climbOf, riseOf, fallOf, rampOf, sawOf, squareOf, pulseOf, triangleOf};
 ghost use Rattle.polyblep.specs.Calls.{polyBlepOf, polyBlampOf, polyblepSawOf, polyblepSquareOf, polyblepPulseOf, polyblampTriangleOf};
@@ -10,26 +10,26 @@ use answers::Value;
 // 1.0 / 3.0
 pub const THIRD: f64 = 0.3333333333333333;
 
-// A square and a pulse before their edge, and from it on.
+// The levels of a square and a pulse: HIGH before the edge, LOW from the edge on.
 pub const HIGH: f64 = 1.0;
 
 pub const LOW: f64 = -1.0;
 
-// The side of a step on which a phase lies, with the distance from it in samples.
+// Where a phase lies from a step: x samples after it, x samples before it (x at most 0), or a sample or more away.
 pub enum Side {
     After(f64),
     Before(f64),
     Away,
 }
 
-// The correction at a step, t being the phase from it and dt the phase of one sample, both in cycles.
+// The correction at a step: t is the phase from the step and dt the phase of one sample, both in cycles.
 pub fn poly_blep(t: f64, dt: f64) -> Value
     ensures { λ r. ⌜ r ≡ polyBlepOf t dt ⌝ }
 {
     answers::value_if(domain::is_phase(t, dt), Refusal::Argument, blep(t, dt))
 }
 
-// The correction at a corner.
+// The correction at a corner, the integrated form of that at a step; t and dt are in cycles.
 pub fn poly_blamp(t: f64, dt: f64) -> Value
     ensures { λ r. ⌜ r ≡ polyBlampOf t dt ⌝ }
 {
@@ -134,7 +134,7 @@ pub fn triangle(phase: f64, dt: f64) -> f64
     ramp(phase) + 8.0 * low - 8.0 * high
 }
 
-// Where the phase t lies from a step at 0 and 1: x samples after it, x (not above 0) before it, or a sample or farther.
+// The side of the step at phase 0, which is also the step at phase 1, with the distance from it in samples.
 fn side_of(t: f64, dt: f64) -> Side
     ensures { λ r. ⌜ r ≡ sideOf t dt ⌝ }
 {
@@ -147,7 +147,7 @@ fn side_of(t: f64, dt: f64) -> Side
     Side::Away
 }
 
-// 1 before the edge, -1 from it on.
+// 1 before the edge, -1 from the edge on.
 pub fn step(phase: f64, edge: f64) -> f64
     ensures { λ r. ⌜ r ≡ stepOf phase edge ⌝ }
 {
@@ -157,7 +157,7 @@ pub fn step(phase: f64, edge: f64) -> f64
     LOW
 }
 
-// Up from -1 to 1 and down again.
+// The naive triangle: from -1 at phase 0 up to 1 at phase 0.5, and down to -1 at phase 1.
 pub fn ramp(phase: f64) -> f64
     ensures { λ r. ⌜ r ≡ rampOf phase ⌝ }
 {
@@ -167,21 +167,21 @@ pub fn ramp(phase: f64) -> f64
     fall(phase)
 }
 
-// A sawtooth without its correction.
+// The naive sawtooth: from -1 at phase 0 up to 1 at phase 1.
 pub fn climb(phase: f64) -> f64
     ensures { λ r. ⌜ r ≡ climbOf phase ⌝ }
 {
     2.0 * phase - 1.0
 }
 
-// A triangle before the half, without its corrections.
+// The naive triangle below phase 0.5.
 pub fn rise(phase: f64) -> f64
     ensures { λ r. ⌜ r ≡ riseOf phase ⌝ }
 {
     4.0 * phase - 1.0
 }
 
-// And behind it.
+// The naive triangle from phase 0.5 on.
 pub fn fall(phase: f64) -> f64
     ensures { λ r. ⌜ r ≡ fallOf phase ⌝ }
 {

@@ -1,5 +1,7 @@
--- Runs. j steps, and then k from where they lead, are j + k steps: the law behind odd buffers and re-renders. What each step keeps holds throughout; and two runs side by side stay as their steps keep them, so that steps which
--- agree on the states that a run meets give the same run, and a run whose step does not use its number may begin at any. Assumes nothing.
+-- Laws of runs. j steps, and then k steps from the state reached, are j + k steps: the law behind odd buffers and
+-- re-renders. What every step keeps holds after any number of steps. Two runs side by side keep a relation that their
+-- steps keep; so steps that agree on the states of a run give the same run, and a run whose step ignores its number may
+-- begin at any number. Assumes nothing.
 use mathlib.Core.Path.{_≡_, refl, ap, _∙_}
 use mathlib.Core.List.{_++_}
 use Prim.Native.Nat.{ℕ, zero, suc, _+_, _<_}
@@ -38,11 +40,11 @@ module _ {A : Type 0} (step : ℕ → A → A) (n : ℕ) (v : A) where
   run-keeps P s h zero = rw (add-zero n) h
   run-keeps P s h (suc k) = rw (add-suc n k) (s (n + k) (run step n v k) (run-keeps P s h k))
 
-  -- ---- steps that agree on the states that the run meets
+  -- ---- steps that agree on the states of the run
   pub run-same : (other : ℕ → A → A) (k : ℕ) → ((i : ℕ) → i < k → step (n + i) (run step n v i) ≡ other (n + i) (run step n v i)) → run step n v k ≡ run other n v k
   run-same other k e = run-beside step other n n v v (λ (i : ℕ) (x y : A). x ≡ y) refl k (λ i l h. e i l ∙ ap (other (n + i)) h)
 
--- ---- a step that knows no number
+-- ---- a step that ignores its number
 module _ {A : Type 0} (step : A → A) (v : A) where
   pub run-shifts : (n m k : ℕ) → run (λ i. step) n v k ≡ run (λ i. step) m v k
   run-shifts n m k = run-beside (λ i. step) (λ i. step) n m v v (λ i x y. x ≡ y) refl k (λ i l h. ap step h)

@@ -1,4 +1,5 @@
--- A list made by number: as long as was asked for, its i-th element is f i, it may be cut anywhere, and what agrees at each number gives the same list. Assumes nothing.
+-- `listed f k` has the length k, its element i is f i, it may be cut anywhere, and functions that agree below k give
+-- the same list. Assumes nothing.
 use mathlib.Core.Path.{_≡_, refl, sym}
 use mathlib.Core.List.{[], _∷_, _++_, append-assoc, append-nil}
 use mathlib.Core.Logic.{⊎-elim}

@@ -1,5 +1,8 @@
--- A run of a step, and what is seen on the way. A step knows its number and the state before it; where it does not use its number, any may be given. All is said from a state v before step n, so that what begins at 0 and
--- what goes on from somewhere are one definition. Definitions only.
+-- A run: a step applied k times, and what is seen of the state before each step.
+--
+-- A step is given its number and the state before it; a step that ignores its number may be given any. A run begins
+-- from a state v before step n, so that a run from step 0 and a run that continues are one definition.
+-- Definitions only.
 use mathlib.Core.List.{List, [], _∷_, _++_}
 use Prim.Native.Nat.{ℕ, zero, suc, _+_}
 
@@ -8,11 +11,11 @@ unfoldable pub run : {A : Type 0} → (ℕ → A → A) → ℕ → A → ℕ �
 run step n v zero = v
 run step n v (suc k) = step (n + k) (run step n v k)
 
--- the same of a step that knows no number
+-- the state after k steps that ignore their numbers
 abbrev pub repeated : {A : Type 0} → (A → A) → A → ℕ → A
 repeated step v k = run (λ i. step) 0 v k
 
--- f 0 to f (k - 1)
+-- the list f 0, f 1, .., f (k - 1)
 unfoldable pub listed : {A : Type 0} → (ℕ → A) → ℕ → List A
 listed f zero = []
 listed f (suc k) = listed f k ++ (f k ∷ [])

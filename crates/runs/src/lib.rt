@@ -1,2 +1,3 @@
-// A run: a state that steps move on, one after the other, and what is seen of it on the way. A render, a walk through a score,
-// an envelope and a phase are runs, and what holds of every run ("cut anywhere") is proved here once. No function.
+// A run: a step that changes a state again and again, and what is seen of the state before each step. A render, a walk
+// through a score, an envelope and a phase are runs; the laws of every run (01: "cut anywhere") are proved here once.
+// No function.

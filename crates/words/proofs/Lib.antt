@@ -1,7 +1,7 @@
 -- What the proofs of this crate cite.
--- a word's bytes, one by one
+-- the bytes of a word one by one
 pub mod Sums
--- where a pattern or a float is a NaN
+-- when a pattern or a float is a NaN
 pub mod Nans
 -- two outcomes of a public function are equal
 pub mod Unique

@@ -1,4 +1,4 @@
--- A word's bytes, one by one, and what its test of the length says. Assumes nothing.
+-- The bytes of a word one by one, and what the test of the length decides. Assumes nothing.
 use mathlib.Core.Path.{_≡_, refl}
 use mathlib.Core.List.{List}
 use Prim.Native.Nat.{ℕ, _+_, _-_, _*_, _≤_, _<_}
@@ -8,17 +8,17 @@ use borrow.Author.Tests.{le-leb, lt-leb}
 use lib.ListN.{length, getD}
 use Rattle.words.specs.Words.{wordOf, lowFirst, wordAt}
 
--- four bytes
+-- four bytes are `wordOf` of the four
 pub four-is : (b : List ℕ) (at : ℕ) → lowFirst 4 b at ≡ wordOf (getD b at 0) (getD b (at + 1) 0) (getD b (at + 2) 0) (getD b (at + 3) 0)
 unfolding lowFirst
 four-is b at = simp add-assoc (omega arith)
 
--- eight bytes are four, and four 2 ^ 32 higher
+-- eight bytes are the first four plus 2 ^ 32 times the last four
 pub eight-is : (b : List ℕ) (at : ℕ) → lowFirst 8 b at ≡ lowFirst 4 b at + 4294967296 * lowFirst 4 b (at + 4)
 unfolding lowFirst
 eight-is b at = simp add-assoc (omega arith)
 
--- the bytes are not all there, or they are
+-- the n bytes pass the end: the word is 0; else it is their number
 pub word-short : (n : ℕ) (b : List ℕ) (at : ℕ) → length b < at + n → 0 ≡ wordAt n b at
 unfolding wordAt
 word-short n b at h = rw (lt-leb (at + n) (length b) h) refl

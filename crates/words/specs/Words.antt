@@ -1,20 +1,21 @@
--- A number that stands in bytes, low byte first. The bits of a float are those of the logic's account of IEEE 754 (`ofBits`, `toBits`), where every NaN pattern is the one NaN. Definitions only.
+-- A number in bytes, low byte first. The bits of a float are those of the logic's account of IEEE 754 (`ofBits`,
+-- `toBits`), where every NaN pattern is the one NaN. Definitions only.
 use mathlib.Core.Bool.{cond}
 use mathlib.Core.List.{List}
 use Prim.Native.Nat.{ℕ, zero, suc, _+_, _*_}
 use lib.Dec.{leb}
 use lib.ListN.{length, getD}
 
--- four bytes as one number
+-- four bytes as one number, low byte first
 abbrev pub wordOf : ℕ → ℕ → ℕ → ℕ → ℕ
 wordOf a b c d = a + b * 256 + c * 65536 + d * 16777216
 
--- the n bytes from `at` on, the first counting ones, the next 256, ..
+-- the n bytes from index `at` on as one number: the first byte counts 1, the next 256, and so on
 unfoldable pub lowFirst : ℕ → List ℕ → ℕ → ℕ
 lowFirst zero bytes at = 0
 lowFirst (suc n) bytes at = getD bytes at 0 + 256 * lowFirst n bytes (at + 1)
 
--- that number, or 0 where the bytes are not all there
+-- the n bytes from index `at` on as one number, or 0 where they pass the end
 unfoldable pub wordAt : ℕ → List ℕ → ℕ → ℕ
 unfolding lowFirst
 wordAt n bytes at = cond (leb (at + n) (length bytes)) (lowFirst n bytes at) 0

@@ -1,5 +1,5 @@
-// Numbers in bytes, low byte first, and floats as their bits, NaN too: how rows of vectors are read, and how a shelf's words
-// are. Writing bytes is left out.
+// Numbers in bytes, low byte first, and floats as their bits, NaN included: how rows of test vectors and the words of a
+// shelf are read. Left out: writing bytes.
 ghost use mathlib.Core.Path.{_≡_};
 ghost use Prim.Native.Nat.{_+_, _*_, _≤_};
 ghost use lib.ListN.{length};
@@ -17,7 +17,7 @@ pub fn word_of(a: u8, b: u8, c: u8, d: u8) -> u32
     a + b * 256 + c * 65536 + d * 16777216
 }
 
-// The four bytes from `at` on as a number, or 0 where they are not all there.
+// The four bytes from index `at` on as a number, low byte first; 0 where they pass the end of the slice.
 pub fn u32_at(bytes: &[u8], at: usize) -> u32
     ensures { λ r. ⌜ r ≡ wordAt 4 (now (bytes .entry)) at ⌝ }
 {
@@ -30,7 +30,7 @@ pub fn u32_at(bytes: &[u8], at: usize) -> u32
     four(bytes, at)
 }
 
-// The eight bytes from `at` on as a number, or 0 where they are not all there.
+// The eight bytes from index `at` on as a number, low byte first; 0 where they pass the end of the slice.
 pub fn u64_at(bytes: &[u8], at: usize) -> u64
     ensures { λ r. ⌜ r ≡ wordAt 8 (now (bytes .entry)) at ⌝ }
 {
@@ -45,7 +45,7 @@ pub fn u64_at(bytes: &[u8], at: usize) -> u64
     low + 0x1_0000_0000 * high
 }
 
-// The f32 with these bits.
+// The f32 with these bits; the bits of any NaN give the NaN 0.0 / 0.0.
 pub fn f32_of(bits: u32) -> f32
     ensures { λ r. ⌜ r ≡ ofBits binary32 bits ⌝ }
 {
@@ -55,7 +55,7 @@ pub fn f32_of(bits: u32) -> f32
     f32::from_bits(bits)
 }
 
-// The bits of an f32; a NaN's are 7fc00000, whichever it is.
+// The bits of an f32; 7fc00000 for any NaN.
 pub fn f32_bits(x: f32) -> u32
     ensures { λ r. ⌜ r ≡ toBits binary32 x ⌝ }
 {
@@ -65,7 +65,7 @@ pub fn f32_bits(x: f32) -> u32
     f32::to_bits(x)
 }
 
-// The f64 with these bits.
+// The f64 with these bits; the bits of any NaN give the NaN 0.0 / 0.0.
 pub fn f64_of(bits: u64) -> f64
     ensures { λ r. ⌜ r ≡ ofBits binary64 bits ⌝ }
 {
@@ -75,7 +75,7 @@ pub fn f64_of(bits: u64) -> f64
     f64::from_bits(bits)
 }
 
-// The bits of an f64; a NaN's are 7ff8000000000000, whichever it is.
+// The bits of an f64; 7ff8000000000000 for any NaN.
 pub fn f64_bits(x: f64) -> u64
     ensures { λ r. ⌜ r ≡ toBits binary64 x ⌝ }
 {

@@ -1,4 +1,4 @@
--- `blocks::run` meets its contract: each way out is a law of Outcomes.antt. Assumes nothing.
+-- `blocks::run` meets its contract: each return is a law of Outcomes.antt. Assumes nothing.
 use borrow.Author.Needs.{needs}
 use mathlib.Core.Bool.{_&&_}
 use denote.Ref.{now}

@@ -1,4 +1,4 @@
--- `floats::floor_by_bits` meets its contract: each return is one law of Tests.antt, at this width. Assumes nothing.
+-- `floats::floor_by_bits` meets its contract: each return is one law of Tests.antt, at 64 bits. Assumes nothing.
 use borrow.Author.Needs.{needs}
 use mathlib.Core.Path.{_∙_}
 use mathlib.Core.Bool.{true, false}
@@ -11,7 +11,7 @@ use Rattle.floats.proofs.Tests.{no-nan, floor-nan, returns-large, retur
 use Rattle.floats.proofs.floor_by_bits.Statement.{statement}
 use Rattle.floats.proofs.floor_by_bits.Tie as tie
 
--- what owning a float tells: its format holds it
+-- the argument is a value of an f64
 held : (c : tie.Start) → T (fits binary64 (c .args .x))
 held c = search needs
 
@@ -49,7 +49,7 @@ sub-whole c = search needs
 whole-requires : tie.Need-whole-requires
 whole-requires c κs = search needs
 
--- the whole part has no more digits than a float keeps
+-- the whole part is at most 2 ^ 53, so the cast to an f64 is exact
 few : (c : tie.After-whole) → c .whole .result ≤ 2 ^ 53
 few c = omega (arith, c .whole .ensures .1)
 

@@ -1,4 +1,4 @@
--- `floats::floor_f64` meets its contract. Assumes nothing.
+-- `floats::floor_f64` meets its contract: inside 0 < x < 2 by Low.antt, else by `floor_by_bits`. Assumes nothing.
 use borrow.Author.Needs.{needs}
 use Rattle.floats.proofs.Low.{below-one, from-one}
 use Rattle.floats.proofs.floor_f64.Statement.{statement}

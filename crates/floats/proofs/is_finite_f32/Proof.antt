@@ -1,4 +1,5 @@
--- `floats::is_finite_f32` meets its contract: what is finite is what lies between the largest f32 and its negative. Assumes nothing.
+-- `floats::is_finite_f32` meets its contract: a finite f32 lies between the largest f32 and its negation.
+-- Assumes nothing.
 use borrow.Author.Needs.{needs}
 use mathlib.Core.Path.{refl}
 use lib.Ieee.{binary32}

@@ -11,7 +11,7 @@ use Rattle.floats.proofs.Roof.{whole-le}
 use Rattle.floats.proofs.whole.Statement.{statement}
 use Rattle.floats.proofs.whole.Tie as tie
 
--- 2 ^ k for a k below 53
+-- k < 53: 2 ^ k is at most 2 ^ 52
 power-le : (k : ℕ) → k < 53 → 2 ^ k ≤ 4503599627370496
 power-le k h = pow-mono {j = 52} (nat.le-of-suc-le-suc h)
 
