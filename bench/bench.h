@@ -26,7 +26,7 @@ render floor_render;
 void library_prepare(size_t samples);
 render ours_render, plain_render;
 void ours_continue(const struct gav_settings *settings, const struct score *score, double *out, size_t n, size_t part);
-void ours_from_mark(const struct gav_settings *settings, const struct score *score, double *out, size_t n, size_t mark);
+void ours_from(const struct gav_settings *settings, const struct score *score, double *out, size_t n, size_t from);
 size_t ours_rerender(const struct gav_settings *settings, const struct score *old, const struct score *new_,
                      double *out, size_t n);
 

@@ -35,7 +35,7 @@ static double time_edit(struct bench *b, const struct score *edited, size_t pair
 /* Nanoseconds of the last so many samples: those of one continuing call, less its check. */
 static double time_samples(struct bench *b, size_t count, size_t rounds) {
     double start = now();
-    for (size_t k = 0; k < rounds; k++) ours_from_mark(&b->settings, &b->score, b->out, b->samples, b->samples - count);
+    for (size_t k = 0; k < rounds; k++) ours_from(&b->settings, &b->score, b->out, b->samples, b->samples - count);
     return (now() - start) / (double)rounds - check_time(&b->score, gav_check_score, 1);
 }
 

@@ -38,10 +38,10 @@ void ours_continue(const struct gav_settings *s, const struct score *score, doub
     }
 }
 
-void ours_from_mark(const struct gav_settings *s, const struct score *score, double *out, size_t n, size_t mark) {
+void ours_from(const struct gav_settings *s, const struct score *score, double *out, size_t n, size_t from) {
     uint64_t state[GAV_STATE_WORDS];
-    memcpy(state, shelf + mark / GAV_MARK * GAV_STATE_WORDS, sizeof state);
-    done(gav_continue_with(s, score->bytes, score->len, state, GAV_STATE_WORDS, mark, out + mark, n - mark));
+    memcpy(state, shelf + from / GAV_MARK * GAV_STATE_WORDS, sizeof state);
+    done(gav_continue_with(s, score->bytes, score->len, state, GAV_STATE_WORDS, from, out + from, n - from));
 }
 
 size_t ours_rerender(const struct gav_settings *s, const struct score *old, const struct score *new_, double *out,

@@ -57,7 +57,7 @@ static bool rerender_sound(struct rerender *r, struct why *why) {
 /* Every section that is not rendered again must have the shelf's sum: those before the first that is, or all where none
    is. */
 static bool rest_is_kept(const struct rerender *r, struct why *why) {
-    size_t mark = r->about.samples - r->count, stay = (mark + GAV_MARK - 1) / GAV_MARK, differ = 0, first = 0;
+    size_t from = r->about.samples - r->count, stay = (from + GAV_MARK - 1) / GAV_MARK, differ = 0, first = 0;
     for (size_t i = stay; i-- > 0;) {
         if (section_sum(&r->wav, r->wav_file.at, i) == shelf_sum(r->shelf_file.at, i)) continue;
         differ++;
@@ -110,7 +110,7 @@ static void tell_foreign(const struct rerender *r) {
 
 /* The peak of the whole sound, of which the voice made only the end. */
 static void tell(struct rerender *r) {
-    size_t samples = r->about.samples, mark = samples - r->count;
+    size_t samples = r->about.samples, from = samples - r->count;
     const char *of = counted(samples, "sample", "samples");
     if (r->equal) {
         printf("%s: 0 of %zu %s change: %s is of this score already\n", r->wav_path, samples, of, r->shelf_path);
@@ -118,7 +118,7 @@ static void tell(struct rerender *r) {
         printf("%s: 0 of %zu %s change; left as it is\n", r->wav_path, samples, of);
     } else {
         printf("%s: %zu of %zu %s rendered again, from sample %zu (%.3f s) on\n", r->wav_path, r->count, samples, of,
-               mark, (double)mark / r->about.settings.rate);
+               from, (double)from / r->about.settings.rate);
     }
     tell_foreign(r);
     wav_values(&r->wav, r->wav_file.at, 0, samples, r->sound.at);

@@ -11,7 +11,7 @@ import ctypes
 import os
 import sys
 
-VERSION, MARK, STATE_WORDS = 1, 4096, 12  # GAV_VERSION, GAV_MARK and GAV_STATE_WORDS of gavberin.h
+VERSION, SECTION, STATE_WORDS = 1, 4096, 12  # GAV_VERSION, GAV_MARK and GAV_STATE_WORDS of gavberin.h
 SAWTOOTH = 2
 
 library = ctypes.CDLL(os.environ.get("GAVBERIN_SO", f"libgavberin.so.{VERSION}"))
@@ -25,7 +25,7 @@ library.gav_render.restype = ctypes.c_uint64
 def render(score, n, rate=48000, code=SAWTOOTH, duty=0.5, attack=0.01, decay=0.1, sustain=0.7, release=0.3):
     """The samples of a score, and the words of their shelf."""
     out = (ctypes.c_double * n)()
-    shelf = (ctypes.c_uint64 * (-(-n // MARK) * STATE_WORDS))()
+    shelf = (ctypes.c_uint64 * (-(-n // SECTION) * STATE_WORDS))()
     settings = rate, code, duty, attack, decay, sustain, release
     said = library.gav_render(*settings, score, len(score), out, len(out), shelf, len(shelf))
     number, place = said & 0xFF, said >> 8 & 0xFFFFFF

@@ -125,9 +125,9 @@ impl Asked {
 
     /// Whether the entry that a re-render starts from is no state at the start of its section.
     fn is_lost(&self) -> bool {
-        mark_of(&self.old, &self.score, self.samples).is_some_and(|mark| {
-            let below = records(&self.score).iter().filter(|record| record.position < mark).count();
-            let entry = (self.samples + 12 * (mark / MARK)) as usize;
+        start_of(&self.old, &self.score, self.samples).is_some_and(|from| {
+            let below = records(&self.score).iter().filter(|record| record.position < from).count();
+            let entry = (self.samples + 12 * (from / MARK)) as usize;
             let words: &Words = self.left[entry..entry + 12].try_into().unwrap();
             !(is_state(words) && words[5] >> 16 == below as u64)
         })
@@ -135,9 +135,9 @@ impl Asked {
 
     /// The first sample, and the first word of the shelf, that the call writes.
     fn start(&self) -> (u64, u64) {
-        match mark_of(&self.old, &self.score, self.samples) {
+        match start_of(&self.old, &self.score, self.samples) {
             _ if self.op != RERENDER => (0, 0),
-            Some(mark) => (mark, 12 * (mark / MARK)),
+            Some(from) => (from, 12 * (from / MARK)),
             None => (self.samples, self.shelf),
         }
     }
@@ -203,7 +203,7 @@ pub fn shelf_words(samples: u64) -> u64 {
 }
 
 /// The sample at which a re-render starts, by 01; none where it writes nothing.
-pub fn mark_of(old: &[u8], new: &[u8], length: u64) -> Option<u64> {
+pub fn start_of(old: &[u8], new: &[u8], length: u64) -> Option<u64> {
     let (mut olds, mut news) = (old.chunks(RECORD), new.chunks(RECORD));
     let lowest = loop {
         match (olds.next(), news.next()) {

@@ -3,7 +3,7 @@
 
 use crate::chance::Chance;
 use crate::render::{on, reset, Record, KIND_RESET, MARK};
-use crate::render_asked::{mark_of, Asked, LAST};
+use crate::render_asked::{start_of, Asked, LAST};
 use crate::render_edges::{over_marks, tune, SAW, WAVES};
 use crate::render_random::{self, moved, random_render, random_score, spoil_score};
 use crate::rows::{each, Rows};
@@ -101,8 +101,8 @@ fn resize_shelf(asked: &mut Asked, words: u64) {
 
 /// Rubbish everywhere but in the entry that the re-render starts from.
 fn spoil_left(asked: &mut Asked, chance: &mut Chance) {
-    let (samples, mark) = (asked.samples as usize, mark_of(&asked.old, &asked.score, asked.samples));
-    let entry = mark.map(|mark| samples + 12 * (mark / MARK) as usize);
+    let (samples, from) = (asked.samples as usize, start_of(&asked.old, &asked.score, asked.samples));
+    let entry = from.map(|from| samples + 12 * (from / MARK) as usize);
     for at in 0..asked.left.len() {
         if at < samples {
             asked.left[at] = (1000.0 * chance.unit()).to_bits();
@@ -150,7 +150,7 @@ fn random_edit(render: &Asked, chance: &mut Chance) -> Vec<Record> {
 /// One thing moved out of its domain, most often.
 fn spoil(asked: &mut Asked, chance: &mut Chance) {
     let entry =
-        mark_of(&asked.old, &asked.score, asked.samples).map(|mark| (asked.samples + 12 * (mark / MARK)) as usize);
+        start_of(&asked.old, &asked.score, asked.samples).map(|from| (asked.samples + 12 * (from / MARK)) as usize);
     match (chance.below(5), entry) {
         (0, _) => asked.settings.rate = chance.pick(&[0, 7999, 192001, LAST]),
         (1, _) => spoil_score(&mut asked.score, chance),

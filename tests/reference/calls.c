@@ -110,13 +110,13 @@ uint64_t reference_rerender(const struct gav_settings *s, const uint8_t *old, si
     if (refusal) return refusal;
     refusal = reference_check_score(new_, new_len);
     if (refusal) return refusal + 16;
-    uint64_t p = first_change(old, old_len, new_, new_len), mark = p / GAV_MARK * GAV_MARK;
+    uint64_t p = first_change(old, old_len, new_, new_len), from = p / GAV_MARK * GAV_MARK;
     if (p >= n) return says(0, 0, 0);
     struct records score = {new_, new_len / RECORD};
     struct voice voice;
-    if (!is_start(&voice, shelf + mark / GAV_MARK * GAV_STATE_WORDS, score, mark)) return says(8, 0, 0);
-    play(s, score, &voice, mark, out + mark, n - mark, shelf);
-    return says(0, 0, n - mark);
+    if (!is_start(&voice, shelf + from / GAV_MARK * GAV_STATE_WORDS, score, from)) return says(8, 0, 0);
+    play(s, score, &voice, from, out + from, n - from, shelf);
+    return says(0, 0, n - from);
 }
 
 uint64_t reference_continue(const struct gav_settings *s, const uint8_t *score, size_t len, uint64_t *state,

@@ -6,15 +6,15 @@
 
 /* What a re-render must do: the first sample of the section that it starts at, or the end where it writes nothing. */
 struct plan {
-    size_t mark, entry; /* in samples, and in words of the shelf */
+    size_t from, entry; /* in samples, and in words of the shelf */
     uint64_t answer;
 };
 
 static struct plan plan_of(const struct round *r, const struct score *new_) {
     uint64_t p = first_change(r->score.bytes, r->score.len, new_->bytes, new_->len);
-    size_t mark = p < r->n ? (size_t)p / GAV_MARK * GAV_MARK : r->n;
-    size_t entry = p < r->n ? mark / GAV_MARK * GAV_STATE_WORDS : gav_shelf_words(r->n);
-    return (struct plan){mark, entry, says(0, 0, r->n - mark)};
+    size_t from = p < r->n ? (size_t)p / GAV_MARK * GAV_MARK : r->n;
+    size_t entry = p < r->n ? from / GAV_MARK * GAV_STATE_WORDS : gav_shelf_words(r->n);
+    return (struct plan){from, entry, says(0, 0, r->n - from)};
 }
 
 /* Everything but the entry to start from may be rubbish: what lies before the start stays, and no call reads what lies
@@ -23,11 +23,11 @@ static void spoil(struct round *r, struct plan plan, bool before, bool behind) {
     uint64_t *out = words_of(&r->lent, OUT), *shelf = words_of(&r->lent, SHELF);
     size_t words = gav_shelf_words(r->n), after = plan.entry + GAV_STATE_WORDS;
     if (before) {
-        rubbish(&r->chance, out, plan.mark);
+        rubbish(&r->chance, out, plan.from);
         rubbish(&r->chance, shelf, plan.entry);
     }
     if (behind && plan.entry < words) {
-        rubbish(&r->chance, out + plan.mark, r->n - plan.mark);
+        rubbish(&r->chance, out + plan.from, r->n - plan.from);
         rubbish(&r->chance, shelf + after, words - after);
     }
 }
@@ -36,7 +36,7 @@ static void spoil(struct round *r, struct plan plan, bool before, bool behind) {
 static void expect(struct round *r, struct plan plan, const struct heard *heard) {
     size_t words = gav_shelf_words(r->n);
     copy_buffers(&r->expected, &r->lent);
-    memcpy(words_of(&r->expected, OUT) + plan.mark, heard->samples + plan.mark, 8 * (r->n - plan.mark));
+    memcpy(words_of(&r->expected, OUT) + plan.from, heard->samples + plan.from, 8 * (r->n - plan.from));
     memcpy(words_of(&r->expected, SHELF) + plan.entry, heard->shelf + plan.entry, 8 * (words - plan.entry));
 }
 
@@ -45,9 +45,9 @@ static void rerender(struct round *r, const struct score *new_, struct plan plan
     lend_score(&r->lent, OLD, &r->score);
     lend_score(&r->lent, NEW, new_);
     expect(r, plan, heard);
-    call_done(r, &call, plan.answer, (struct written){plan.mark, r->n - plan.mark, heard->scales + plan.mark});
+    call_done(r, &call, plan.answer, (struct written){plan.from, r->n - plan.from, heard->scales + plan.from});
     r->tally->words += gav_shelf_words(r->n) - plan.entry;
-    r->tally->kept += 8 * (plan.mark + plan.entry);
+    r->tally->kept += 8 * (plan.from + plan.entry);
 }
 
 /* Rubbish before the start is replaced afterwards by the judge's samples: there the two scores play the same. */
@@ -57,12 +57,12 @@ static void edit(struct round *r, int number) {
     new_ = r->score;
     edit_score(&r->chance, r->n, &new_);
     struct plan plan = plan_of(r, &new_);
-    snprintf(r->what, sizeof r->what, "edit %d, re-rendered from %zu of %zu", number, plan.mark, r->n);
+    snprintf(r->what, sizeof r->what, "edit %d, re-rendered from %zu of %zu", number, plan.from, r->n);
     judge_hear(r, &new_, &r->heard);
     spoil(r, plan, before, behind);
     rerender(r, &new_, plan, &r->heard);
     if (before) {
-        memcpy(inside(&r->lent, OUT), r->heard.samples, 8 * plan.mark);
+        memcpy(inside(&r->lent, OUT), r->heard.samples, 8 * plan.from);
         memcpy(inside(&r->lent, SHELF), r->heard.shelf, 8 * plan.entry);
     }
     r->score = new_;
@@ -75,13 +75,13 @@ static void stray_edit(struct round *r) {
     new_ = r->score;
     edit_score(&r->chance, r->n, &new_);
     struct plan plan = plan_of(r, &new_);
-    if (plan.mark == r->n) return;
+    if (plan.from == r->n) return;
     uint64_t *entry = words_of(&r->lent, SHELF) + plan.entry, state[GAV_STATE_WORDS];
     move_state(&r->chance, entry);
     memcpy(state, entry, sizeof state);
-    snprintf(r->what, sizeof r->what, "re-render from another state at %zu of %zu", plan.mark, r->n);
-    judge_play(&r->settings, &new_, state, plan.mark, heard.samples + plan.mark, heard.scales + plan.mark,
-               r->n - plan.mark, heard.shelf + plan.entry);
+    snprintf(r->what, sizeof r->what, "re-render from another state at %zu of %zu", plan.from, r->n);
+    judge_play(&r->settings, &new_, state, plan.from, heard.samples + plan.from, heard.scales + plan.from,
+               r->n - plan.from, heard.shelf + plan.entry);
     rerender(r, &new_, plan, &heard);
 }
 

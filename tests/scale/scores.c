@@ -139,8 +139,8 @@ void strike(struct chance *c, struct score *score, uint64_t position) {
 
 /* At the starts of sections and beside them, at the end and before it, or anywhere. */
 static uint32_t edit_position(struct chance *c, size_t n) {
-    uint32_t mark = (uint32_t)below(c, n / GAV_MARK + 2) * GAV_MARK, any = (uint32_t)below(c, n + 1);
-    const uint32_t near[] = {before(mark), mark, mark + 1, before(n), (uint32_t)n, any, any, any};
+    uint32_t from = (uint32_t)below(c, n / GAV_MARK + 2) * GAV_MARK, any = (uint32_t)below(c, n + 1);
+    const uint32_t near[] = {before(from), from, from + 1, before(n), (uint32_t)n, any, any, any};
     return PICK(c, near);
 }
 

@@ -116,10 +116,10 @@ uint64_t __wrap_gav_render(SETTINGS, const uint8_t *score, size_t len, double *o
 }
 
 static uint64_t spoil_rerender(uint64_t answer, double *out, size_t n, uint64_t *shelf) {
-    size_t mark = n - gav_count(answer);
-    if (wrong() == RERENDER_NAN_BEFORE) one_payload(out, mark);
-    if (wrong() == RERENDER_BEFORE && mark > 0) out[mark - 1] = 0.25;
-    if (wrong() == RERENDER_OLD_ENTRY && mark > 0) shelf[2] ^= 1;
+    size_t from = n - gav_count(answer);
+    if (wrong() == RERENDER_NAN_BEFORE) one_payload(out, from);
+    if (wrong() == RERENDER_BEFORE && from > 0) out[from - 1] = 0.25;
+    if (wrong() == RERENDER_OLD_ENTRY && from > 0) shelf[2] ^= 1;
     return wrong() == RERENDER_COUNT ? says(0, 0, n) : answer;
 }
 
