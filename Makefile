@@ -76,7 +76,7 @@ lib: build/libgavberin.a build/libgavberin.so
 
 # Made again where the code of a crate has changed since; `make lib` always asks rt, which proves what has changed.
 build/proved.a: $(shell find crates -name '*.rt') tools/native-lib $(if $(filter lib,$(MAKECMDGOALS)),always)
-	@tools/native-lib desk $@
+	@tools/native-lib ffi $@
 
 build/libgavberin.a: build/proved.a build/words.o
 	@cp build/proved.a $@

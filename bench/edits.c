@@ -43,7 +43,7 @@ static double time_samples(struct bench *b, size_t count, size_t rounds) {
 static size_t compare_edit(struct bench *b, const char *where, const struct score *edited) {
     size_t count = ours_rerender(&b->settings, &b->score, edited, b->out, b->samples);
     uint64_t from = first_change(b->score.bytes, b->score.len, edited->bytes, edited->len);
-    size_t due = from == NOWHERE ? 0 : b->samples - (size_t)(from / GAV_MARK * GAV_MARK);
+    size_t due = from == NOWHERE ? 0 : b->samples - (size_t)(from / GAV_SECTION * GAV_SECTION);
     if (count != due) differ(b, "the count of a re-render");
     plain_render(&b->settings, edited, b->reference, b->samples);
     same_bits(b, "the re-render", where);

@@ -40,7 +40,7 @@ void ours_continue(const struct gav_settings *s, const struct score *score, doub
 
 void ours_from(const struct gav_settings *s, const struct score *score, double *out, size_t n, size_t from) {
     uint64_t state[GAV_STATE_WORDS];
-    memcpy(state, shelf + from / GAV_MARK * GAV_STATE_WORDS, sizeof state);
+    memcpy(state, shelf + from / GAV_SECTION * GAV_STATE_WORDS, sizeof state);
     done(gav_continue_with(s, score->bytes, score->len, state, GAV_STATE_WORDS, from, out + from, n - from));
 }
 

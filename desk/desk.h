@@ -327,7 +327,7 @@ size_t export_clips(const struct export *export, const double *at, size_t sample
 #define SHELF_HEAD_WORDS (FIRST_SETTING_WORD + SETTING_WORDS)
 #define SHELF_BESIDE_WORDS 1u
 #define SHELF_MOST                                                                                                     \
-    (8u * (SHELF_HEAD_WORDS + (GAV_STATE_WORDS + SHELF_BESIDE_WORDS) * (GAV_MOST_SAMPLES / GAV_MARK) +                 \
+    (8u * (SHELF_HEAD_WORDS + (GAV_STATE_WORDS + SHELF_BESIDE_WORDS) * (GAV_MOST_SAMPLES / GAV_SECTION) +                 \
            MOST_SCORE / 8u + 1u))
 
 /* The version of the file's layout. */

@@ -106,7 +106,7 @@ static bool tell_shelf(const char *path, const struct bytes *file, struct why *w
     tell_length(about.samples, about.settings.rate);
     put_name("sections");
     printf("%zu %s of %d words, one each %d samples\n", entries, counted(entries, "entry", "entries"), GAV_STATE_WORDS,
-           GAV_MARK);
+           GAV_SECTION);
     put_name("WAV");
     printf("%u-bit floats\n", about.bits);
     tell_records(&about.score);

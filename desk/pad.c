@@ -103,7 +103,7 @@ static bool make_edits(struct pad_edit *e, struct pad_chart *chart, struct why *
     const struct gav_settings *s = &e->pad->settings;
     chart->rows[0] = measure(e, 0);
     for (unsigned edit = 1; edit <= e->pad->edits; edit++) {
-        size_t cut = place_of(e->pad, edit) / GAV_MARK * GAV_MARK;
+        size_t cut = place_of(e->pad, edit) / GAV_SECTION * GAV_SECTION;
         e->before = e->after;
         make_score(e->pad, edit, &e->after);
         if (!judged(e, voice_rerender(s, &e->before, &e->after, &e->ours), why)) return false;

@@ -57,7 +57,7 @@ static bool rerender_sound(struct rerender *r, struct why *why) {
 /* Every section that is not rendered again must have the shelf's sum: those before the first that is, or all where none
    is. */
 static bool rest_is_kept(const struct rerender *r, struct why *why) {
-    size_t from = r->about.samples - r->count, stay = (from + GAV_MARK - 1) / GAV_MARK, differ = 0, first = 0;
+    size_t from = r->about.samples - r->count, stay = (from + GAV_SECTION - 1) / GAV_SECTION, differ = 0, first = 0;
     for (size_t i = stay; i-- > 0;) {
         if (section_sum(&r->wav, r->wav_file.at, i) == shelf_sum(r->shelf_file.at, i)) continue;
         differ++;
@@ -69,13 +69,13 @@ static bool rest_is_kept(const struct rerender *r, struct why *why) {
     return refuse(why,
                   "samples %zu to %zu of %s are not what %s was made with; of %zu %s, %zu %s; nothing is written: "
                   "render again with `desk render`",
-                  first * GAV_MARK, section_end(r->wav.samples, first) - 1, r->wav_path, r->shelf_path, stay, words,
+                  first * GAV_SECTION, section_end(r->wav.samples, first) - 1, r->wav_path, r->shelf_path, stay, words,
                   differ, counted(differ, "differs", "differ"));
 }
 
 /* Writes the new samples of a section; whether the samples there were of another sound. */
 static bool replace_section(struct rerender *r, size_t section) {
-    size_t first = section * GAV_MARK, samples = section_end(r->wav.samples, section) - first;
+    size_t first = section * GAV_SECTION, samples = section_end(r->wav.samples, section) - first;
     uint64_t before = section_sum(&r->wav, r->wav_file.at, section);
     wav_samples(r->wav.bits, r->sound.at + first, samples, r->wav_file.at + r->wav.data + r->wav.bits / 8 * first);
     return before != shelf_sum(r->shelf_file.at, section) && before != section_sum(&r->wav, r->wav_file.at, section);
@@ -83,7 +83,7 @@ static bool replace_section(struct rerender *r, size_t section) {
 
 /* Sections before the first that is rendered again keep their bytes; the others get the new samples. */
 static bool make_wav(struct rerender *r, struct why *why) {
-    size_t first = (r->about.samples - r->count) / GAV_MARK;
+    size_t first = (r->about.samples - r->count) / GAV_SECTION;
     r->wav_file.len = wav_without_peak(r->wav_file.at, r->wav_file.len);
     if (!wav_look(r->wav_file.at, r->wav_file.len, &r->wav, why)) return preface(why, "%s: ", r->wav_path);
     for (size_t i = first; i < sections_of(r->wav.samples); i++) r->foreign += replace_section(r, i);
@@ -101,7 +101,7 @@ static bool write_files(struct rerender *r, struct why *why) {
 }
 
 static void tell_foreign(const struct rerender *r) {
-    size_t sections = sections_of(r->about.samples) - (r->about.samples - r->count) / GAV_MARK;
+    size_t sections = sections_of(r->about.samples) - (r->about.samples - r->count) / GAV_SECTION;
     if (r->foreign == 0) return;
     printf("%s: %zu of %zu %s rendered again %s of another sound; %s the new score's now\n", r->wav_path, r->foreign,
            sections, counted(sections, "section", "sections"), counted(r->foreign, "was", "were"),

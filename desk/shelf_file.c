@@ -29,8 +29,8 @@ static const char magic[] = "GAVSHELF";
 size_t sections_of(size_t samples) { return gav_shelf_words(samples) / GAV_STATE_WORDS; }
 
 size_t section_end(size_t samples, size_t section) {
-    size_t first = section * GAV_MARK;
-    return samples - first < GAV_MARK ? samples : first + GAV_MARK;
+    size_t first = section * GAV_SECTION;
+    return samples - first < GAV_SECTION ? samples : first + GAV_SECTION;
 }
 
 /* The byte at which a section's words begin, and that of the score. */
@@ -42,7 +42,7 @@ static size_t score_at(size_t samples) { return section_at(sections_of(samples))
 static size_t file_len(size_t samples, size_t score_len) { return score_at(samples) + (score_len + 7) / 8 * 8 + 8; }
 
 uint64_t section_sum(const struct wav *wav, const uint8_t *file, size_t section) {
-    size_t frame = wav->bits / 8, first = section * GAV_MARK;
+    size_t frame = wav->bits / 8, first = section * GAV_SECTION;
     return sum_of(file + wav->data + frame * first, frame * (section_end(wav->samples, section) - first));
 }
 
@@ -94,7 +94,7 @@ static bool look_at_version(uint64_t layout, struct why *why) {
 }
 
 /* What shows a whole shelf of this desk: the magic word, the version, the length, the sum, then the voice's version. */
-static bool look_at_marks(const uint8_t *file, size_t len, struct why *why) {
+static bool look_at_heads(const uint8_t *file, size_t len, struct why *why) {
     if (!shelf_begins(file, len)) {
         return refuse(why, "it is no shelf of the desk: it does not begin with %s", magic);
     }
@@ -131,7 +131,7 @@ static bool look_at_sizes(const uint8_t *file, size_t len, struct shelf_file *ab
 }
 
 bool shelf_look(const uint8_t *file, size_t len, struct shelf_file *about, struct why *why) {
-    if (!look_at_marks(file, len, why) || !look_at_sizes(file, len, about, why)) return false;
+    if (!look_at_heads(file, len, why) || !look_at_sizes(file, len, about, why)) return false;
     if (!get_setting_words(file, &about->settings, why)) return false;
     memcpy(about->score.at, file + score_at(about->samples), about->score.len);
     return check_score(NULL, &about->score, why) ? true : preface(why, "it is damaged: its score is ");

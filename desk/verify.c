@@ -59,7 +59,7 @@ static void tell_level(const struct found *f, size_t first, size_t samples, cons
 /* The samples, and the level over the whole and over the section of the first that differs. */
 static void tell_samples(struct found *f) {
     const struct from_zero *z = &f->beside;
-    size_t section = f->first / GAV_MARK * GAV_MARK;
+    size_t section = f->first / GAV_SECTION * GAV_SECTION;
     char room[OFF_ROOM];
     if (f->differ == 0) return;
     TELL_WRONG(f, "%s is not the score's: %zu of %zu samples differ, the first at sample %zu (%.3f s), %s", z->wav_path,
@@ -69,7 +69,7 @@ static void tell_samples(struct found *f) {
     printf("%s: largest difference %.6g at sample %zu (%.3f s)\n", z->wav_path, f->largest, f->largest_at,
            seconds_at(f, f->largest_at));
     tell_level(f, 0, f->common, "in the whole");
-    tell_level(f, section, section_end(f->common, section / GAV_MARK) - section,
+    tell_level(f, section, section_end(f->common, section / GAV_SECTION) - section,
                "in the section of the first difference");
 }
 
@@ -107,7 +107,7 @@ static void tell_entries(struct found *f, const uint64_t *kept) {
     }
     if (differ == 0) return;
     TELL_WRONG(f, "%s is not the score's shelf: %zu of %zu entries differ, the first is entry %zu, before sample %zu",
-               z->shelf_path, differ, entries, first, first * GAV_MARK);
+               z->shelf_path, differ, entries, first, first * GAV_SECTION);
 }
 
 /* Tells of the first section whose bytes in the WAV are not those of the shelf's sum. */
@@ -122,7 +122,7 @@ static void tell_sums(struct found *f) {
     }
     if (differ == 0) return;
     TELL_WRONG(f, "%s is of another WAV than %s: %zu of %zu sums differ, the first is that of samples %zu to %zu",
-               z->shelf_path, z->wav_path, differ, sections, first * GAV_MARK, section_end(z->wav.samples, first) - 1);
+               z->shelf_path, z->wav_path, differ, sections, first * GAV_SECTION, section_end(z->wav.samples, first) - 1);
 }
 
 static bool tell_shelf(struct found *f, struct why *why) {

@@ -11,7 +11,7 @@ import ctypes
 import os
 import sys
 
-VERSION, SECTION, STATE_WORDS = 1, 4096, 12  # GAV_VERSION, GAV_MARK and GAV_STATE_WORDS of gavberin.h
+VERSION, SECTION, STATE_WORDS = 1, 4096, 12  # GAV_VERSION, GAV_SECTION and GAV_STATE_WORDS of gavberin.h
 SAWTOOTH = 2
 
 library = ctypes.CDLL(os.environ.get("GAVBERIN_SO", f"libgavberin.so.{VERSION}"))

@@ -1,5 +1,5 @@
 /* Gavberin for C and C++: a proved synthesiser voice with one oscillator, an envelope and held notes. What each call
- * does is stated and proved in crates/desk; docs/INDEX.md is the index. `make lib` builds build/libgavberin.a and
+ * does is stated and proved in crates/ffi; docs/INDEX.md is the index. `make lib` builds build/libgavberin.a and
  * build/libgavberin.so, `make install` puts them where a compiler finds them; examples/ has three hosts. Only gav_words
  * and what is inline below are plain C and not proved.
  *
@@ -72,7 +72,7 @@ extern "C" {
 #define GAV_PULSE 4
 
 #define GAV_STATE_WORDS 12         /* words of a state, and of an entry of a shelf */
-#define GAV_MARK 4096              /* samples of a section: from one entry of a shelf to the next */
+#define GAV_SECTION 4096              /* samples of a section: from one entry of a shelf to the next */
 #define GAV_MOST_SAMPLES 16777216  /* the most samples of an output */
 #define GAV_LIST_ROOM 102413       /* bytes that every listing fits in */
 
@@ -110,7 +110,7 @@ const char *gav_words(uint64_t answer);
 uint32_t gav_version(void);
 
 /* The words of the shelf for an output of n samples: an entry for each section. */
-static inline size_t gav_shelf_words(size_t n) { return (n / GAV_MARK + (n % GAV_MARK != 0)) * GAV_STATE_WORDS; }
+static inline size_t gav_shelf_words(size_t n) { return (n / GAV_SECTION + (n % GAV_SECTION != 0)) * GAV_STATE_WORDS; }
 
 /* Whether a score is accepted: 0, or 1 to 5 with the place. The count is 0.
  * score, score_len: the bytes of the score; any number of them. */

@@ -20,7 +20,7 @@ static _Alignas(65536) unsigned char stack[ROOM];
 static unsigned char *entered;
 
 static double out[GAV_MOST_SAMPLES];
-static uint64_t shelf[GAV_MOST_SAMPLES / GAV_MARK * GAV_STATE_WORDS], state[GAV_STATE_WORDS];
+static uint64_t shelf[GAV_MOST_SAMPLES / GAV_SECTION * GAV_STATE_WORDS], state[GAV_STATE_WORDS];
 static uint8_t score[10 * RECORDS], edited[10 * RECORDS], text[GAV_LIST_ROOM];
 static struct gav_settings settings = GAV_SETTINGS_DEFAULT;
 

@@ -162,11 +162,11 @@ static void rerenders(void) {
     memcpy(out_before, played, sizeof out);
 
     /* from section 1 on, sample 4,096, it is the new score's render; what lies before stays, here NaNs of every kind */
-    put_nans(out, GAV_MARK);
+    put_nans(out, GAV_SECTION);
     memcpy(played, out, sizeof out);
-    HOLD(gav_rerender(SETTINGS, example, 20, longer, 30, out, N, shelf, 24) == says(0, 0, N - GAV_MARK));
-    HOLD(memcmp(out, played, GAV_MARK * sizeof *out) == 0);
-    memcpy(out, out_before, GAV_MARK * sizeof *out);
+    HOLD(gav_rerender(SETTINGS, example, 20, longer, 30, out, N, shelf, 24) == says(0, 0, N - GAV_SECTION));
+    HOLD(memcmp(out, played, GAV_SECTION * sizeof *out) == 0);
+    memcpy(out, out_before, GAV_SECTION * sizeof *out);
     HOLD(gav_render(SETTINGS, longer, 30, all, N, entries, 24) == says(0, 0, N));
     HOLD(SAME(out, all) && SAME(shelf, entries));
     HOLD(!SAME(out, out_before));
@@ -174,11 +174,11 @@ static void rerenders(void) {
 
 /* After rerenders(): out is the render of the longer score. The old score and the new one in one buffer. */
 static void overlaps(void) {
-    HOLD(gav_rerender(SETTINGS, longer, 30, longer, 20, out, N, shelf, 24) == says(0, 0, N - GAV_MARK));
+    HOLD(gav_rerender(SETTINGS, longer, 30, longer, 20, out, N, shelf, 24) == says(0, 0, N - GAV_SECTION));
     HOLD(SAME(out, out_before) && SAME(shelf, shelf_before));
     HOLD(gav_rerender(SETTINGS, longer, 20, longer, 20, out, N, shelf, 24) == 0);
     HOLD(SAME(out, out_before) && SAME(shelf, shelf_before));
-    HOLD(gav_rerender(SETTINGS, longer, 20, longer, 30, out, N, shelf, 24) == says(0, 0, N - GAV_MARK));
+    HOLD(gav_rerender(SETTINGS, longer, 20, longer, 30, out, N, shelf, 24) == says(0, 0, N - GAV_SECTION));
     HOLD(SAME(out, all) && SAME(shelf, entries));
     HOLD(gav_rerender(SETTINGS, longer, 30, longer + 1, 20, out, N, shelf, 24) == says(18, 0, 0));
     HOLD(SAME(out, all) && SAME(shelf, entries));
@@ -200,7 +200,7 @@ static void wrappers(void) {
     HOLD(gav_render(9000, GAV_PULSE, 0.25, 0.01, 0.1, 0.7, 0.02, example, 20, out, N, shelf, 24) == says(0, 0, N));
     HOLD(gav_render_with(&s, example, 20, played, N, shelf_before, 24) == says(0, 0, N));
     HOLD(SAME(out, played) && SAME(shelf, shelf_before));
-    const uint64_t done = says(0, 0, N - GAV_MARK);
+    const uint64_t done = says(0, 0, N - GAV_SECTION);
     HOLD(gav_rerender(9000, GAV_PULSE, 0.25, 0.01, 0.1, 0.7, 0.02, example, 20, longer, 30, out, N, shelf, 24) == done);
     HOLD(gav_rerender_with(&s, example, 20, longer, 30, played, N, shelf_before, 24) == done);
     HOLD(SAME(out, played) && SAME(shelf, shelf_before));

@@ -21,7 +21,7 @@ use crate::waveform_rows::{waveform, PULSE, TAU};
 
 /// The samples from one reduction to the next where no record acts, and from one shelf entry to the next.
 const BLOCK: u64 = 64;
-pub const MARK: u64 = 4096;
+pub const SECTION: u64 = 4096;
 
 /// A record's kinds.
 const KIND_ON: u8 = 1;
@@ -122,7 +122,7 @@ impl Player {
     pub fn play(&mut self, score: &[Record], position: u64, length: u64) -> Played {
         let (mut played, mut n) = (Played::default(), position);
         while n < position + length {
-            if n % MARK == 0 {
+            if n % SECTION == 0 {
                 played.shelf.extend(self.words());
             }
             if n % BLOCK == 0 || self.next(score).is_some_and(|record| record.position == n) {

@@ -1,6 +1,6 @@
 //! What a row of the render asks for, by the names of its words, and what the original or 01 answers.
 
-use crate::render::{untouched, Player, Record, Settings, Wave, Words, KIND_RESET, MARK};
+use crate::render::{untouched, Player, Record, Settings, Wave, Words, KIND_RESET, SECTION};
 use crate::rows::says;
 use crate::waveform_rows::{PULSE, SINE, UNWRITTEN};
 
@@ -127,7 +127,7 @@ impl Asked {
     fn is_lost(&self) -> bool {
         start_of(&self.old, &self.score, self.samples).is_some_and(|from| {
             let below = records(&self.score).iter().filter(|record| record.position < from).count();
-            let entry = (self.samples + 12 * (from / MARK)) as usize;
+            let entry = (self.samples + 12 * (from / SECTION)) as usize;
             let words: &Words = self.left[entry..entry + 12].try_into().unwrap();
             !(is_state(words) && words[5] >> 16 == below as u64)
         })
@@ -137,7 +137,7 @@ impl Asked {
     fn start(&self) -> (u64, u64) {
         match start_of(&self.old, &self.score, self.samples) {
             _ if self.op != RERENDER => (0, 0),
-            Some(from) => (from, 12 * (from / MARK)),
+            Some(from) => (from, 12 * (from / SECTION)),
             None => (self.samples, self.shelf),
         }
     }
@@ -199,7 +199,7 @@ impl Asked {
 
 /// The words of the shelf that 01 asks for.
 pub fn shelf_words(samples: u64) -> u64 {
-    12 * samples.div_ceil(MARK)
+    12 * samples.div_ceil(SECTION)
 }
 
 /// The sample at which a re-render starts, by 01; none where it writes nothing.
@@ -212,7 +212,7 @@ pub fn start_of(old: &[u8], new: &[u8], length: u64) -> Option<u64> {
             (a, b) => break a.into_iter().chain(b).map(|record| word_of(&record[2..6])).min()?,
         }
     };
-    (lowest < length).then_some(lowest / MARK * MARK)
+    (lowest < length).then_some(lowest / SECTION * SECTION)
 }
 
 /// The first `size` bytes of some words, and the words after those bytes.

@@ -2,7 +2,7 @@
 //! original's render of the first leaves, or over rubbish where a re-render does not read.
 
 use crate::chance::Chance;
-use crate::render::{on, reset, Record, KIND_RESET, MARK};
+use crate::render::{on, reset, Record, KIND_RESET, SECTION};
 use crate::render_asked::{start_of, Asked, LAST};
 use crate::render_edges::{over_marks, tune, SAW, WAVES};
 use crate::render_random::{self, moved, random_render, random_score, spoil_score};
@@ -102,7 +102,7 @@ fn resize_shelf(asked: &mut Asked, words: u64) {
 /// Rubbish everywhere but in the entry that the re-render starts from.
 fn spoil_left(asked: &mut Asked, chance: &mut Chance) {
     let (samples, from) = (asked.samples as usize, start_of(&asked.old, &asked.score, asked.samples));
-    let entry = from.map(|from| samples + 12 * (from / MARK) as usize);
+    let entry = from.map(|from| samples + 12 * (from / SECTION) as usize);
     for at in 0..asked.left.len() {
         if at < samples {
             asked.left[at] = (1000.0 * chance.unit()).to_bits();
@@ -137,7 +137,7 @@ fn random_edit(render: &Asked, chance: &mut Chance) -> Vec<Record> {
         1 | 2 if !score.is_empty() => drop(score.remove(any)),
         3 if !score.is_empty() && score[any].kind != KIND_RESET => score[any].velocity = chance.below(128) as u8,
         _ if score.len() < 4096 => {
-            let beside = chance.below(render.samples / MARK + 1) * MARK + chance.below(3);
+            let beside = chance.below(render.samples / SECTION + 1) * SECTION + chance.below(3);
             let any = chance.below(render.samples + 2);
             let at = chance.pick(&[beside.saturating_sub(1), any]);
             score = with(&score, on(at, chance.below(128) as u8, chance.below(128) as u8));
@@ -150,7 +150,7 @@ fn random_edit(render: &Asked, chance: &mut Chance) -> Vec<Record> {
 /// One thing moved out of its domain, most often.
 fn spoil(asked: &mut Asked, chance: &mut Chance) {
     let entry =
-        start_of(&asked.old, &asked.score, asked.samples).map(|from| (asked.samples + 12 * (from / MARK)) as usize);
+        start_of(&asked.old, &asked.score, asked.samples).map(|from| (asked.samples + 12 * (from / SECTION)) as usize);
     match (chance.below(5), entry) {
         (0, _) => asked.settings.rate = chance.pick(&[0, 7999, 192001, LAST]),
         (1, _) => spoil_score(&mut asked.score, chance),

@@ -78,7 +78,7 @@ static void play(const struct gav_settings *settings, struct records score, stru
     const struct gav_settings s = clamped(settings);
     for (size_t i = 0; i < n; i++) {
         uint64_t at = position + i;
-        if (shelf && at % GAV_MARK == 0) voice_words(voice, shelf + at / GAV_MARK * GAV_STATE_WORDS);
+        if (shelf && at % GAV_SECTION == 0) voice_words(voice, shelf + at / GAV_SECTION * GAV_STATE_WORDS);
         voice_begin(voice, score, at);
         out[i] = voice_make(&s, voice);
     }
@@ -110,11 +110,11 @@ uint64_t reference_rerender(const struct gav_settings *s, const uint8_t *old, si
     if (refusal) return refusal;
     refusal = reference_check_score(new_, new_len);
     if (refusal) return refusal + 16;
-    uint64_t p = first_change(old, old_len, new_, new_len), from = p / GAV_MARK * GAV_MARK;
+    uint64_t p = first_change(old, old_len, new_, new_len), from = p / GAV_SECTION * GAV_SECTION;
     if (p >= n) return says(0, 0, 0);
     struct records score = {new_, new_len / RECORD};
     struct voice voice;
-    if (!is_start(&voice, shelf + from / GAV_MARK * GAV_STATE_WORDS, score, from)) return says(8, 0, 0);
+    if (!is_start(&voice, shelf + from / GAV_SECTION * GAV_STATE_WORDS, score, from)) return says(8, 0, 0);
     play(s, score, &voice, from, out + from, n - from, shelf);
     return says(0, 0, n - from);
 }

@@ -244,14 +244,14 @@ void voice_act(struct voice *v, const uint8_t *record) {
 }
 
 /* Whether the first record that has not acted is at position n. */
-static bool stands(const struct voice *v, struct records score, uint64_t n) {
+static bool is_due(const struct voice *v, struct records score, uint64_t n) {
     return v->acted < score.count && record_position(score.bytes + RECORD * v->acted) == n;
 }
 
 /* "If n is a multiple of 64 or a record has position n, phase is reduced by TAU. Then the records at n act." */
 void voice_begin(struct voice *v, struct records score, uint64_t n) {
-    if (n % BLOCK == 0 || stands(v, score, n)) v->phase = reduced(v->phase);
-    while (stands(v, score, n)) voice_act(v, score.bytes + RECORD * v->acted);
+    if (n % BLOCK == 0 || is_due(v, score, n)) v->phase = reduced(v->phase);
+    while (is_due(v, score, n)) voice_act(v, score.bytes + RECORD * v->acted);
 }
 
 /* "Then the sample is oscillator value * envelope level * velocity, left to right, and both advance." */

@@ -12,8 +12,8 @@ struct plan {
 
 static struct plan plan_of(const struct round *r, const struct score *new_) {
     uint64_t p = first_change(r->score.bytes, r->score.len, new_->bytes, new_->len);
-    size_t from = p < r->n ? (size_t)p / GAV_MARK * GAV_MARK : r->n;
-    size_t entry = p < r->n ? from / GAV_MARK * GAV_STATE_WORDS : gav_shelf_words(r->n);
+    size_t from = p < r->n ? (size_t)p / GAV_SECTION * GAV_SECTION : r->n;
+    size_t entry = p < r->n ? from / GAV_SECTION * GAV_STATE_WORDS : gav_shelf_words(r->n);
     return (struct plan){from, entry, says(0, 0, r->n - from)};
 }
 

@@ -10,7 +10,7 @@ static void walk(const struct gav_settings *settings, const struct score *score,
     struct voice voice;
     voice_read(&voice, state);
     for (size_t i = 0; i < n; i++) {
-        if (shelf && (position + i) % GAV_MARK == 0) {
+        if (shelf && (position + i) % GAV_SECTION == 0) {
             voice_words(&voice, shelf);
             shelf += GAV_STATE_WORDS;
         }

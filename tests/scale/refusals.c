@@ -88,7 +88,7 @@ static void refused_rerender(struct round *r, const uint64_t *rendered, struct f
     resize(&r->chance, &r->lent, OUT, 8 * r->n);
     lend_shelf(r, f);
     if (p >= r->n && f.first == START) return; /* no entry is read */
-    size_t entry = p < r->n ? (size_t)p / GAV_MARK * GAV_STATE_WORDS : 0;
+    size_t entry = p < r->n ? (size_t)p / GAV_SECTION * GAV_STATE_WORDS : 0;
     uint64_t *start = words_of(&r->lent, SHELF) + entry;
     if (p < r->n && !has(f, SIZE)) {
         memcpy(start, rendered + entry, 8 * GAV_STATE_WORDS);

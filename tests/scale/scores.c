@@ -76,7 +76,7 @@ static uint32_t random_position(struct chance *c, size_t window, size_t n, const
     case 1:
         return before(any / BLOCK * BLOCK + below(c, 3));
     case 2:
-        return before(any / GAV_MARK * GAV_MARK + below(c, 3));
+        return before(any / GAV_SECTION * GAV_SECTION + below(c, 3));
     case 3:
     case 4:
         return other ? *other : any;
@@ -139,7 +139,7 @@ void strike(struct chance *c, struct score *score, uint64_t position) {
 
 /* At the starts of sections and beside them, at the end and before it, or anywhere. */
 static uint32_t edit_position(struct chance *c, size_t n) {
-    uint32_t from = (uint32_t)below(c, n / GAV_MARK + 2) * GAV_MARK, any = (uint32_t)below(c, n + 1);
+    uint32_t from = (uint32_t)below(c, n / GAV_SECTION + 2) * GAV_SECTION, any = (uint32_t)below(c, n + 1);
     const uint32_t near[] = {before(from), from, from + 1, before(n), (uint32_t)n, any, any, any};
     return PICK(c, near);
 }

@@ -13,8 +13,8 @@ use lib.Ieee.Fits.{and-i, and-l, and-r}
 use lib.Ieee.Order.{round-mono}
 use lib.Ieee.Scale.{finite}
 use Rattle.floats.specs.Range.{nonneg}
-use Rattle.floats.specs.Double.{naught}
-use Rattle.floats.proofs.Literals.{lit0-is}
+use Rattle.floats.specs.Double.{zero64}
+use Rattle.floats.proofs.Literals.{zeroOf-is}
 use Rattle.floats.proofs.Order.{fle-trans, lt-le, le→ge0, under, nonneg→finite}
 use Rattle.floats.proofs.Rounds.{ge0-round}
 use Rattle.domain.specs.Domain.{isRate, highestTone, isFrequency, isDepth, thousand, isRadians}
@@ -60,7 +60,7 @@ module _ (t : Tone) (top : Float) (rate : ℕ) (w : T (fits binary64 (t .phase .
   frequency-in =
       let h = and-r depth-ok frequency-ok (and-l (depth-ok && frequency-ok) (isRadians (t .phase .0)) a) in
       let f = t .frequency in
-      and-i (le naught f) (le f highestTone) (and-l (le naught f) (le f top) h) (fle-trans f top highestTone (and-r (le naught f) (le f top) h) m)
+      and-i (le zero64 f) (le f highestTone) (and-l (le zero64 f) (le f top) h) (fle-trans f top highestTone (and-r (le zero64 f) (le f top) h) m)
 
   start-in : T (isRadians (t .phase .0))
   unfolding isTone
@@ -69,10 +69,10 @@ module _ (t : Tone) (top : Float) (rate : ℕ) (w : T (fits binary64 (t .phase .
   start-near : Near (t .phase .0)
   start-near =
       let p = t .phase .0 in
-      let l = lt-le p thousand (and-r (le naught p) (lt p thousand) start-in) in
+      let l = lt-le p thousand (and-r (le zero64 p) (lt p thousand) start-in) in
       record {
         p-fits = w;
-        p-nonneg = under p thousand (le→ge0 p (subst (λ (z : Float). T (le z p)) (lit0-is binary64) (and-l (le naught p) (lt p thousand) start-in))) (unfold ofBits in tt) l;
+        p-nonneg = under p thousand (le→ge0 p (subst (λ (z : Float). T (le z p)) (zeroOf-is binary64) (and-l (le zero64 p) (lt p thousand) start-in))) (unfold ofBits in tt) l;
         p-le = fle-trans p thousand far l (unfold ofBits in unfold le in tt);
       }
 

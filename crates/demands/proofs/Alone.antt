@@ -20,7 +20,7 @@ use Rattle.answers.specs.declared.Refusal.the-variants.{StartEntry}
 use Rattle.answers.proofs.Order.{first-through, first-holds, passed, none-both}
 use Rattle.runs.specs.Runs.{run}
 use Rattle.score.specs.Below.{countBelow}
-use Rattle.shelf.specs.Shelf.{mark, entryWords, entriesFor, wordsFor, entryOf, stateOf, isEntry, word, shelfOf}
+use Rattle.shelf.specs.Shelf.{sectionSize, entryWords, entriesFor, wordsFor, entryOf, stateOf, isEntry, word, shelfOf}
 use Rattle.shelf.proofs.Digits.{beyond}
 use Rattle.shelf.proofs.Whole.{entry-words}
 use Rattle.shelf.proofs.Back.{decode-encode}
@@ -41,7 +41,7 @@ pub back : {A : Type 0} (k : ℕ) (xs ys : List A) → k ≤ length xs → drop 
 back k xs ys h = ap (λ (i : ℕ). drop i (take k xs ++ ys)) (sym (length-take-le k xs h)) ∙ drop-append-seam (take k xs) ys
 
 -- after no sample the state is the one before
-none-yet : (g : Settings) (s : List ℕ) (m : ℕ) (v : State) → stateFrom g s (m * mark) v (0 * mark) ≡ v
+none-yet : (g : Settings) (s : List ℕ) (m : ℕ) (v : State) → stateFrom g s (m * sectionSize) v (0 * sectionSize) ≡ v
 unfolding stateFrom run
 none-yet g s m v = refl
 
@@ -62,8 +62,8 @@ module _ (g : Settings) (old new : List ℕ) (out : List Float) (shelf : List �
       let start : unless (isStart new m shelf) StartEntry ≡ [] = rw planned at (b .1) in
       rw planned (made (passed (isStart new m shelf) StartEntry start) (all-checked g old new (length out) (length shelf) (b .0) .room .fits)))
 
-  pub samples-stay : take (m * mark) (call .heard) ≡ take (m * mark) out
-  samples-stay = either-way (λ (o : Outcome Answer). take (m * mark) (o .heard) ≡ take (m * mark) out) (λ why. refl) (λ i f. front (m * mark) out _ (omega (arith, there)))
+  pub samples-stay : take (m * sectionSize) (call .heard) ≡ take (m * sectionSize) out
+  samples-stay = either-way (λ (o : Outcome Answer). take (m * sectionSize) (o .heard) ≡ take (m * sectionSize) out) (λ why. refl) (λ i f. front (m * sectionSize) out _ (omega (arith, there)))
 
   pub entries-stay : take (m * entryWords) (call .stored) ≡ take (m * entryWords) shelf
   entries-stay = either-way (λ (o : Outcome Answer). take (m * entryWords) (o .stored) ≡ take (m * entryWords) shelf) (λ why. refl) (λ i f. front (m * entryWords) shelf _ (omega (arith, there)))
@@ -76,7 +76,7 @@ module _ (g : Settings) (old new : List ℕ) (out : List Float) (shelf : List �
       again : isStart new m shelf ≡ true → length shelf ≡ wordsFor (length out) → entryAt (madeFrom g old new m out shelf .stored) m ≡ entryAt shelf m
       again e f =
           let v = startOf shelf m in
-          let is = both (isEntry (entryAt shelf m)) (eqb (v .acted) (countBelow new (m * mark))) e in
+          let is = both (isEntry (entryAt shelf m)) (eqb (v .acted) (countBelow new (m * sectionSize))) e in
           let h : m < entriesFor (length out) = there in
           ap (λ (o : Outcome Answer). entryAt (o .stored) m) (made-is g old new m out shelf f)
           ∙ ap (take entryWords) (back (m * entryWords) shelf (shelfOf (entriesFrom g new m v (entriesFor (length out) - m))) (omega (arith, f)))
@@ -91,13 +91,13 @@ module _ (g : Settings) (old new : List ℕ) (out out₂ : List Float) (shelf sh
   planned₂ = rw (← long) planned
 
   start-alone : isStart new m shelf ≡ isStart new m shelf₂
-  start-alone = ap (λ (ws : List ℕ). isEntry ws && eqb (stateOf ws .acted) (countBelow new (m * mark))) same
+  start-alone = ap (λ (ws : List ℕ). isEntry ws && eqb (stateOf ws .acted) (countBelow new (m * sectionSize))) same
 
   refusals-alone : rerenderRefusals g old new (length out) shelf ≡ rerenderRefusals g old new (length out₂) shelf₂
   refusals-alone = rw (planned, planned₂, fit, fit₂, long, start-alone) refl
 
   -- the answer: the first refusal, or the count of samples from the start section on
-  answer-is : (ys : List Float) (ws : List ℕ) → planOf old new (length ys) ≡ From m → rerenderOf g old new ys ws .result ≡ firstOf (rerenderRefusals g old new (length ys) ws) Refused (Done (length ys - m * mark))
+  answer-is : (ys : List Float) (ws : List ℕ) → planOf old new (length ys) ≡ From m → rerenderOf g old new ys ws .result ≡ firstOf (rerenderRefusals g old new (length ys) ws) Refused (Done (length ys - m * sectionSize))
   unfolding rerenderOf
   answer-is ys ws q =
       first-through (λ (o : Outcome Answer). o .result) (rerenderRefusals g old new (length ys) ws) (keptOf ys ws) (runOf g old new (planOf old new (length ys)) ys ws)
@@ -119,13 +119,13 @@ module _ (g : Settings) (old new : List ℕ) (out out₂ : List Float) (shelf sh
     unfolding rerenderOf
     is-made₂ = rw (← refusals-alone, none, planned₂) refl
 
-    pub samples-alone : drop (m * mark) (rerenderOf g old new out shelf .heard) ≡ drop (m * mark) (rerenderOf g old new out₂ shelf₂ .heard)
+    pub samples-alone : drop (m * sectionSize) (rerenderOf g old new out shelf .heard) ≡ drop (m * sectionSize) (rerenderOf g old new out₂ shelf₂ .heard)
     samples-alone =
-        ap (λ (o : Outcome Answer). drop (m * mark) (o .heard)) (is-made ∙ made-is g old new m out shelf fit)
-        ∙ back (m * mark) out (samplesFrom g new (m * mark) (startOf shelf m) (length out - m * mark)) (omega (arith, there-too))
-        ∙ ap (λ (n : ℕ). samplesFrom g new (m * mark) (startOf shelf m) (n - m * mark)) long ∙ ap (λ (ws : List ℕ). samplesFrom g new (m * mark) (stateOf ws) (length out₂ - m * mark)) same
-        ∙ sym (back (m * mark) out₂ (samplesFrom g new (m * mark) (startOf shelf₂ m) (length out₂ - m * mark)) (omega (arith, there-too, long)))
-        ∙ sym (ap (λ (o : Outcome Answer). drop (m * mark) (o .heard)) (is-made₂ ∙ made-is g old new m out₂ shelf₂ fit₂))
+        ap (λ (o : Outcome Answer). drop (m * sectionSize) (o .heard)) (is-made ∙ made-is g old new m out shelf fit)
+        ∙ back (m * sectionSize) out (samplesFrom g new (m * sectionSize) (startOf shelf m) (length out - m * sectionSize)) (omega (arith, there-too))
+        ∙ ap (λ (n : ℕ). samplesFrom g new (m * sectionSize) (startOf shelf m) (n - m * sectionSize)) long ∙ ap (λ (ws : List ℕ). samplesFrom g new (m * sectionSize) (stateOf ws) (length out₂ - m * sectionSize)) same
+        ∙ sym (back (m * sectionSize) out₂ (samplesFrom g new (m * sectionSize) (startOf shelf₂ m) (length out₂ - m * sectionSize)) (omega (arith, there-too, long)))
+        ∙ sym (ap (λ (o : Outcome Answer). drop (m * sectionSize) (o .heard)) (is-made₂ ∙ made-is g old new m out₂ shelf₂ fit₂))
 
     pub entries-alone : drop (m * entryWords) (rerenderOf g old new out shelf .stored) ≡ drop (m * entryWords) (rerenderOf g old new out₂ shelf₂ .stored)
     entries-alone =

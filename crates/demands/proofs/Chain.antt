@@ -16,7 +16,7 @@ use Rattle.score.specs.Record.{countOf}
 use Rattle.score.specs.Score.{verdictOf}
 use Rattle.score.specs.Below.{countBelow}
 use Rattle.score.proofs.Cuts.{accepted-few}
-use Rattle.score.proofs.Marks.{refusals}
+use Rattle.score.proofs.Examples.{refusals}
 use Rattle.shelf.specs.Shelf.{wordsFor}
 use Rattle.state.specs.declared.Settings.{Settings}
 use Rattle.state.specs.declared.State.{State}
@@ -27,7 +27,7 @@ use Rattle.state.specs.Heart.{stateFrom, samplesFrom}
 use Rattle.state.proofs.RunsOn.{state-on, samples-on}
 use Rattle.state.proofs.Acted.{acted-fresh, below-all}
 use Rattle.state.proofs.Stays.{fresh-kept}
-use Rattle.judging.specs.Judging.{most, isRoom}
+use Rattle.judging.specs.Judging.{mostSamples, sizesFit}
 use Rattle.judging.proofs.Refusals.{none-refused}
 use Rattle.render.specs.Calls.{madeOf, renderOf, madePart}
 use Rattle.demands.specs.Chain.{Step, ChainOutcome, andThen, chainFrom, samplesOf, lastOf, AllDone, Grows, AllAccepted, NoneBelow, NoneAddedBelow, OneRender, DoneExactly, PartsAreOne}
@@ -83,25 +83,25 @@ chain-samples g xs w d = let e = ends g xs [] 0 nothing-accepted 0 (freshOf 0) r
 -- what is true of a chain whose calls all answer 0
 record PassedChain (g : Settings) (l : List ℕ) (n : ℕ) : Type 0 where
   settings : settingsOk g ≡ true
-  in-time : n ≤ most
+  in-time : n ≤ mostSamples
   accepted : verdictOf l ≡ Accepted (countOf l)
 
 chain-passed : (g : Settings) (x : Step) (xs : List Step) (v : State) (p : ℕ) → AllDone g v p (x ∷ xs) → PassedChain g (lastOf (x .score) xs) (p + samplesOf (x ∷ xs))
 chain-passed g x [] v p d =
     let q = call-passed g (x .score) v p (x .part) (length (x .part)) (first-done g v p x [] d) in
-    let l : p + length (x .part) ≤ most = q .in-time in
+    let l : p + length (x .part) ≤ mostSamples = q .in-time in
     record { settings = q .settings; in-time = omega arith; accepted = q .accepted }
 chain-passed g x (y ∷ ys) v p d =
     let q = chain-passed g y ys (after g v p x (y ∷ ys)) (onward g v p x (y ∷ ys)) (rest-done g v p x (y ∷ ys) d) in
-    let l : p + length (x .part) + samplesOf (y ∷ ys) ≤ most = q .in-time in
+    let l : p + length (x .part) + samplesOf (y ∷ ys) ≤ mostSamples = q .in-time in
     record { settings = q .settings; in-time = omega arith; accepted = q .accepted }
 
 -- a render into an output of that length and a shelf that fits is done
 render-is : (g : Settings) (s : List ℕ) (n : ℕ) → PassedChain g s n → (out : List Float) (shelf : List ℕ) → length out ≡ n → length shelf ≡ wordsFor (length out) → renderOf g s out shelf ≡ madeOf g s n
 unfolding renderOf
 render-is g s n q out shelf e h =
-    let room : isRoom (length out) (length shelf) ≡ true = rw (h, eq-eqb (wordsFor (length out)) (wordsFor (length out)) refl, le-leb (length out) most (omega (arith, q .in-time))) refl in
-    rw (none-refused g (isRoom (length out) (length shelf)) s (countOf s) (q .settings) room (q .accepted), e) refl
+    let room : sizesFit (length out) (length shelf) ≡ true = rw (h, eq-eqb (wordsFor (length out)) (wordsFor (length out)) refl, le-leb (length out) mostSamples (omega (arith, q .in-time))) refl in
+    rw (none-refused g (sizesFit (length out) (length shelf)) s (countOf s) (q .settings) room (q .accepted), e) refl
 
 pub chain : (g : Settings) (x : Step) (xs : List Step) → Grows [] (x ∷ xs) → AllDone g (freshOf 0) 0 (x ∷ xs)
     → (out : List Float) (shelf : List ℕ) → length out ≡ samplesOf (x ∷ xs) → length shelf ≡ wordsFor (length out) → OneRender g (x ∷ xs) out shelf
@@ -128,7 +128,7 @@ module _ (g : Settings) (ok : settingsOk g ≡ true) (sus : T (fits binary64 (g 
       let few : stateFrom g s 0 (freshOf 0) p .acted ≤ mostActed = omega (arith, acted-fresh g s (accepted-few s m a) p, below-all s p, accepted-few s m a) in
       rw (r, fresh-kept g ok sus s m a p, le-leb (stateFrom g s 0 (freshOf 0) p .acted) mostActed few) refl
 
-  none-done : (xs : List Step) (s : List ℕ) (m : ℕ) → verdictOf s ≡ Accepted m → (p : ℕ) (v : State) → Reached g s p v → Grows s xs → AllAccepted xs → p + samplesOf xs ≤ most → NoneAddedBelow s p xs → AllDone g v p xs
+  none-done : (xs : List Step) (s : List ℕ) (m : ℕ) → verdictOf s ≡ Accepted m → (p : ℕ) (v : State) → Reached g s p v → Grows s xs → AllAccepted xs → p + samplesOf xs ≤ mostSamples → NoneAddedBelow s p xs → AllDone g v p xs
   unfolding chainFrom
   none-done [] s m a p v r w b l f = refl
   none-done (x ∷ xs) s m a p v r w b l f =
@@ -138,7 +138,7 @@ module _ (g : Settings) (ok : settingsOk g ≡ true) (sus : T (fits binary64 (g 
       all-done g v p x xs e
       (none-done xs t (b .0 .0) (b .0 .1) (p + length (x .part)) (after g v p x xs) (goes-on s t m (b .0 .0) a (b .0 .1) (w .0) p g v r (f .0) (length (x .part))) (w .1) (b .1) (omega arith) (f .1))
 
-  pub chain-done : (xs : List Step) → AllAccepted xs → Grows [] xs → samplesOf xs ≤ most → DoneExactly g xs
+  pub chain-done : (xs : List Step) → AllAccepted xs → Grows [] xs → samplesOf xs ≤ mostSamples → DoneExactly g xs
   unfolding stateFrom run
   chain-done xs b w l =
       record {

@@ -11,7 +11,7 @@ use Rattle.answers.specs.Order.{unless}
 use Rattle.answers.specs.declared.Refusal.{Refusal}
 use Rattle.answers.specs.declared.Refusal.the-variants.{Score, NewScore, Setting, Size, StartEntry, Argument, GivenState}
 use Rattle.answers.proofs.Order.{passed, none-both, Leads, leads-append, leads-after, leads-parts, leads-unless}
-use Rattle.judging.specs.Judging.{refusalsOf, Passed, newRefusalsOf, isRoom, isStretch}
+use Rattle.judging.specs.Judging.{refusalsOf, Passed, newRefusalsOf, sizesFit, partFits}
 use Rattle.judging.proofs.Refusals.{all-passed, none-refused, new-passed, none-newly, judged-first, six-first, seven-first, score-first, newly-first, new-first}
 use Rattle.render.specs.Calls.{isGiven}
 use Rattle.render.proofs.Outcomes.{render-decided, continue-decided}
@@ -43,7 +43,7 @@ module _ (g : Settings) (room : Bool) (s : List ℕ) where
 pub render-exactly : (g : Settings) (s : List ℕ) (out : List Float) (shelf : List ℕ) → RenderExactly g s out shelf
 render-exactly g s out shelf =
     let c = render-decided g s out shelf in
-    let room = isRoom (length out) (length shelf) in
+    let room = sizesFit (length out) (length shelf) in
     record {
       refused = λ why. record {
         only-when = λ e. judged-first g room s (RenderWhen g room s) (λ a. a) (λ a b. (a, b)) (λ a b fault v. (a, b, v)) why (c .refused why e);
@@ -79,7 +79,7 @@ module _ (g : Settings) (room : Bool) (s : List ℕ) (given : Bool) where
 pub continue-exactly : (g : Settings) (s : List ℕ) (v : State) (p : ℕ) (part : List Float) → ContinueExactly g s v p part
 continue-exactly g s v p part =
     let c = continue-decided g s v p part in
-    let room = isStretch p (length part) in
+    let room = partFits p (length part) in
     let given = isGiven s p v in
     record {
       refused = λ why. record { only-when = λ e. continue-only g room s given why (c .refused why e); whenever = λ h. c .is-refused why (continue-first g room s given why h) };
@@ -93,7 +93,7 @@ continue-exactly g s v p part =
 -- ---- then the new score's faults, and 8
 module _ (g : Settings) (old new : List ℕ) (n : ℕ) (shelf : List ℕ) where
   abbrev room : Bool
-  room = isRoom n (length shelf)
+  room = sizesFit n (length shelf)
 
   abbrev plan : Plan
   plan = planOf old new n
@@ -153,7 +153,7 @@ pub rerender-exactly : (g : Settings) (old new : List ℕ) (out : List Float) (s
 rerender-exactly g old new out shelf =
     let c = rerender-decided g old new out shelf in
     let n = length out in
-    let at = isRoom n (length shelf) in
+    let at = sizesFit n (length shelf) in
     record {
       refused = λ why. record { only-when = λ e. rerender-only g old new n shelf why (c .refused why e); whenever = λ h. c .is-refused why (rerender-first g old new n shelf why h) };
       done = record {

@@ -22,7 +22,7 @@ use Rattle.score.proofs.Agree.{equal-exactly}
 use Rattle.score.proofs.Cuts.{accepted-few}
 use Rattle.score.proofs.Parted.{clash}
 use Rattle.shelf.specs.declared.Entry.{Entry}
-use Rattle.shelf.specs.Shelf.{mark, entryWords, entriesFor, wordsFor, entryOf, decodedOf, shelfOf}
+use Rattle.shelf.specs.Shelf.{sectionSize, entryWords, entriesFor, wordsFor, entryOf, decodedOf, shelfOf}
 use Rattle.shelf.proofs.Count.{start-there}
 use Rattle.shelf.proofs.Whole.{shelf-append, shelf-length, entry-words}
 use Rattle.state.specs.declared.Settings.{Settings}
@@ -34,10 +34,10 @@ use Rattle.state.proofs.RunsOn.{samples-on, samples-length}
 use Rattle.state.proofs.Entries.{entries-on, entries-length, entry-at}
 use Rattle.state.proofs.Depends.{Shared, state-shared, differing-shared}
 use Rattle.state.proofs.Acted.{acted-fresh}
-use Rattle.judging.specs.Judging.{most, isRoom}
+use Rattle.judging.specs.Judging.{mostSamples, sizesFit}
 use Rattle.judging.proofs.Refusals.{none-refused, none-newly}
 use Rattle.render.specs.Calls.{says, renderOf}
-use Rattle.demands.specs.Demand3.{Taken, Edit, Lent, Buffers, leftIn, FromMark, Remade, Demand3}
+use Rattle.demands.specs.Demand3.{Taken, Edit, Lent, Buffers, leftIn, FromSection, Remade, Demand3}
 use Rattle.demands.proofs.First.{first-change, differ}
 use Rattle.demands.proofs.Honest.{honest}
 use Rattle.demands.proofs.Alone.{front, back}
@@ -53,29 +53,29 @@ abbrev pub shelvedOf : Settings → List ℕ → ℕ → List ℕ
 shelvedOf g s n = shelfOf (entriesFrom g s 0 (freshOf 0) (entriesFor n))
 
 -- the state before the first sample of section m, in a render of s
-abbrev pub atMark : Settings → List ℕ → ℕ → State
-atMark g s m = stateFrom g s 0 (freshOf 0) (m * mark)
+abbrev pub atSection : Settings → List ℕ → ℕ → State
+atSection g s m = stateFrom g s 0 (freshOf 0) (m * sectionSize)
 
 -- entry i of a render's shelf is the state before the first sample of section i
-pub entry-left : (g : Settings) (s : List ℕ) (n i : ℕ) → i < entriesFor n → entryAt (shelvedOf g s n) i ≡ entryOf (atMark g s i)
+pub entry-left : (g : Settings) (s : List ℕ) (n i : ℕ) → i < entriesFor n → entryAt (shelvedOf g s n) i ≡ entryOf (atSection g s i)
 entry-left g s n i h =
     entry-words (entriesFrom g s 0 (freshOf 0) (entriesFor n)) i (freshOf 0) (rw (entries-length g s 0 (freshOf 0) (entriesFor n)) h)
     ∙ ap entryOf (entry-at g s 0 (freshOf 0) (entriesFor n) i (freshOf 0) h)
 
 -- an output and a shelf that fits it pass the test of sizes
-room-lent : (out : List Float) (shelf : List ℕ) → Lent out shelf → isRoom (length out) (length shelf) ≡ true
-room-lent out shelf z = rw (le-leb (length out) most (z .short), eq-eqb (length shelf) (wordsFor (length out)) (z .fits)) refl
+room-lent : (out : List Float) (shelf : List ℕ) → Lent out shelf → sizesFit (length out) (length shelf) ≡ true
+room-lent out shelf z = rw (le-leb (length out) mostSamples (z .short), eq-eqb (length shelf) (wordsFor (length out)) (z .fits)) refl
 
 -- a render of an accepted score is done, and leaves these samples and entries
 pub rendered : (g : Settings) → settingsOk g ≡ true → (s : List ℕ) → Taken s → (out : List Float) (shelf : List ℕ) → Lent out shelf
     → renderOf g s out shelf ≡ leaves (says (Done (length out)) (stateFrom g s 0 (freshOf 0) (length out))) (soundOf g s (length out)) (shelvedOf g s (length out))
 unfolding renderOf
-rendered g ok s a out shelf z = rw (none-refused g (isRoom (length out) (length shelf)) s (a .records) ok (room-lent out shelf z) (a .accepted)) refl
+rendered g ok s a out shelf z = rw (none-refused g (sizesFit (length out) (length shelf)) s (a .records) ok (room-lent out shelf z) (a .accepted)) refl
 
 -- nothing is refused before the plan is made
 pub checked : (g : Settings) (old new : List ℕ) → Edit g old new → (out : List Float) (shelf : List ℕ) → Lent out shelf → checks g old new (length out) (length shelf) ≡ []
 checked g old new x out shelf z =
-    rw (none-refused g (isRoom (length out) (length shelf)) old (x .old-taken .records) (x .settings) (room-lent out shelf z) (x .old-taken .accepted), none-newly new (x .new-taken .records) (x .new-taken .accepted)) refl
+    rw (none-refused g (sizesFit (length out) (length shelf)) old (x .old-taken .records) (x .settings) (room-lent out shelf z) (x .old-taken .accepted), none-newly new (x .new-taken .records) (x .new-taken .accepted)) refl
 
 -- demand 3, its last sentence: where the scores are equal or the first change lies at or past the end, nothing is
 -- written and the count is 0, whatever output and shelf hold
@@ -92,66 +92,66 @@ module _ (g : Settings) (old new : List ℕ) (x : Edit g old new) (out : List Fl
 
 module _ (g : Settings) (old new : List ℕ) (x : Edit g old new) (p : ℕ) (differs : differenceOf old new ≡ At p) where
   abbrev pub m : ℕ
-  m = p / mark
+  m = p / sectionSize
 
   -- section m starts at or before the change
-  before : m * mark ≤ p
+  before : m * sectionSize ≤ p
   before = omega arith
 
-  shared : Shared old new (m * mark) (countBelow old (m * mark))
-  shared = differing-shared old new (x .old-taken .records) (x .new-taken .records) p (m * mark) (x .old-taken .accepted) (x .new-taken .accepted) differs before
+  shared : Shared old new (m * sectionSize) (countBelow old (m * sectionSize))
+  shared = differing-shared old new (x .old-taken .records) (x .new-taken .records) p (m * sectionSize) (x .old-taken .accepted) (x .new-taken .accepted) differs before
 
   -- so both scores give one state before the first sample of section m
-  pub same-mark : atMark g old m ≡ atMark g new m
-  same-mark = state-shared old new (m * mark) (countBelow old (m * mark)) shared g 0 (freshOf 0) (m * mark) (omega arith)
+  pub same-section : atSection g old m ≡ atSection g new m
+  same-section = state-shared old new (m * sectionSize) (countBelow old (m * sectionSize)) shared g 0 (freshOf 0) (m * sectionSize) (omega arith)
 
   -- from section m on, a render of the new score goes on from that state
-  pub sound-after : (n : ℕ) → m * mark ≤ n → drop (m * mark) (soundOf g new n) ≡ samplesFrom g new (m * mark) (atMark g new m) (n - m * mark)
+  pub sound-after : (n : ℕ) → m * sectionSize ≤ n → drop (m * sectionSize) (soundOf g new n) ≡ samplesFrom g new (m * sectionSize) (atSection g new m) (n - m * sectionSize)
   sound-after n h =
-      let d : n ≡ m * mark + (n - m * mark) = omega arith in
-      let front = soundOf g new (m * mark) in
-      let l : length front ≡ m * mark = samples-length g new 0 (freshOf 0) (m * mark) in
-      ap (λ (k : ℕ). drop (m * mark) (soundOf g new k)) d
-      ∙ ap (drop (m * mark)) (samples-on g new 0 (freshOf 0) (m * mark) (n - m * mark))
-      ∙ ap (λ (k : ℕ). drop k (front ++ samplesFrom g new (0 + m * mark) (atMark g new m) (n - m * mark))) (sym l)
-      ∙ drop-append-seam front (samplesFrom g new (0 + m * mark) (atMark g new m) (n - m * mark))
-      ∙ ap (λ (k : ℕ). samplesFrom g new k (atMark g new m) (n - m * mark)) (zero-add (m * mark))
+      let d : n ≡ m * sectionSize + (n - m * sectionSize) = omega arith in
+      let front = soundOf g new (m * sectionSize) in
+      let l : length front ≡ m * sectionSize = samples-length g new 0 (freshOf 0) (m * sectionSize) in
+      ap (λ (k : ℕ). drop (m * sectionSize) (soundOf g new k)) d
+      ∙ ap (drop (m * sectionSize)) (samples-on g new 0 (freshOf 0) (m * sectionSize) (n - m * sectionSize))
+      ∙ ap (λ (k : ℕ). drop k (front ++ samplesFrom g new (0 + m * sectionSize) (atSection g new m) (n - m * sectionSize))) (sym l)
+      ∙ drop-append-seam front (samplesFrom g new (0 + m * sectionSize) (atSection g new m) (n - m * sectionSize))
+      ∙ ap (λ (k : ℕ). samplesFrom g new k (atSection g new m) (n - m * sectionSize)) (zero-add (m * sectionSize))
 
-  pub shelf-after : (n : ℕ) → m ≤ entriesFor n → drop (m * entryWords) (shelvedOf g new n) ≡ shelfOf (entriesFrom g new m (atMark g new m) (entriesFor n - m))
+  pub shelf-after : (n : ℕ) → m ≤ entriesFor n → drop (m * entryWords) (shelvedOf g new n) ≡ shelfOf (entriesFrom g new m (atSection g new m) (entriesFor n - m))
   shelf-after n h =
       let k = entriesFor n - m in
       let d : entriesFor n ≡ m + k = omega arith in
       let front = entriesFrom g new 0 (freshOf 0) m in
-      let back = entriesFrom g new (0 + m) (atMark g new m) k in
+      let back = entriesFrom g new (0 + m) (atSection g new m) k in
       let l : length (shelfOf front) ≡ m * entryWords = shelf-length front ∙ ap (λ (i : ℕ). i * entryWords) (entries-length g new 0 (freshOf 0) m) in
       ap (λ (i : ℕ). drop (m * entryWords) (shelfOf (entriesFrom g new 0 (freshOf 0) i))) d
       ∙ ap (λ (vs : List State). drop (m * entryWords) (shelfOf vs)) (entries-on g new 0 (freshOf 0) m k)
       ∙ ap (drop (m * entryWords)) (shelf-append front back)
       ∙ ap (λ (i : ℕ). drop i (shelfOf front ++ shelfOf back)) (sym l)
       ∙ drop-append-seam (shelfOf front) (shelfOf back)
-      ∙ ap (λ (i : ℕ). shelfOf (entriesFrom g new i (atMark g new m) k)) (zero-add m)
+      ∙ ap (λ (i : ℕ). shelfOf (entriesFrom g new i (atSection g new m) k)) (zero-add m)
 
   module _ (out : List Float) (shelf : List ℕ) (z : Lent out shelf) (heard : p < length out) where
     -- the start entry is what a render of the old score left
-    module _ (honestly : entryAt shelf m ≡ entryOf (atMark g old m)) where
-      decoded : decodedOf (entryAt shelf m) ≡ record { holds = true; state = atMark g new m }
+    module _ (honestly : entryAt shelf m ≡ entryOf (atSection g old m)) where
+      decoded : decodedOf (entryAt shelf m) ≡ record { valid = true; state = atSection g new m }
       decoded =
-          ap decodedOf honestly ∙ honest g (x .settings) (x .sustain-fits) old (x .old-taken .records) (x .old-taken .accepted) (m * mark)
-          ∙ ap (λ (v : State). record { holds = true; state = v }) same-mark
+          ap decodedOf honestly ∙ honest g (x .settings) (x .sustain-fits) old (x .old-taken .records) (x .old-taken .accepted) (m * sectionSize)
+          ∙ ap (λ (v : State). record { valid = true; state = v }) same-section
 
-      pub start-is : startOf shelf m ≡ atMark g new m
+      pub start-is : startOf shelf m ≡ atSection g new m
       start-is = ap (λ (e : Entry). e .state) decoded
 
       -- an entry that a render left is never refused
       pub start-taken : isStart new m shelf ≡ true
       start-taken =
           let few = accepted-few new (x .new-taken .records) (x .new-taken .accepted) in
-          let acted : startOf shelf m .acted ≡ countBelow new (m * mark) = ap (λ (v : State). v .acted) start-is ∙ acted-fresh g new few (m * mark) in
-          rw (ap (λ (e : Entry). e .holds) decoded, eq-eqb (startOf shelf m .acted) (countBelow new (m * mark)) acted) refl
+          let acted : startOf shelf m .acted ≡ countBelow new (m * sectionSize) = ap (λ (v : State). v .acted) start-is ∙ acted-fresh g new few (m * sectionSize) in
+          rw (ap (λ (e : Entry). e .valid) decoded, eq-eqb (startOf shelf m .acted) (countBelow new (m * sectionSize)) acted) refl
 
       -- demand 3
       pub demand-3 : rerenderOf g old new out shelf
-          ≡ leaves (Done (length out - m * mark)) (take (m * mark) out ++ drop (m * mark) (soundOf g new (length out))) (take (m * entryWords) shelf ++ drop (m * entryWords) (shelvedOf g new (length out)))
+          ≡ leaves (Done (length out - m * sectionSize)) (take (m * sectionSize) out ++ drop (m * sectionSize) (soundOf g new (length out))) (take (m * entryWords) shelf ++ drop (m * entryWords) (shelvedOf g new (length out)))
       demand-3 =
           let there : m < entriesFor (length out) = start-there (length out) p heard in
           checks-pass g old new out shelf (checked g old new x out shelf z)
@@ -163,8 +163,8 @@ module _ (g : Settings) (old new : List ℕ) (x : Edit g old new) (p : ℕ) (dif
         (left : entryAt shelf m ≡ entryAt (renderOf g old out₁ shelf₁ .stored) m) where
       pub demand-3-of-renders : rerenderOf g old new out shelf
           ≡ leaves
-          (Done (length out - m * mark))
-          (take (m * mark) out ++ drop (m * mark) (renderOf g new out₂ shelf₂ .heard))
+          (Done (length out - m * sectionSize))
+          (take (m * sectionSize) out ++ drop (m * sectionSize) (renderOf g new out₂ shelf₂ .heard))
           (take (m * entryWords) shelf ++ drop (m * entryWords) (renderOf g new out₂ shelf₂ .stored))
       demand-3-of-renders =
           let there : m < entriesFor (length out) = start-there (length out) p heard in
@@ -184,36 +184,36 @@ module _ (g : Settings) (ok : settingsOk g ≡ true) (s : List ℕ) (a : Taken s
   stored-is = ap (λ (o : Outcome Rendered). o .stored) (rendered g ok s a (b .out) (b .shelf) (b .lent)) ∙ ap (shelvedOf g s) (b .long)
 
 -- so what is left before section m and made from section m on is the same for any render
-pub from-mark : (g : Settings) → settingsOk g ≡ true → (s : List ℕ) → Taken s → (m : ℕ) (out : List Float) (shelf : List ℕ) (ys : List Float) (ws : List ℕ)
-    → drop (m * mark) ys ≡ drop (m * mark) (soundOf g s (length out)) → drop (m * entryWords) ws ≡ drop (m * entryWords) (shelvedOf g s (length out))
-    → take (m * mark) ys ≡ take (m * mark) out → take (m * entryWords) ws ≡ take (m * entryWords) shelf → FromMark out shelf (leftIn g s) m ys ws
-from-mark g ok s a m out shelf ys ws h k h′ k′ =
+pub from-section : (g : Settings) → settingsOk g ≡ true → (s : List ℕ) → Taken s → (m : ℕ) (out : List Float) (shelf : List ℕ) (ys : List Float) (ws : List ℕ)
+    → drop (m * sectionSize) ys ≡ drop (m * sectionSize) (soundOf g s (length out)) → drop (m * entryWords) ws ≡ drop (m * entryWords) (shelvedOf g s (length out))
+    → take (m * sectionSize) ys ≡ take (m * sectionSize) out → take (m * entryWords) ws ≡ take (m * entryWords) shelf → FromSection out shelf (leftIn g s) m ys ws
+from-section g ok s a m out shelf ys ws h k h′ k′ =
     record {
-      samples-are = λ b. h ∙ sym (ap (drop (m * mark)) (heard-is g ok s a (length out) b));
+      samples-are = λ b. h ∙ sym (ap (drop (m * sectionSize)) (heard-is g ok s a (length out) b));
       entries-are = λ b. k ∙ sym (ap (drop (m * entryWords)) (stored-is g ok s a (length out) b));
       samples-stay = h′;
       entries-stay = k′;
     }
 
 remade : (g : Settings) (old new : List ℕ) (x : Edit g old new) (out : List Float) (shelf : List ℕ) (z : Lent out shelf) (p : ℕ) (e : differenceOf old new ≡ At p) (heard : p < length out)
-    (b : Buffers (length out)) → entryAt shelf (p / mark) ≡ entryAt (leftIn g old b .stored) (p / mark) → Remade g new (p / mark) out shelf (rerenderOf g old new out shelf)
+    (b : Buffers (length out)) → entryAt shelf (p / sectionSize) ≡ entryAt (leftIn g old b .stored) (p / sectionSize) → Remade g new (p / sectionSize) out shelf (rerenderOf g old new out shelf)
 remade g old new x out shelf z p e heard b left =
-    let m = p / mark in
+    let m = p / sectionSize in
     let n = length out in
     let there : m < entriesFor n = start-there n p heard in
     let honestly = left ∙ ap (λ (ws : List ℕ). entryAt ws m) (stored-is g (x .settings) old (x .old-taken) n b) ∙ entry-left g old n m there in
     let d = demand-3 g old new x p e out shelf z heard honestly in
-    let ys : List Float = drop (m * mark) (soundOf g new n) in
+    let ys : List Float = drop (m * sectionSize) (soundOf g new n) in
     let ws : List ℕ = drop (m * entryWords) (shelvedOf g new n) in
-    let in-out : m * mark ≤ n = omega arith in
+    let in-out : m * sectionSize ≤ n = omega arith in
     let in-shelf : m * entryWords ≤ length shelf = omega (arith, z .fits) in
     record {
       counted = ap (λ (o : Outcome Answer). o .result) d;
-      never-8 = λ is. (let c : Done (n - m * mark) ≡ Refused StartEntry = sym (ap (λ (o : Outcome Answer). o .result) d) ∙ is in absurd (clash (cc)));
-      left = from-mark g (x .settings) new (x .new-taken) m out shelf (rerenderOf g old new out shelf .heard) (rerenderOf g old new out shelf .stored)
-          (ap (λ (o : Outcome Answer). drop (m * mark) (o .heard)) d ∙ back (m * mark) out ys in-out)
+      never-8 = λ is. (let c : Done (n - m * sectionSize) ≡ Refused StartEntry = sym (ap (λ (o : Outcome Answer). o .result) d) ∙ is in absurd (clash (cc)));
+      left = from-section g (x .settings) new (x .new-taken) m out shelf (rerenderOf g old new out shelf .heard) (rerenderOf g old new out shelf .stored)
+          (ap (λ (o : Outcome Answer). drop (m * sectionSize) (o .heard)) d ∙ back (m * sectionSize) out ys in-out)
           (ap (λ (o : Outcome Answer). drop (m * entryWords) (o .stored)) d ∙ back (m * entryWords) shelf ws in-shelf)
-          (ap (λ (o : Outcome Answer). take (m * mark) (o .heard)) d ∙ front (m * mark) out ys in-out)
+          (ap (λ (o : Outcome Answer). take (m * sectionSize) (o .heard)) d ∙ front (m * sectionSize) out ys in-out)
           (ap (λ (o : Outcome Answer). take (m * entryWords) (o .stored)) d ∙ front (m * entryWords) shelf ws in-shelf);
     }
 

@@ -20,7 +20,7 @@ use Rattle.score.specs.Below.{countBelow}
 use Rattle.score.specs.Apart.{differenceOf}
 use Rattle.score.proofs.Agree.{equal-exactly}
 use Rattle.score.proofs.Cuts.{lt-or-ge}
-use Rattle.shelf.specs.Shelf.{mark, entryWords, entriesFor, wordsFor, entryOf, shelfOf}
+use Rattle.shelf.specs.Shelf.{sectionSize, entryWords, entriesFor, wordsFor, entryOf, shelfOf}
 use Rattle.shelf.proofs.Count.{start-there}
 use Rattle.shelf.proofs.Whole.{shelf-append, shelf-length}
 use Rattle.state.specs.declared.Settings.{Settings}
@@ -31,13 +31,13 @@ use Rattle.state.specs.Heart.{stateFrom, samplesFrom, entriesFrom}
 use Rattle.state.proofs.RunsOn.{samples-on, samples-length}
 use Rattle.state.proofs.Entries.{entries-on, entries-length}
 use Rattle.state.proofs.Depends.{Shared, samples-shared, entries-shared, differing-shared}
-use Rattle.judging.specs.Judging.{most}
+use Rattle.judging.specs.Judging.{mostSamples}
 use Rattle.rerender.specs.declared.Plan.the-variants.{Nothing}
 use Rattle.rerender.specs.Rerender.{planOf, entryAt, countFor, rerenderOf}
 use Rattle.rerender.proofs.Cases.{plan-equal, plan-late, plan-from, checks-pass}
 use Rattle.demands.specs.Demand3.{Taken, Edit, Lent, Buffers, leftIn}
 use Rattle.demands.specs.Edits.{editsFrom, lastScore, allCounted, AllTaken, NoneBefore, Editing, Edited, EditedWhole, AnyEdits}
-use Rattle.demands.proofs.Demand3.{soundOf, shelvedOf, atMark, entry-left, checked, demand-3, heard-is, stored-is, from-mark}
+use Rattle.demands.proofs.Demand3.{soundOf, shelvedOf, atSection, entry-left, checked, demand-3, heard-is, stored-is, from-section}
 
 -- ---- `over j xs ys`: the first j items of xs, then those of ys from index j on
 module _ {A : Type 0} where
@@ -85,7 +85,7 @@ module _ (g : Settings) (s : List ℕ) (n : ℕ) where
       let k = entriesFor n - m in
       let d : entriesFor n ≡ m + k = omega arith in
       let front = entriesFrom g s 0 (freshOf 0) m in
-      let back = entriesFrom g s (0 + m) (atMark g s m) k in
+      let back = entriesFrom g s (0 + m) (atSection g s m) k in
       ap (λ (i : ℕ). take (m * entryWords) (shelfOf (entriesFrom g s 0 (freshOf 0) i))) d
       ∙ ap (λ (vs : List State). take (m * entryWords) (shelfOf vs)) (entries-on g s 0 (freshOf 0) m k)
       ∙ ap (take (m * entryWords)) (shelf-append front back)
@@ -102,10 +102,10 @@ module _ (g : Settings) (s : List ℕ) (n : ℕ) where
 pub record Holds (g : Settings) (s : List ℕ) (n b : ℕ) (out : List Float) (shelf : List ℕ) : Type 0 where
   pub long : length out ≡ n
   pub fits : length shelf ≡ wordsFor n
-  pub sound : drop (b * mark) out ≡ drop (b * mark) (soundOf g s n)
+  pub sound : drop (b * sectionSize) out ≡ drop (b * sectionSize) (soundOf g s n)
   pub shelved : drop (b * entryWords) shelf ≡ drop (b * entryWords) (shelvedOf g s n)
 
-module _ (g : Settings) (old new : List ℕ) (x : Edit g old new) (n : ℕ) (short : n ≤ most) (b : ℕ) (later-than : (p : ℕ) → differenceOf old new ≡ At p → p < n → b * mark ≤ p)
+module _ (g : Settings) (old new : List ℕ) (x : Edit g old new) (n : ℕ) (short : n ≤ mostSamples) (b : ℕ) (later-than : (p : ℕ) → differenceOf old new ≡ At p → p < n → b * sectionSize ≤ p)
     (out : List Float) (shelf : List ℕ) (h : Holds g old n b out shelf) where
   abbrev call : Outcome Answer
   call = rerenderOf g old new out shelf
@@ -121,7 +121,7 @@ module _ (g : Settings) (old new : List ℕ) (x : Edit g old new) (n : ℕ) (sho
   pub record OneEdit (o : Outcome Answer) : Type 0 where
     pub counted : o .result ≡ Done (countFor g old new (planOf old new n) n)
     pub holds : Holds g new n b (o .heard) (o .stored)
-    pub samples-stay : take (b * mark) (o .heard) ≡ take (b * mark) out
+    pub samples-stay : take (b * sectionSize) (o .heard) ≡ take (b * sectionSize) out
     pub entries-stay : take (b * entryWords) (o .stored) ≡ take (b * entryWords) shelf
 
   -- where the plan is nothing, both scores give the same samples and entries
@@ -130,7 +130,7 @@ module _ (g : Settings) (old new : List ℕ) (x : Edit g old new) (n : ℕ) (sho
       rw (checks-pass g old new out shelf (checked g old new x out shelf lent), ← q)
       (record {
         counted = rw (← ap (planOf old new) long, ← q) refl;
-        holds = record { long = long; fits = h .fits; sound = h .sound ∙ ap (drop (b * mark)) s; shelved = h .shelved ∙ ap (drop (b * entryWords)) t };
+        holds = record { long = long; fits = h .fits; sound = h .sound ∙ ap (drop (b * sectionSize)) s; shelved = h .shelved ∙ ap (drop (b * entryWords)) t };
         samples-stay = refl;
         entries-stay = refl;
       })
@@ -147,17 +147,17 @@ module _ (g : Settings) (old new : List ℕ) (x : Edit g old new) (n : ℕ) (sho
 
   early : (p : ℕ) → differenceOf old new ≡ At p → p < n → OneEdit call
   early p e l =
-      let m = p / mark in
+      let m = p / sectionSize in
       let there : m < entriesFor n = start-there n p l in
-      let from-b : b * mark ≤ p = later-than p e l in
-      let s : Shared old new (m * mark) (countBelow old (m * mark)) = shared-to p (m * mark) e (omega arith) in
-      let same : take (m * mark) (soundOf g old n) ≡ take (m * mark) (soundOf g new n) =
-      sound-front g old n (m * mark) (omega arith) ∙ samples-shared old new (m * mark) (countBelow old (m * mark)) s g 0 (freshOf 0) (m * mark) (omega arith) ∙ sym (sound-front g new n (m * mark) (omega arith)) in
+      let from-b : b * sectionSize ≤ p = later-than p e l in
+      let s : Shared old new (m * sectionSize) (countBelow old (m * sectionSize)) = shared-to p (m * sectionSize) e (omega arith) in
+      let same : take (m * sectionSize) (soundOf g old n) ≡ take (m * sectionSize) (soundOf g new n) =
+      sound-front g old n (m * sectionSize) (omega arith) ∙ samples-shared old new (m * sectionSize) (countBelow old (m * sectionSize)) s g 0 (freshOf 0) (m * sectionSize) (omega arith) ∙ sym (sound-front g new n (m * sectionSize) (omega arith)) in
       let same-shelf : take (m * entryWords) (shelvedOf g old n) ≡ take (m * entryWords) (shelvedOf g new n) =
-      shelf-front g old n m (omega arith) ∙ ap shelfOf (entries-shared old new (m * mark) (countBelow old (m * mark)) s g 0 (freshOf 0) m (λ i k. omega arith)) ∙ sym (shelf-front g new n m (omega arith)) in
-      let honestly : entryAt shelf m ≡ entryOf (atMark g old m) =
+      shelf-front g old n m (omega arith) ∙ ap shelfOf (entries-shared old new (m * sectionSize) (countBelow old (m * sectionSize)) s g 0 (freshOf 0) m (λ i k. omega arith)) ∙ sym (shelf-front g new n m (omega arith)) in
+      let honestly : entryAt shelf m ≡ entryOf (atSection g old m) =
       ap (take entryWords) (later (b * entryWords) (m * entryWords) shelf (shelvedOf g old n) (omega arith) (h .shelved)) ∙ entry-left g old n m there in
-      let d : call ≡ leaves (Done (n - m * mark)) (over (m * mark) out (soundOf g new n)) (over (m * entryWords) shelf (shelvedOf g new n)) =
+      let d : call ≡ leaves (Done (n - m * sectionSize)) (over (m * sectionSize) out (soundOf g new n)) (over (m * entryWords) shelf (shelvedOf g new n)) =
       rw long at (demand-3 g old new x p e out shelf lent (omega (arith, long)) honestly) in
       let w = h .fits in
       let in-old = sound-length g old n in
@@ -168,14 +168,14 @@ module _ (g : Settings) (old new : List ℕ) (x : Edit g old new) (n : ℕ) (sho
       (record {
         counted = rw (← plan-from old new n p e l) refl;
         holds = record {
-          long = over-length (m * mark) out (soundOf g new n) (omega (arith, long)) (long ∙ sym in-new) ∙ in-new;
+          long = over-length (m * sectionSize) out (soundOf g new n) (omega (arith, long)) (long ∙ sym in-new) ∙ in-new;
           fits = over-length (m * entryWords) shelf (shelvedOf g new n) (omega (arith, w)) (w ∙ sym on-new) ∙ on-new;
-          sound = over-back (b * mark) (m * mark) out (soundOf g new n) (soundOf g old n) (omega arith) (omega (arith, long)) (omega (arith, in-new)) (omega (arith, in-old)) (h .sound) same;
+          sound = over-back (b * sectionSize) (m * sectionSize) out (soundOf g new n) (soundOf g old n) (omega arith) (omega (arith, long)) (omega (arith, in-new)) (omega (arith, in-old)) (h .sound) same;
           shelved =
               over-back (b * entryWords) (m * entryWords) shelf (shelvedOf g new n) (shelvedOf g old n) (omega arith) (omega (arith, w)) (omega (arith, on-new)) (omega (arith, on-old)) (h .shelved)
               same-shelf;
         };
-        samples-stay = over-front (b * mark) (m * mark) out (soundOf g new n) (omega arith) (omega (arith, long));
+        samples-stay = over-front (b * sectionSize) (m * sectionSize) out (soundOf g new n) (omega arith) (omega (arith, long));
         entries-stay = over-front (b * entryWords) (m * entryWords) shelf (shelvedOf g new n) (omega arith) (omega (arith, w));
       })
 
@@ -194,11 +194,11 @@ unfolding lastScore
 last-taken old [] a c = a
 last-taken old (new ∷ rest) a c = last-taken new rest (c .0) (c .1)
 
-module _ (g : Settings) (ok : settingsOk g ≡ true) (w : T (fits binary64 (g .adsr .sustain))) (n : ℕ) (short : n ≤ most) (b : ℕ) where
+module _ (g : Settings) (ok : settingsOk g ≡ true) (w : T (fits binary64 (g .adsr .sustain))) (n : ℕ) (short : n ≤ mostSamples) (b : ℕ) where
   pub record ManyEdits (old : List ℕ) (news : List (List ℕ)) (out : List Float) (shelf : List ℕ) (o : Outcome (List Answer)) : Type 0 where
     pub answered : o .result ≡ allCounted g old news n
     pub holds : Holds g (lastScore old news) n b (o .heard) (o .stored)
-    pub samples-stay : take (b * mark) (o .heard) ≡ take (b * mark) out
+    pub samples-stay : take (b * sectionSize) (o .heard) ≡ take (b * sectionSize) out
     pub entries-stay : take (b * entryWords) (o .stored) ≡ take (b * entryWords) shelf
 
   pub all-edits : (old : List ℕ) (news : List (List ℕ)) → Taken old → AllTaken news → NoneBefore b n old news → (out : List Float) (shelf : List ℕ) → Holds g old n b out shelf
@@ -226,14 +226,14 @@ edited g old news b out shelf e =
     record {
       long = refl;
       fits = e .lent .fits;
-      sound = e .honest .samples ∙ ap (drop (b * mark)) (heard-is g (e .settings) old (e .old-taken) n r);
+      sound = e .honest .samples ∙ ap (drop (b * sectionSize)) (heard-is g (e .settings) old (e .old-taken) n r);
       shelved = e .honest .entries ∙ ap (drop (b * entryWords)) (stored-is g (e .settings) old (e .old-taken) n r);
     } in
     let m = all-edits g (e .settings) (e .sustain-fits) n (e .lent .short) b old news (e .old-taken) (e .news-taken) (e .none-before) out shelf h in
     let o = editsFrom g old news out shelf in
     record {
       answered = m .answered;
-      left = from-mark g (e .settings) (lastScore old news) (last-taken old news (e .old-taken) (e .news-taken)) b out shelf (o .heard) (o .stored) (m .holds .sound) (m .holds .shelved) (m .samples-stay) (m .entries-stay);
+      left = from-section g (e .settings) (lastScore old news) (last-taken old news (e .old-taken) (e .news-taken)) b out shelf (o .heard) (o .stored) (m .holds .sound) (m .holds .shelved) (m .samples-stay) (m .entries-stay);
     }
 
 -- no edit lies before section 0
@@ -248,7 +248,7 @@ five-edits g ok w old news one c n a =
     let heard = heard-is g ok old one n a in
     let stored = stored-is g ok old one n a in
     let h : Holds g old n 0 (leftIn g old a .heard) (leftIn g old a .stored) = record { long = ap length heard ∙ sound-length g old n; fits = ap length stored ∙ shelved-length g old n; sound = heard; shelved = stored } in
-    let short : n ≤ most = omega (arith, a .lent .short, a .long) in
+    let short : n ≤ mostSamples = omega (arith, a .lent .short, a .long) in
     let m = all-edits g ok w n short 0 old news one c (none-before-0 n old news) (leftIn g old a .heard) (leftIn g old a .stored) h in
     let last = last-taken old news one c in
     record { answered = m .answered; samples-are = λ b. m .holds .sound ∙ sym (heard-is g ok s last n b); entries-are = λ b. m .holds .shelved ∙ sym (stored-is g ok s last n b) }

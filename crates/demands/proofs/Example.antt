@@ -24,7 +24,7 @@ use Rattle.demands.specs.Edits.{editsFrom, Editing, Edited}
 use Rattle.demands.proofs.ChainExamples.{plain, plain-ok, begins, begins-accepted}
 use Rattle.sections.specs.Outcome.{leaves}
 use Rattle.rerender.specs.Rerender.{entryAt, rerenderOf}
-use Rattle.demands.proofs.Demand3.{soundOf, shelvedOf, atMark, demand-3, heard-is, stored-is}
+use Rattle.demands.proofs.Demand3.{soundOf, shelvedOf, atSection, demand-3, heard-is, stored-is}
 use Rattle.demands.proofs.Edits.{over-length, sound-length, shelved-length, any-edits}
 use Rattle.demands.proofs.Alone.{back}
 use Rattle.score.proofs.Parted.{at-inj}
@@ -55,7 +55,7 @@ abbrev pub out : List Float
 out = replicate 6000 half
 
 abbrev pub shelf : List ℕ
-shelf = replicate entryWords 7 ++ entryOf (atMark plain begins 1)
+shelf = replicate entryWords 7 ++ entryOf (atSection plain begins 1)
 
 long : length out ≡ 6000
 long = length-replicate 6000 half
@@ -64,11 +64,11 @@ lent : Lent out shelf
 lent =
     record {
       short = omega (arith, long);
-      fits = length-append (replicate entryWords 7) (entryOf (atMark plain begins 1)) ∙ ap (λ (n : ℕ). entryWords + n) (entry-length (atMark plain begins 1)) ∙ sym (ap wordsFor long);
+      fits = length-append (replicate entryWords 7) (entryOf (atSection plain begins 1)) ∙ ap (λ (n : ℕ). entryWords + n) (entry-length (atSection plain begins 1)) ∙ sym (ap wordsFor long);
     }
 
-kept : entryAt shelf 1 ≡ entryOf (atMark plain begins 1)
-kept = take-all entryWords (entryOf (atMark plain begins 1)) (omega (arith, entry-length (atMark plain begins 1)))
+kept : entryAt shelf 1 ≡ entryOf (atSection plain begins 1)
+kept = take-all entryWords (entryOf (atSection plain begins 1)) (omega (arith, entry-length (atSection plain begins 1)))
 
 pub an-edit-over-rubbish : rerenderOf plain begins edited out shelf
     ≡ leaves (Done 1904) (take 4096 out ++ drop 4096 (soundOf plain edited 6000)) (take entryWords shelf ++ drop entryWords (shelvedOf plain edited 6000))

@@ -35,10 +35,10 @@ use Rattle.state.proofs.Entries.{entries-length, entry-at}
 use Rattle.state.proofs.Limits.{state-in, in-state, fresh-is-state}
 use Rattle.state.proofs.Stays.{limits-kept}
 use Rattle.shelf.specs.declared.Entry.{Entry}
-use Rattle.shelf.specs.Shelf.{entryWords, mark, entriesFor, entryOf, isEntry, decodedOf, shelfOf}
+use Rattle.shelf.specs.Shelf.{entryWords, sectionSize, entriesFor, entryOf, isEntry, decodedOf, shelfOf}
 use Rattle.shelf.proofs.There.{Fitting, encode-decode}
 use Rattle.shelf.proofs.Whole.{entry-words}
-use Rattle.judging.specs.Judging.{Passed, isRoom}
+use Rattle.judging.specs.Judging.{Passed, sizesFit}
 use Rattle.judging.proofs.Refusals.{all-passed}
 use Rattle.render.specs.Calls.{renderOf, isGiven}
 use Rattle.render.proofs.Outcomes.{render-decided}
@@ -58,7 +58,7 @@ fitting-kept g s n v w f k =
 -- the words ws are those of the state v and are read as v, with as many records acted as s has below n
 pub record HonestEntry (s : List ℕ) (n : ℕ) (v : State) (ws : List ℕ) : Type 0 where
   pub words-are : ws ≡ entryOf v
-  pub read-as : decodedOf ws ≡ record { holds = true; state = v }
+  pub read-as : decodedOf ws ≡ record { valid = true; state = v }
   pub acted-is : v .acted ≡ countBelow s n
 
 module _ (g : Settings) (ok : settingsOk g ≡ true) (w : T (fits binary64 (g .adsr .sustain))) (s : List ℕ) (m : ℕ) (a : verdictOf s ≡ Accepted m) where
@@ -75,22 +75,22 @@ module _ (g : Settings) (ok : settingsOk g ≡ true) (w : T (fits binary64 (g .a
     from-is-given k = rw (from-is-state k, eq-eqb (stateFrom g s n v k .acted) (countBelow s (n + k)) (acted-counts g s few n v c k)) refl
 
     -- and the state's words are read as that state
-    pub honest-from : Fitting v → (k : ℕ) → decodedOf (entryOf (stateFrom g s n v k)) ≡ record { holds = true; state = stateFrom g s n v k }
+    pub honest-from : Fitting v → (k : ℕ) → decodedOf (entryOf (stateFrom g s n v k)) ≡ record { valid = true; state = stateFrom g s n v k }
     honest-from f k = encode-decode (stateFrom g s n v k) (fitting-kept g s n v w f k) (from-is-state k)
 
     pub from-is-entry : Fitting v → (k : ℕ) → isEntry (entryOf (stateFrom g s n v k)) ≡ true
-    from-is-entry f k = ap (λ (e : Entry). e .holds) (honest-from f k)
+    from-is-entry f k = ap (λ (e : Entry). e .valid) (honest-from f k)
 
   -- entry j of the k entries from section b on
-  pub entries-honest : (b : ℕ) (v : State) → isState v ≡ true → v .acted ≡ countBelow s (b * mark) → Fitting v → (k j : ℕ) → j < k
-      → HonestEntry s ((b + j) * mark) (stateFrom g s (b * mark) v (j * mark)) (take entryWords (drop (j * entryWords) (shelfOf (entriesFrom g s b v k))))
+  pub entries-honest : (b : ℕ) (v : State) → isState v ≡ true → v .acted ≡ countBelow s (b * sectionSize) → Fitting v → (k j : ℕ) → j < k
+      → HonestEntry s ((b + j) * sectionSize) (stateFrom g s (b * sectionSize) v (j * sectionSize)) (take entryWords (drop (j * entryWords) (shelfOf (entriesFrom g s b v k))))
   entries-honest b v i c f k j h =
-      let n : (b + j) * mark ≡ b * mark + j * mark = omega arith in
+      let n : (b + j) * sectionSize ≡ b * sectionSize + j * sectionSize = omega arith in
       let e = entry-words (entriesFrom g s b v k) j v (omega (arith, entries-length g s b v k)) ∙ ap entryOf (entry-at g s b v k j v h) in
       record {
         words-are = e;
-        read-as = ap (λ (ws : List ℕ). decodedOf ws) e ∙ honest-from (b * mark) (omega arith) v i c f (j * mark);
-        acted-is = rw n (acted-counts g s few (b * mark) v c (j * mark));
+        read-as = ap (λ (ws : List ℕ). decodedOf ws) e ∙ honest-from (b * sectionSize) (omega arith) v i c f (j * sectionSize);
+        acted-is = rw n (acted-counts g s few (b * sectionSize) v c (j * sectionSize));
       }
 
   -- ---- from the fresh state before sample 0
@@ -103,24 +103,24 @@ module _ (g : Settings) (ok : settingsOk g ≡ true) (w : T (fits binary64 (g .a
   pub honest-is-given : (k : ℕ) → isGiven s k (stateFrom g s 0 (freshOf 0) k) ≡ true
   honest-is-given k = rw (zero-add k) at (from-is-given 0 refl (freshOf 0) fresh-is-state none-acted k)
 
-  pub honest : (k : ℕ) → decodedOf (entryOf (stateFrom g s 0 (freshOf 0) k)) ≡ record { holds = true; state = stateFrom g s 0 (freshOf 0) k }
+  pub honest : (k : ℕ) → decodedOf (entryOf (stateFrom g s 0 (freshOf 0) k)) ≡ record { valid = true; state = stateFrom g s 0 (freshOf 0) k }
   honest k = honest-from 0 refl (freshOf 0) fresh-is-state none-acted (fresh-fitting 0) k
 
   pub honest-is-entry : (k : ℕ) → isEntry (entryOf (stateFrom g s 0 (freshOf 0) k)) ≡ true
   honest-is-entry k = from-is-entry 0 refl (freshOf 0) fresh-is-state none-acted (fresh-fitting 0) k
 
-  pub fresh-entries-honest : (k j : ℕ) → j < k → HonestEntry s (j * mark) (stateFrom g s 0 (freshOf 0) (j * mark)) (take entryWords (drop (j * entryWords) (shelfOf (entriesFrom g s 0 (freshOf 0) k))))
+  pub fresh-entries-honest : (k j : ℕ) → j < k → HonestEntry s (j * sectionSize) (stateFrom g s 0 (freshOf 0) (j * sectionSize)) (take entryWords (drop (j * entryWords) (shelfOf (entriesFrom g s 0 (freshOf 0) k))))
   fresh-entries-honest k j h = rw (zero-add j) at (entries-honest 0 (freshOf 0) fresh-is-state none-acted (fresh-fitting 0) k j h)
 
 -- ---- the shelf that a render leaves
 module _ (g : Settings) (s : List ℕ) (out : List Float) (shelf : List ℕ) where
   -- what is true of a render that is done
-  pub render-passed : (n : ℕ) → renderOf g s out shelf .result .answer ≡ Done n → Passed g (isRoom (length out) (length shelf)) s
-  render-passed n d = all-passed g (isRoom (length out) (length shelf)) s (render-decided g s out shelf .done n d)
+  pub render-passed : (n : ℕ) → renderOf g s out shelf .result .answer ≡ Done n → Passed g (sizesFit (length out) (length shelf)) s
+  render-passed n d = all-passed g (sizesFit (length out) (length shelf)) s (render-decided g s out shelf .done n d)
 
   -- entry i, of the entries of n samples
   pub render-honest : T (fits binary64 (g .adsr .sustain)) → (n : ℕ) → renderOf g s out shelf .result .answer ≡ Done n → (i : ℕ) → i < entriesFor n
-      → HonestEntry s (i * mark) (stateFrom g s 0 (freshOf 0) (i * mark)) (take entryWords (drop (i * entryWords) (renderOf g s out shelf .stored)))
+      → HonestEntry s (i * sectionSize) (stateFrom g s 0 (freshOf 0) (i * sectionSize)) (take entryWords (drop (i * entryWords) (renderOf g s out shelf .stored)))
   render-honest w n d i h =
       let p = render-passed n d in
       let c = render-decided g s out shelf in

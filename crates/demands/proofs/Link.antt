@@ -32,7 +32,7 @@ use Rattle.state.specs.Heart.{stateFrom, samplesFrom}
 use Rattle.state.proofs.RunsOn.{state-on}
 use Rattle.state.proofs.Depends.{Shared, state-shared, samples-shared, grown-shared}
 use Rattle.state.proofs.Acted.{acted-fresh}
-use Rattle.judging.specs.Judging.{refusalsOf, most, isStretch}
+use Rattle.judging.specs.Judging.{refusalsOf, mostSamples, partFits}
 use Rattle.judging.proofs.Refusals.{all-passed, none-refused}
 use Rattle.render.specs.Calls.{PartOutcome, isGiven, madePart, keptPart, continueOf}
 use Rattle.render.proofs.Outcomes.{continue-decided}
@@ -42,7 +42,7 @@ use Rattle.demands.specs.Chain.{Step, ChainOutcome, andThen, chainFrom, 
 -- what is true of a call that answers 0
 pub record PassedCall (g : Settings) (t : List ℕ) (v : State) (p n : ℕ) : Type 0 where
   pub settings : settingsOk g ≡ true
-  pub in-time : p + n ≤ most
+  pub in-time : p + n ≤ mostSamples
   pub accepted : verdictOf t ≡ Accepted (countOf t)
   pub acted : v .acted ≡ countBelow t p
 
@@ -55,15 +55,15 @@ module _ (g : Settings) (t : List ℕ) (v : State) (p : ℕ) (part : List Float)
 
   pub call-passed : (m : ℕ) → call .result .answer ≡ Done m → PassedCall g t v p n
   call-passed m e =
-      let b = none-both (refusalsOf g (isStretch p n) t) (unless (isGiven t p v) GivenState) (continue-decided g t v p part .done m e) in
-      let a = all-passed g (isStretch p n) t (b .0) in
+      let b = none-both (refusalsOf g (partFits p n) t) (unless (isGiven t p v) GivenState) (continue-decided g t v p part .done m e) in
+      let a = all-passed g (partFits p n) t (b .0) in
       let c = both (isState v) (eqb (v .acted) (countBelow t p)) (passed (isGiven t p v) GivenState (b .1)) in
-      record { settings = a .settings; in-time = leb-true (p + n) most (a .sized); accepted = a .accepted; acted = eqb-true (v .acted) (countBelow t p) (c .1) }
+      record { settings = a .settings; in-time = leb-true (p + n) mostSamples (a .sized); accepted = a .accepted; acted = eqb-true (v .acted) (countBelow t p) (c .1) }
 
   -- settings in their domain, a part that is not too long and an accepted score: the given state alone decides
-  module _ (ok : settingsOk g ≡ true) (l : p + n ≤ most) (m : ℕ) (a : verdictOf t ≡ Accepted m) where
-    none-before : refusalsOf g (isStretch p n) t ≡ []
-    none-before = none-refused g (isStretch p n) t m ok (le-leb (p + n) most l) a
+  module _ (ok : settingsOk g ≡ true) (l : p + n ≤ mostSamples) (m : ℕ) (a : verdictOf t ≡ Accepted m) where
+    none-before : refusalsOf g (partFits p n) t ≡ []
+    none-before = none-refused g (partFits p n) t m ok (le-leb (p + n) mostSamples l) a
 
     -- 0 where v is within the shelf's limits and as many records acted as are below p
     pub call-done : isState v ≡ true → v .acted ≡ countBelow t p → call .result .answer ≡ Done n
@@ -119,7 +119,7 @@ module _ (s t : List ℕ) (m k : ℕ) (a : verdictOf s ≡ Accepted m) (b : verd
         ap (λ (w : State). stateFrom g t p w n) e ∙ sym (rw (zero-add p) at (state-on g t 0 (freshOf 0) p n))
 
     -- a record added below p has not acted, and the call is 10
-    pub late : settingsOk g ≡ true → (part : List Float) → p + length part ≤ most → (i : ℕ) → countOf s ≤ i → i < countOf t → positionAt t i < p → continueOf g t v p part ≡ keptPart v part GivenState
+    pub late : settingsOk g ≡ true → (part : List Float) → p + length part ≤ mostSamples → (i : ℕ) → countOf s ≤ i → i < countOf t → positionAt t i < p → continueOf g t v p part ≡ keptPart v part GivenState
     late ok part l i y z h = call-late g t v p part ok l k b (λ e. let f : p ≤ positionAt t i = none-below (sym e ∙ acted-is) i y z in omega arith)
 
 -- ---- the steps of a chain

@@ -24,7 +24,7 @@ use Rattle.state.specs.declared.State.{State}
 use Rattle.state.specs.Settings.{settingsOk}
 use Rattle.state.specs.State.{freshOf}
 use Rattle.shelf.specs.Shelf.{wordsFor}
-use Rattle.judging.specs.Judging.{most}
+use Rattle.judging.specs.Judging.{mostSamples}
 use Rattle.render.specs.Calls.{PartOutcome, renderOf, continueOf}
 
 -- a call: its score, and the part of the output that the call is lent
@@ -109,4 +109,4 @@ pub record PartsAreOne : Type 0 where
   pub one-render : (g : Settings) (x : Step) (xs : List Step) → Grows [] (x ∷ xs) → AllDone g (freshOf 0) 0 (x ∷ xs)
       → (out : List Float) (shelf : List ℕ) → length out ≡ samplesOf (x ∷ xs) → length shelf ≡ wordsFor (length out) → OneRender g (x ∷ xs) out shelf
   -- under settings in their domain; the sustain is a value of an f64, as every f64 of the code is
-  pub done-exactly : (g : Settings) → settingsOk g ≡ true → T (fits binary64 (g .adsr .sustain)) → (xs : List Step) → AllAccepted xs → Grows [] xs → samplesOf xs ≤ most → DoneExactly g xs
+  pub done-exactly : (g : Settings) → settingsOk g ≡ true → T (fits binary64 (g .adsr .sustain)) → (xs : List Step) → AllAccepted xs → Grows [] xs → samplesOf xs ≤ mostSamples → DoneExactly g xs

@@ -17,7 +17,7 @@ use Rattle.answers.specs.declared.Refusal.{Refusal}
 use Rattle.answers.specs.declared.Refusal.the-variants.{Score, NewScore, Setting, Size, StartEntry, Argument, GivenState}
 use Rattle.answers.specs.declared.ScoreFault.{ScoreFault}
 use Rattle.answers.specs.declared.ScoreFault.the-variants.{Length, Mark, Kind, Field, Order}
-use Rattle.judging.specs.Judging.{Passed, isRoom, isStretch}
+use Rattle.judging.specs.Judging.{Passed, sizesFit, partFits}
 use Rattle.render.specs.Calls.{says, renderOf, leavesPart, isGiven, continueOf}
 use Rattle.rerender.specs.declared.Plan.the-variants.{From}
 use Rattle.rerender.specs.Rerender.{planOf, isStart, countFor, rerenderOf}
@@ -90,18 +90,18 @@ RerenderWhen g room old new n shelf Argument = ⊥
 RerenderWhen g room old new n shelf GivenState = ⊥
 
 pub record RenderExactly (g : Settings) (s : List ℕ) (out : List Float) (shelf : List ℕ) : Type 0 where
-  pub refused : (why : Refusal) → Exactly (renderOf g s out shelf .result .answer ≡ Refused why) (RenderWhen g (isRoom (length out) (length shelf)) s why)
-  pub done : Exactly (renderOf g s out shelf .result .answer ≡ Done (length out)) (Passed g (isRoom (length out) (length shelf)) s)
+  pub refused : (why : Refusal) → Exactly (renderOf g s out shelf .result .answer ≡ Refused why) (RenderWhen g (sizesFit (length out) (length shelf)) s why)
+  pub done : Exactly (renderOf g s out shelf .result .answer ≡ Done (length out)) (Passed g (sizesFit (length out) (length shelf)) s)
   pub as-it-came : (why : Refusal) → renderOf g s out shelf .result .answer ≡ Refused why → renderOf g s out shelf ≡ leaves (says (Refused why) (freshOf 0)) out shelf
 
 pub record ContinueExactly (g : Settings) (s : List ℕ) (v : State) (p : ℕ) (part : List Float) : Type 0 where
-  pub refused : (why : Refusal) → Exactly (continueOf g s v p part .result .answer ≡ Refused why) (ContinueWhen g (isStretch p (length part)) s (isGiven s p v) why)
-  pub done : Exactly (continueOf g s v p part .result .answer ≡ Done (length part)) (Passed g (isStretch p (length part)) s × (isGiven s p v ≡ true))
+  pub refused : (why : Refusal) → Exactly (continueOf g s v p part .result .answer ≡ Refused why) (ContinueWhen g (partFits p (length part)) s (isGiven s p v) why)
+  pub done : Exactly (continueOf g s v p part .result .answer ≡ Done (length part)) (Passed g (partFits p (length part)) s × (isGiven s p v ≡ true))
   pub as-it-came : (why : Refusal) → continueOf g s v p part .result .answer ≡ Refused why → continueOf g s v p part ≡ leavesPart (says (Refused why) v) part
 
 pub record RerenderExactly (g : Settings) (old new : List ℕ) (out : List Float) (shelf : List ℕ) : Type 0 where
-  pub refused : (why : Refusal) → Exactly (rerenderOf g old new out shelf .result ≡ Refused why) (RerenderWhen g (isRoom (length out) (length shelf)) old new (length out) shelf why)
+  pub refused : (why : Refusal) → Exactly (rerenderOf g old new out shelf .result ≡ Refused why) (RerenderWhen g (sizesFit (length out) (length shelf)) old new (length out) shelf why)
   pub done : Exactly
       (rerenderOf g old new out shelf .result ≡ Done (countFor g old new (planOf old new (length out)) (length out)))
-      (Passed g (isRoom (length out) (length shelf)) old × (verdictOf new ≡ Accepted (countOf new)) × ((m : ℕ) → planOf old new (length out) ≡ From m → isStart new m shelf ≡ true))
+      (Passed g (sizesFit (length out) (length shelf)) old × (verdictOf new ≡ Accepted (countOf new)) × ((m : ℕ) → planOf old new (length out) ≡ From m → isStart new m shelf ≡ true))
   pub as-it-came : (why : Refusal) → rerenderOf g old new out shelf .result ≡ Refused why → rerenderOf g old new out shelf ≡ leaves (Refused why) out shelf

@@ -23,10 +23,10 @@ use Rattle.score.specs.declared.Verdict.the-variants.{Accepted}
 use Rattle.score.specs.Score.{verdictOf}
 use Rattle.score.specs.Below.{countBelow}
 use Rattle.score.specs.Apart.{differenceOf}
-use Rattle.shelf.specs.Shelf.{mark, entryWords, wordsFor}
+use Rattle.shelf.specs.Shelf.{sectionSize, entryWords, wordsFor}
 use Rattle.state.specs.declared.Settings.{Settings}
 use Rattle.state.specs.Settings.{settingsOk}
-use Rattle.judging.specs.Judging.{most}
+use Rattle.judging.specs.Judging.{mostSamples}
 use Rattle.render.specs.declared.Rendered.{Rendered}
 use Rattle.render.specs.Calls.{renderOf}
 use Rattle.rerender.specs.Rerender.{entryAt, rerenderOf}
@@ -46,7 +46,7 @@ pub record Edit (g : Settings) (old new : List ℕ) : Type 0 where
 
 -- an output of at most 16,777,216 samples and a shelf that fits it, whatever they hold
 pub record Lent (out : List Float) (shelf : List ℕ) : Type 0 where
-  pub short : length out ≤ most
+  pub short : length out ≤ mostSamples
   pub fits : length shelf ≡ wordsFor (length out)
 
 -- any such output and shelf of n samples, lent to a render
@@ -72,24 +72,24 @@ pub record FirstChange (old new : List ℕ) (p : ℕ) : Type 0 where
 -- ---- what is promised
 -- ys and ws are left in place of out and shelf: from section m on what the render leaves in any buffers of the same
 -- size, before section m what came
-pub record FromMark {R : Type 0} (out : List Float) (shelf : List ℕ) (render : Buffers (length out) → Outcome R) (m : ℕ) (ys : List Float) (ws : List ℕ) : Type 0 where
-  pub samples-are : (b : Buffers (length out)) → drop (m * mark) ys ≡ drop (m * mark) (render b .heard)
+pub record FromSection {R : Type 0} (out : List Float) (shelf : List ℕ) (render : Buffers (length out) → Outcome R) (m : ℕ) (ys : List Float) (ws : List ℕ) : Type 0 where
+  pub samples-are : (b : Buffers (length out)) → drop (m * sectionSize) ys ≡ drop (m * sectionSize) (render b .heard)
   pub entries-are : (b : Buffers (length out)) → drop (m * entryWords) ws ≡ drop (m * entryWords) (render b .stored)
-  pub samples-stay : take (m * mark) ys ≡ take (m * mark) out
+  pub samples-stay : take (m * sectionSize) ys ≡ take (m * sectionSize) out
   pub entries-stay : take (m * entryWords) ws ≡ take (m * entryWords) shelf
 
 -- a call that started at section m: done, with the count of the samples from there to the end, and so not 8
 pub record Remade (g : Settings) (new : List ℕ) (m : ℕ) (out : List Float) (shelf : List ℕ) (o : Outcome Answer) : Type 0 where
-  pub counted : o .result ≡ Done (length out - m * mark)
+  pub counted : o .result ≡ Done (length out - m * sectionSize)
   pub never-8 : o .result ≡ Refused StartEntry → ⊥
-  pub left : FromMark out shelf (leftIn g new) m (o .heard) (o .stored)
+  pub left : FromSection out shelf (leftIn g new) m (o .heard) (o .stored)
 
 -- ---- the claim
 pub record Demand3 : Type 0 where
   -- the first changed record is at p, before the end, and the entry of the section that holds p is what a render of the
   -- old score left there
   pub re-rendered : (g : Settings) (old new : List ℕ) → Edit g old new → (out : List Float) (shelf : List ℕ) → Lent out shelf → (p : ℕ) → differenceOf old new ≡ At p → p < length out
-      → (b : Buffers (length out)) → entryAt shelf (p / mark) ≡ entryAt (leftIn g old b .stored) (p / mark) → Remade g new (p / mark) out shelf (rerenderOf g old new out shelf)
+      → (b : Buffers (length out)) → entryAt shelf (p / sectionSize) ≡ entryAt (leftIn g old b .stored) (p / sectionSize) → Remade g new (p / sectionSize) out shelf (rerenderOf g old new out shelf)
   -- the scores are equal, whatever the shelf holds
   pub equal : (g : Settings) (s : List ℕ) → Edit g s s → (out : List Float) (shelf : List ℕ) → Lent out shelf → rerenderOf g s s out shelf ≡ leaves (Done 0) out shelf
   -- the first change lies at or past the end, whatever the shelf holds

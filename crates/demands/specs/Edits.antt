@@ -19,11 +19,11 @@ use Rattle.answers.specs.declared.Answer.{Answer}
 use Rattle.answers.specs.declared.Answer.the-variants.{Done}
 use Rattle.score.specs.declared.Difference.the-variants.{At}
 use Rattle.score.specs.Apart.{differenceOf}
-use Rattle.shelf.specs.Shelf.{mark, entryWords}
+use Rattle.shelf.specs.Shelf.{sectionSize, entryWords}
 use Rattle.state.specs.declared.Settings.{Settings}
 use Rattle.state.specs.Settings.{settingsOk}
 use Rattle.rerender.specs.Rerender.{planOf, countFor, rerenderOf}
-use Rattle.demands.specs.Demand3.{Taken, Lent, Buffers, leftIn, FromMark}
+use Rattle.demands.specs.Demand3.{Taken, Lent, Buffers, leftIn, FromSection}
 
 -- ---- the calls
 -- a call, and then the rest: the answer of each call, and what the rest leaves in the same output and shelf
@@ -54,13 +54,13 @@ AllTaken (s ∷ rest) = Taken s × AllTaken rest
 -- no edit that changes a record before sample n changes one before section b
 abbrev pub NoneBefore : ℕ → ℕ → List ℕ → List (List ℕ) → Type 0
 NoneBefore b n old [] = Unit
-NoneBefore b n old (new ∷ rest) = ((p : ℕ) → differenceOf old new ≡ At p → p < n → b * mark ≤ p) × NoneBefore b n new rest
+NoneBefore b n old (new ∷ rest) = ((p : ℕ) → differenceOf old new ≡ At p → p < n → b * sectionSize ≤ p) × NoneBefore b n new rest
 
 -- from section b on, output and shelf hold what the render left in some buffers of the same size; before section b,
 -- anything
 pub record HonestFrom {R : Type 0} (out : List Float) (shelf : List ℕ) (render : Buffers (length out) → Outcome R) (b : ℕ) : Type 0 where
   pub buffers : Buffers (length out)
-  pub samples : drop (b * mark) out ≡ drop (b * mark) (render buffers .heard)
+  pub samples : drop (b * sectionSize) out ≡ drop (b * sectionSize) (render buffers .heard)
   pub entries : drop (b * entryWords) shelf ≡ drop (b * entryWords) (render buffers .stored)
 
 pub record Editing (g : Settings) (old : List ℕ) (news : List (List ℕ)) (b : ℕ) (out : List Float) (shelf : List ℕ) : Type 0 where
@@ -76,7 +76,7 @@ pub record Editing (g : Settings) (old : List ℕ) (news : List (List ℕ)) (b :
 -- every call is done with its count; from section b on one render of the last score is left, before section b what came
 pub record Edited (g : Settings) (old : List ℕ) (news : List (List ℕ)) (b : ℕ) (out : List Float) (shelf : List ℕ) (o : Outcome (List Answer)) : Type 0 where
   pub answered : o .result ≡ allCounted g old news (length out)
-  pub left : FromMark out shelf (leftIn g (lastScore old news)) b (o .heard) (o .stored)
+  pub left : FromSection out shelf (leftIn g (lastScore old news)) b (o .heard) (o .stored)
 
 -- after a render of the old score: the whole output and shelf are those of any render of the last score
 pub record EditedWhole (g : Settings) (old : List ℕ) (news : List (List ℕ)) (n : ℕ) (o : Outcome (List Answer)) : Type 0 where

@@ -3,4 +3,4 @@
 // shelf that a render left is never refused; parts continued one after the other are one render (01, "Making sample
 // n"); a re-render is a render of the new score from the start of its section on (demand 3); and any number of edits
 // lose nothing. No function. The theorems have a crate of their own so that trying a wrong program of a call does not
-// prove them again. `boundary` has the theorems of the calls that C makes.
+// prove them again. `ffi_demands` has the theorems of the calls that C makes.

@@ -10,15 +10,15 @@ use mathlib.Core.Bool.{Bool, _&&_}
 use Prim.Native.Nat.{ℕ}
 use lib.Dec.{leb}
 use lib.Ieee.{Float, Format, binary32, binary64, ofBits, lt, le}
-use Rattle.floats.specs.Range.{lit0, within}
-use Rattle.floats.specs.Double.{naught, one, four}
+use Rattle.floats.specs.Range.{zeroOf, within}
+use Rattle.floats.specs.Double.{zero64, one, four}
 
 -- ---- normalised numbers
 abbrev pub isPhase : Float → Float → Bool
-isPhase t dt = within naught one t && within naught four dt
+isPhase t dt = within zero64 one t && within zero64 four dt
 
 abbrev pub isDuty : Float → Bool
-isDuty duty = within naught one duty
+isDuty duty = within zero64 one duty
 
 -- ---- block calls
 -- a rate in whole Hz
@@ -33,10 +33,10 @@ abbrev pub highestLfo : Float
 highestLfo = ofBits binary64 0x4059_0000_0000_0000
 
 abbrev pub isFrequency : Float → Float → Bool
-isFrequency highest x = within naught highest x
+isFrequency highest x = within zero64 highest x
 
 abbrev pub isDepth : Float → Bool
-isDepth depth = within naught one depth
+isDepth depth = within zero64 one depth
 
 -- 1,000 radians
 abbrev pub thousand : Float
@@ -44,7 +44,7 @@ thousand = ofBits binary64 0x408f_4000_0000_0000
 
 -- a phase in radians: at least 0 and below 1,000
 abbrev pub isRadians : Float → Bool
-isRadians x = le naught x && lt x thousand
+isRadians x = le zero64 x && lt x thousand
 
 -- ---- the voice
 -- a note or a velocity
@@ -57,4 +57,4 @@ highestPitch binary32 = ofBits binary32 0x4644_0000
 highestPitch binary64 = ofBits binary64 0x40c8_8000_0000_0000
 
 abbrev pub isPitch : Format → Float → Bool
-isPitch f x = lt (lit0 f) x && le x (highestPitch f)
+isPitch f x = lt (zeroOf f) x && le x (highestPitch f)

@@ -10,8 +10,8 @@ use lib.Ieee.Bits.{ofBits-fits}
 use lib.Ieee.Order.{round-mono}
 use lib.Ieee.Positive.{positive}
 use lib.Ieee.Scale.{finite}
-use Rattle.floats.specs.Range.{nought, within}
-use Rattle.floats.specs.Double.{naught, one}
+use Rattle.floats.specs.Range.{plusZero, within}
+use Rattle.floats.specs.Double.{zero64, one}
 use Rattle.floats.proofs.Order.{fle-trans, ge0→le, nonneg→finite, under, not-lt-le-any}
 use Rattle.floats.proofs.Rounds.{ge0-round}
 use Rattle.floats.proofs.Ranges.{within-nonneg, ge0-positive, div-ge0}
@@ -35,24 +35,24 @@ upper lo hi x h = and-r (le lo x) (le x hi) h
 
 -- ---- the envelope
 pub record Inside (e : Envelope) : Type 0 where
-  pub level-in : T (within naught one (e .level))
-  pub release-in : T (within naught one (e .«release_level»))
-  pub time-in : T (within naught eleven (e .«stage_time»))
+  pub level-in : T (within zero64 one (e .level))
+  pub release-in : T (within zero64 one (e .«release_level»))
+  pub time-in : T (within zero64 eleven (e .«stage_time»))
 
 pub is-inside : (e : Envelope) → T (isEnvelope e) → Inside e
 unfolding isEnvelope
 is-inside e h =
-    let a = within naught one (e .level) in
-    let b = within naught one (e .«release_level») in
-    let c = within naught eleven (e .«stage_time») in
+    let a = within zero64 one (e .level) in
+    let b = within zero64 one (e .«release_level») in
+    let c = within zero64 eleven (e .«stage_time») in
     record { level-in = and-l a b (and-l (a && b) c h); release-in = and-r a b (and-l (a && b) c h); time-in = and-r (a && b) c h }
 
 pub accepted : (e : Envelope) → Inside e → T (isEnvelope e)
 unfolding isEnvelope
 accepted e i =
-    let a = within naught one (e .level) in
-    let b = within naught one (e .«release_level») in
-    and-i (a && b) (within naught eleven (e .«stage_time»)) (and-i a b (i .level-in) (i .release-in)) (i .time-in)
+    let a = within zero64 one (e .level) in
+    let b = within zero64 one (e .«release_level») in
+    and-i (a && b) (within zero64 eleven (e .«stage_time»)) (and-i a b (i .level-in) (i .release-in)) (i .time-in)
 
 -- so no field is a NaN or an infinity
 pub record FiniteFields (e : Envelope) : Type 0 where
@@ -74,7 +74,7 @@ finite-fields e h =
 pub record Bounded (k : Adsr) : Type 0 where
   pub attack-in : T (within milli ten (k .attack))
   pub decay-in : T (within milli ten (k .decay))
-  pub sustain-in : T (within naught one (k .sustain))
+  pub sustain-in : T (within zero64 one (k .sustain))
   pub release-in : T (within milli ten (k .release))
   pub sustain-fits : T (fits binary64 (k .sustain))
 
@@ -102,13 +102,13 @@ clamped-in k h w =
     record {
       attack-in = time-clamped (k .attack) (and-l a d ad);
       decay-in = time-clamped (k .decay) (and-r a d ad);
-      sustain-in = clamp-in naught one (k .sustain) (unfold ofBits in unfold isNan in tt) (unfold ofBits in unfold isNan in tt) (unfold ofBits in unfold le in tt) (unfold ofBits in unfold le in tt) (and-r (a && d) s ads);
+      sustain-in = clamp-in zero64 one (k .sustain) (unfold ofBits in unfold isNan in tt) (unfold ofBits in unfold isNan in tt) (unfold ofBits in unfold le in tt) (unfold ofBits in unfold le in tt) (and-r (a && d) s ads);
       release-in = time-clamped (k .release) (and-r (a && d && s) r h);
       sustain-fits = clamp-fits;
     }
   where
-    clamp-fits : T (fits binary64 (clampOf naught one (k .sustain)))
-    clamp-fits = cond-fits binary64 (lt (k .sustain) naught) naught (cond (lt one (k .sustain)) one (k .sustain)) (ofBits-fits binary64 0) (cond-fits binary64 (lt one (k .sustain)) one (k .sustain) (ofBits-fits binary64 0x3ff0_0000_0000_0000) w)
+    clamp-fits : T (fits binary64 (clampOf zero64 one (k .sustain)))
+    clamp-fits = cond-fits binary64 (lt (k .sustain) zero64) zero64 (cond (lt one (k .sustain)) one (k .sustain)) (ofBits-fits binary64 0) (cond-fits binary64 (lt one (k .sustain)) one (k .sustain) (ofBits-fits binary64 0x3ff0_0000_0000_0000) w)
 
 -- ---- the time of a sample
 -- 1 / 8000
@@ -116,7 +116,7 @@ abbrev pub slowest : Float
 slowest = ofBits binary64 0x3f20_624d_d2f1_a9fc
 
 abbrev pub Tick : Float → Type 0
-Tick t = T (within naught slowest t)
+Tick t = T (within zero64 slowest t)
 
 -- 1 / n is at most 1 / 8000 for n from 8,000 to 192,000
 tick-in : (n : ℕ) → 8000 ≤ n → n ≤ 192000 → Tick (sampleTimeOf n)
@@ -126,7 +126,7 @@ tick-in n h k =
     let low : T (le (round binary64 false 8000 1) x) = round-mono binary64 8000 1 n 1 (lit< tt) (lit< tt) (omega arith) in
     let top : T (le x (round binary64 false 192000 1)) = round-mono binary64 n 1 192000 1 (lit< tt) (lit< tt) (omega arith) in
     let p : T (positive x) = ge0-positive (round binary64 false 8000 1) x tt low (nonneg→finite x (under x (round binary64 false 192000 1) (ge0-round binary64 n 1) tt top)) in
-    and-i (le nought (div binary64 one x)) (le (div binary64 one x) slowest) (ge0→le (div binary64 one x) (div-ge0 binary64 one x tt p))
+    and-i (le plusZero (div binary64 one x)) (le (div binary64 one x) slowest) (ge0→le (div binary64 one x) (div-ge0 binary64 one x tt p))
     (fle-trans (div binary64 one x) (div binary64 one (round binary64 false 8000 1)) slowest (div-mono binary64 one one x (round binary64 false 8000 1) tt tt p tt tt low) tt)
 
 pub sample-time-in : (rate : ℕ) → T (isRate rate) → Tick (sampleTimeOf rate)

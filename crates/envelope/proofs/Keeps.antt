@@ -7,14 +7,14 @@ use lib.Ieee.{Float, binary64, ofBits, add, sub, mul, div, le, fits}
 use lib.Ieee.Fits.{and-i, div-fits}
 use lib.Ieee.Positive.{positive}
 use Prim.Native.Nat.{ℕ}
-use Rattle.floats.specs.Range.{nought, ge0, nonneg, within}
-use Rattle.floats.specs.Double.{naught, one}
+use Rattle.floats.specs.Range.{plusZero, ge0, nonneg, within}
+use Rattle.floats.specs.Double.{zero64, one}
 use Rattle.floats.proofs.Order.{fle-trans, not-le-le, ge0→le, nonneg→finite, under}
 use Rattle.floats.proofs.Ranges.{positive-nonneg, within-nonneg, ge0-positive, add-ge0, mul-ge0, div-ge0, sub-ge0, sub-le, div-le-one, one-le-div, sub-nonpos, neg-sub-nonneg, mul-nonpos}
 use Rattle.floats.proofs.Monotone.{add-mono, mul-mono, div-mono}
 use Rattle.domain.specs.Domain.{isRate}
 use Rattle.envelope.specs.Limits.{milli, ten, eleven, isAdsr, isEnvelope, clampedOf, sampleTimeOf}
-use Rattle.envelope.specs.Stages.{silent, attackLevel, decayLevel, releaseLevel, attackRule, decayRule, releaseRule, ruleOf, grownOf, stepOf, freshOf, triggeredOf, restsIn, releasedOf}
+use Rattle.envelope.specs.Stages.{releaseFloor, attackLevel, decayLevel, releaseLevel, attackRule, decayRule, releaseRule, ruleOf, grownOf, stepOf, freshOf, triggeredOf, isIdle, releasedOf}
 use Rattle.envelope.specs.declared.Adsr.{Adsr}
 use Rattle.envelope.specs.declared.Envelope.{Envelope}
 use Rattle.envelope.specs.declared.EnvelopeStage.{EnvelopeStage}
@@ -36,24 +36,24 @@ not-past x y p q h = not-le-le y x (nonneg→finite y (positive-nonneg y q)) (no
 -- a clamped time is above 0
 time-positive : (x : Float) → T (within milli ten x) → T (positive x)
 unfolding ofBits le
-time-positive x h = ge0-positive milli x tt (lower milli ten x h) (nonneg→finite x (within-nonneg ten x tt (and-i (le nought x) (le x ten) (fle-trans nought milli x tt (lower milli ten x h)) (upper milli ten x h))))
+time-positive x h = ge0-positive milli x tt (lower milli ten x h) (nonneg→finite x (within-nonneg ten x tt (and-i (le plusZero x) (le x ten) (fle-trans plusZero milli x tt (lower milli ten x h)) (upper milli ten x h))))
 
 -- 10.5: plus the time of a sample it is below 11
 abbrev late : Float
 late = ofBits binary64 0x4025_0000_0000_0000
 
 -- a time up to 10.5 s may grow by one sample
-later : (x t : Float) → T (nonneg x) → T (le x late) → Tick t → T (within naught eleven (add binary64 x t))
+later : (x t : Float) → T (nonneg x) → T (le x late) → Tick t → T (within zero64 eleven (add binary64 x t))
 unfolding ofBits le add
 later x t p h d =
     let q : T (nonneg t) = within-nonneg slowest t tt d in
-    and-i (le nought (add binary64 x t)) (le (add binary64 x t) eleven) (ge0→le (add binary64 x t) (add-ge0 binary64 x t p q))
-    (fle-trans (add binary64 x t) (add binary64 late slowest) eleven (add-mono binary64 x late t slowest p tt q tt h (upper naught slowest t d)) tt)
+    and-i (le plusZero (add binary64 x t)) (le (add binary64 x t) eleven) (ge0→le (add binary64 x t) (add-ge0 binary64 x t p q))
+    (fle-trans (add binary64 x t) (add binary64 late slowest) eleven (add-mono binary64 x late t slowest p tt q tt h (upper zero64 slowest t d)) tt)
 
 -- 0 ≤ x ≤ 1 as one test
-unit-in : (x : Float) → T (ge0 x) → T (le x one) → T (within naught one x)
+unit-in : (x : Float) → T (ge0 x) → T (le x one) → T (within zero64 one x)
 unfolding ofBits
-unit-in x p h = and-i (le nought x) (le x one) (ge0→le x p) h
+unit-in x p h = and-i (le plusZero x) (le x one) (ge0→le x p) h
 
 -- ---- one step
 module _ (k : Adsr) (t : Float) (e : Envelope) (c : Bounded k) (d : Tick t) (i : Inside e) where
@@ -65,7 +65,7 @@ module _ (k : Adsr) (t : Float) (e : Envelope) (c : Bounded k) (d : Tick t) (i :
   time-nonneg = within-nonneg eleven time tt (i .time-in)
 
   -- a time up to a limit y may grow, because y is at most 10 s
-  on-time : (y : Float) → T (within milli ten y) → T (le time y) → T (within naught eleven (add binary64 time t))
+  on-time : (y : Float) → T (within milli ten y) → T (le time y) → T (within zero64 eleven (add binary64 time t))
   unfolding ofBits le
   on-time y h l = later time t time-nonneg (fle-trans time y late l (fle-trans y ten late (upper milli ten y h) tt)) d
 
@@ -75,7 +75,7 @@ module _ (k : Adsr) (t : Float) (e : Envelope) (c : Bounded k) (d : Tick t) (i :
 
   progress-most : (y : Float) → T (within milli ten y) → T (le (div binary64 time y) most)
   unfolding ofBits le
-  progress-most y h = div-mono binary64 time eleven y milli time-nonneg tt (time-positive y h) tt (upper naught eleven time (i .time-in)) (lower milli ten y h)
+  progress-most y h = div-mono binary64 time eleven y milli time-nonneg tt (time-positive y h) tt (upper zero64 eleven time (i .time-in)) (lower milli ten y h)
 
   progress-nonneg : (y : Float) → T (within milli ten y) → T (nonneg (div binary64 time y))
   unfolding ofBits le div
@@ -88,7 +88,7 @@ module _ (k : Adsr) (t : Float) (e : Envelope) (c : Bounded k) (d : Tick t) (i :
       let pa : T (positive a) = time-positive a (c .attack-in) in
       let v = attackLevel a e in
       choice (λ (x : Envelope). Inside (grownOf t x)) (le one v) _ _
-      (λ (h : T (le one v)). record { level-in = tt; release-in = i .release-in; time-in = later naught t tt tt d })
+      (λ (h : T (le one v)). record { level-in = tt; release-in = i .release-in; time-in = later zero64 t tt tt d })
       (λ (h : T (not (le one v))).
       let l : T (le time a) = not-past time a time-nonneg pa (λ (u : T (le a time)). T-not (le one v) h (one-le-div binary64 time a time-nonneg pa u)) in
       record { level-in = unit-in v (div-ge0 binary64 time a time-nonneg pa) (div-le-one binary64 time a time-nonneg pa l); release-in = i .release-in; time-in = on-time a (c .attack-in) l })
@@ -100,7 +100,7 @@ module _ (k : Adsr) (t : Float) (e : Envelope) (c : Bounded k) (d : Tick t) (i :
       let s = k .sustain in
       let pa : T (positive a) = time-positive a (c .decay-in) in
       let ns : T (nonneg s) = within-nonneg one s tt (c .sustain-in) in
-      let s1 : T (le s one) = upper naught one s (c .sustain-in) in
+      let s1 : T (le s one) = upper zero64 one s (c .sustain-in) in
       let p = div binary64 time a in
       let np : T (nonneg p) = progress-nonneg a (c .decay-in) in
       let f = sub binary64 one s in
@@ -112,7 +112,7 @@ module _ (k : Adsr) (t : Float) (e : Envelope) (c : Bounded k) (d : Tick t) (i :
       choice (λ (x : Envelope). Inside (grownOf t x)) (le v s) _ _
       (λ (h : T (le v s)). record { level-in = c .sustain-in; release-in = i .release-in; time-in = tt })
       (λ (h : T (not (le v s))).
-      let x1 : T (le x one) = not-past x one nx tt (λ (l : T (le one x)). T-not (le v s) h (fle-trans v nought s (sub-nonpos binary64 one x tt nx l) (lower naught one s (c .sustain-in)))) in
+      let x1 : T (le x one) = not-past x one nx tt (λ (l : T (le one x)). T-not (le v s) h (fle-trans v plusZero s (sub-nonpos binary64 one x tt nx l) (lower zero64 one s (c .sustain-in)))) in
       let l : T (le time late) =
       not-past time late time-nonneg tt
       (λ (l : T (le late time)). T-not (le v s) h
@@ -130,19 +130,19 @@ module _ (k : Adsr) (t : Float) (e : Envelope) (c : Bounded k) (d : Tick t) (i :
       let p = div binary64 time a in
       let q = sub binary64 one p in
       let v = releaseLevel a e in
-      choice (λ (x : Envelope). Inside (grownOf t x)) (le v silent) _ _
-      (λ (h : T (le v silent)). record { level-in = tt; release-in = i .release-in; time-in = tt })
-      (λ (h : T (not (le v silent))).
+      choice (λ (x : Envelope). Inside (grownOf t x)) (le v releaseFloor) _ _
+      (λ (h : T (le v releaseFloor)). record { level-in = tt; release-in = i .release-in; time-in = tt })
+      (λ (h : T (not (le v releaseFloor))).
       let l : T (le time a) =
       not-past time a time-nonneg pa
-      (λ (u : T (le a time)). T-not (le v silent) h
-      (fle-trans v nought silent (mul-nonpos binary64 r q nr (neg-sub-nonneg binary64 one p (div-fits binary64 time a) tt (progress-nonneg a (c .release-in)) (one-le-div binary64 time a time-nonneg pa u))) tt)) in
+      (λ (u : T (le a time)). T-not (le v releaseFloor) h
+      (fle-trans v plusZero releaseFloor (mul-nonpos binary64 r q nr (neg-sub-nonneg binary64 one p (div-fits binary64 time a) tt (progress-nonneg a (c .release-in)) (one-le-div binary64 time a time-nonneg pa u))) tt)) in
       let p1 : T (le p one) = div-le-one binary64 time a time-nonneg pa l in
       let np : T (nonneg p) = progress-nonneg a (c .release-in) in
       let q1 : T (le q one) = sub-le binary64 one p tt tt np p1 in
       let nq : T (nonneg q) = under q one (sub-ge0 binary64 one p tt np p1) tt q1 in
       record {
-        level-in = unit-in v (mul-ge0 binary64 r q nr nq) (fle-trans v (mul binary64 one one) one (mul-mono binary64 r one q one nr tt nq tt (upper naught one r (i .release-in)) q1) tt);
+        level-in = unit-in v (mul-ge0 binary64 r q nr nq) (fle-trans v (mul binary64 one one) one (mul-mono binary64 r one q one nr tt nq tt (upper zero64 one r (i .release-in)) q1) tt);
         release-in = i .release-in;
         time-in = on-time a (c .release-in) l;
       })
@@ -173,8 +173,8 @@ triggered-keeps e h = let i = is-inside e h in accepted _ (record { level-in = i
 
 pub released-keeps : (e : Envelope) → T (isEnvelope e) → T (isEnvelope (releasedOf e))
 unfolding releasedOf
-released-keeps e h = go (restsIn (e .stage))
+released-keeps e h = go (isIdle (e .stage))
   where
-    go : (b : Bool) → T (isEnvelope (cond b e (record { stage = Release; level = e .level; «stage_time» = naught; «release_level» = e .level })))
+    go : (b : Bool) → T (isEnvelope (cond b e (record { stage = Release; level = e .level; «stage_time» = zero64; «release_level» = e .level })))
     go true = h
     go false = let i = is-inside e h in accepted _ (record { level-in = i .level-in; release-in = i .level-in; time-in = unfold ofBits in unfold le in tt })

@@ -20,4 +20,4 @@ pub mod Stays
 -- two outcomes of a public function are equal
 pub mod Unique
 -- easy errors, by example
-pub mod Marks
+pub mod Examples

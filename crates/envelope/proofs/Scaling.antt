@@ -14,7 +14,7 @@ use Rattle.envelope.specs.declared.Adsr.{Adsr}
 use Rattle.envelope.specs.declared.Envelope.{Envelope}
 use Rattle.envelope.specs.declared.EnvelopeStage.{EnvelopeStage}
 use Rattle.envelope.specs.declared.EnvelopeStage.the-variants.{Idle, Attack, Decay, Sustain, Release}
-use Rattle.envelope.specs.Stages.{ruleOf, grows, grownOf, stepOf}
+use Rattle.envelope.specs.Stages.{ruleOf, isMoving, grownOf, stepOf}
 use Rattle.envelope.specs.Inner.{levelOf, endsAt, nextIn, endedIn, scaledTwo, Reached}
 use Rattle.envelope.specs.Running.{envelopeFrom}
 use Rattle.envelope.specs.Scaled.{scaledTo, Scaled}
@@ -58,18 +58,18 @@ module _ (k : Adsr) (t : Float) (e : Envelope) where
       go Release h = rw h refl
 
   -- ---- in Idle and Sustain every step gives what the first one gave
-  still : grows (e .stage) ≡ false → stepOf k t (stepOf k t e) ≡ stepOf k t e
+  still : isMoving (e .stage) ≡ false → stepOf k t (stepOf k t e) ≡ stepOf k t e
   unfolding stepOf
   still h = go (e .stage) h
     where
-      go : (s : EnvelopeStage) → grows s ≡ false → stepOf k t (grownOf t (ruleOf s k e)) ≡ grownOf t (ruleOf s k e)
+      go : (s : EnvelopeStage) → isMoving s ≡ false → stepOf k t (grownOf t (ruleOf s k e)) ≡ grownOf t (ruleOf s k e)
       go Idle h = refl
       go Attack h = absurd (true≢false h)
       go Decay h = absurd (true≢false h)
       go Sustain h = refl
       go Release h = absurd (true≢false h)
 
-  pub stands : grows (e .stage) ≡ false → (n : ℕ) → 0 < n → stepOf k t e ≡ envelopeFrom k t e n
+  pub stands : isMoving (e .stage) ≡ false → (n : ℕ) → 0 < n → stepOf k t e ≡ envelopeFrom k t e n
   unfolding envelopeFrom run
   stands h zero l = absurd (none-below l)
   stands h (suc zero) l = refl

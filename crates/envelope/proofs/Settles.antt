@@ -14,7 +14,7 @@ use lib.Pow.{pow-mono}
 use lib.Ieee.{Float, nan, inf, fin, binary64, sub, mul, le, fits}
 use lib.Ieee.Scale.{normal-of-fraction}
 use lib.Ieee.Positive.{num, den, den-pos}
-use Rattle.floats.specs.Range.{nought, unity, nonneg}
+use Rattle.floats.specs.Range.{plusZero, plusOne, nonneg}
 use Rattle.floats.proofs.Order.{fle-trans, not-le-le, le→cross, ge0→le, nonneg→ge0, nonneg→finite, under}
 use Rattle.floats.proofs.Rounds.{mono, self, fits-small, sub-rounds, mul-rounds}
 use Rattle.floats.proofs.Error.{rounded-err}
@@ -91,10 +91,10 @@ normal x c h = le-trans (mul-le-mul-left (2 ^ 52) h) (le-trans (shift x) (mul-le
     shift : (x : ℕ) → 2 ^ 52 * (x * 2 ^ 59) ≤ x * 2 ^ 111
     shift x = omega arith
 
-module _ (s p : Float) (fs : T (fits binary64 s)) (ns : T (nonneg s)) (s1 : T (le s unity)) (np : T (nonneg p)) (pe : T (le enough p)) where
+module _ (s p : Float) (fs : T (fits binary64 s)) (ns : T (nonneg s)) (s1 : T (le s plusOne)) (np : T (nonneg p)) (pe : T (le enough p)) where
   -- 1 - s, rounded
   abbrev d : Float
-  d = sub binary64 unity s
+  d = sub binary64 plusOne s
 
   -- 1 - s is w / c
   abbrev w : ℕ
@@ -107,7 +107,7 @@ module _ (s p : Float) (fs : T (fits binary64 s)) (ns : T (nonneg s)) (s1 : T (l
   c-pos = mul-pos (lit< tt) (den-pos s)
 
   d-nonneg : T (nonneg d)
-  d-nonneg = under d unity (sub-ge0 binary64 unity s tt ns s1) tt (sub-le binary64 unity s (unfold fits in tt) tt ns s1)
+  d-nonneg = under d plusOne (sub-ge0 binary64 plusOne s tt ns s1) tt (sub-le binary64 plusOne s (unfold fits in tt) tt ns s1)
 
   w-least : 0 < w → c ≤ w * 2 ^ 53
   w-least h = plain (num s) (den s) h (gap s fs ns)
@@ -117,7 +117,7 @@ module _ (s p : Float) (fs : T (fits binary64 s)) (ns : T (nonneg s)) (s1 : T (l
 
   -- what rounding 1 - s loses
   d-lost : 0 < w → w * den d * 2 ^ 53 ≤ num d * c * (2 ^ 53 + 1)
-  d-lost h = rounded-err binary64 d w c (sub-rounds binary64 unity s tt ns s1) d-nonneg c-pos (normal-of-fraction binary64 w c c-pos (normal w c (le-trans (w-least h) (mul-le-mul-left w (lit≤ tt)))))
+  d-lost h = rounded-err binary64 d w c (sub-rounds binary64 plusOne s tt ns s1) d-nonneg c-pos (normal-of-fraction binary64 w c c-pos (normal w c (le-trans (w-least h) (mul-le-mul-left w (lit≤ tt)))))
 
   -- the product
   abbrev t : Float
@@ -149,8 +149,8 @@ module _ (s p : Float) (fs : T (fits binary64 s)) (ns : T (nonneg s)) (s1 : T (l
     ]
 
     -- 1 - t ≤ s
-    pub settled : T (le (sub binary64 unity t) s)
-    settled = go (le t unity) refl
+    pub settled : T (le (sub binary64 plusOne t) s)
+    settled = go (le t plusOne) refl
       where
         turn : (n e tn td v w c : ℕ) → v ≡ 1 * td - tn * 1 → tn ≤ td → w ≡ 1 * e - n * 1 → n ≤ e → c ≡ 1 * e → w * td ≤ tn * c → v * e ≤ n * (1 * td)
         turn n e tn td v w c a b a' b' d h =
@@ -161,11 +161,11 @@ module _ (s p : Float) (fs : T (fits binary64 s)) (ns : T (nonneg s)) (s1 : T (l
         plain : (a b : ℕ) → a * 1 ≤ 1 * b → a ≤ b
         plain a b h = omega arith
 
-        go : (b : Bool) → le t unity ≡ b → T (le (sub binary64 unity t) s)
+        go : (b : Bool) → le t plusOne ≡ b → T (le (sub binary64 plusOne t) s)
         go true e =
-            let l : T (le t unity) = subst T (sym e) tt in
-            mono binary64 (sub binary64 unity t) s (1 * den t - num t * 1) (1 * den t) (num s) (den s) (sub-rounds binary64 unity t tt nt l) (self binary64 s fs ns) (mul-pos (lit< tt) (den-pos t)) (den-pos s)
-            (turn (num s) (den s) (num t) (den t) (1 * den t - num t * 1) w c refl (plain (num t) (den t) (le→cross t unity nt tt l)) refl (plain (num s) (den s) (le→cross s unity ns tt s1)) refl reached)
+            let l : T (le t plusOne) = subst T (sym e) tt in
+            mono binary64 (sub binary64 plusOne t) s (1 * den t - num t * 1) (1 * den t) (num s) (den s) (sub-rounds binary64 plusOne t tt nt l) (self binary64 s fs ns) (mul-pos (lit< tt) (den-pos t)) (den-pos s)
+            (turn (num s) (den s) (num t) (den t) (1 * den t - num t * 1) w c refl (plain (num t) (den t) (le→cross t plusOne nt tt l)) refl (plain (num s) (den s) (le→cross s plusOne ns tt s1)) refl reached)
         go false e =
-            let l : T (le unity t) = not-le-le t unity (nonneg→finite t nt) tt (subst (λ (b : Bool). T (not b)) (sym e) tt) in
-            fle-trans (sub binary64 unity t) nought s (sub-nonpos binary64 unity t tt nt l) (ge0→le s (nonneg→ge0 s ns))
+            let l : T (le plusOne t) = not-le-le t plusOne (nonneg→finite t nt) tt (subst (λ (b : Bool). T (not b)) (sym e) tt) in
+            fle-trans (sub binary64 plusOne t) plusZero s (sub-nonpos binary64 plusOne t tt nt l) (ge0→le s (nonneg→ge0 s ns))

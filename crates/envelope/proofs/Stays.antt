@@ -11,7 +11,7 @@ use lib.ListN.{length, getD}
 use lib.Ieee.{Float, nan, binary64, fits}
 use lib.Ieee.Fits.{and-l, and-r}
 use Rattle.floats.specs.Range.{within}
-use Rattle.floats.specs.Double.{naught, one}
+use Rattle.floats.specs.Double.{zero64, one}
 use Rattle.runs.proofs.Laws.{repeated-keeps}
 use Rattle.answers.specs.declared.Answer.the-variants.{Done}
 use Rattle.answers.specs.declared.Refusal.the-variants.{Setting, Argument}
@@ -38,7 +38,7 @@ module _ (k : Adsr) (rate : ℕ) (e : Envelope) (a : T (isAdsr k)) (w : T (fits 
   run-keeps = repeated-keeps (stepOf (clampedOf k) (sampleTimeOf rate)) e (λ (x : Envelope). T (isEnvelope x)) (λ x. step-keeps k rate x a w r) h
 
   -- every level is 0 to 1
-  pub levels-in : (i n : ℕ) → i < n → T (within naught one (getD (levelsFrom (clampedOf k) (sampleTimeOf rate) e n) i nan))
+  pub levels-in : (i n : ℕ) → i < n → T (within zero64 one (getD (levelsFrom (clampedOf k) (sampleTimeOf rate) e n) i nan))
   levels-in i n l = rw (level-at (clampedOf k) (sampleTimeOf rate) e i n l) (is-inside _ (run-keeps (suc i)) .level-in)
 
 -- ---- calls
@@ -100,14 +100,14 @@ clash e = omega arith
 -- 01: "The level is proved to stay between 0 and 1 from a fresh envelope". Every level that `process` writes, after any
 -- calls from `new`, is 0 to 1
 pub process-in : (attack decay sustain release : Float) → T (fits binary64 sustain) → (cs : List Call) (rate : ℕ) (xs : List Float) (n : ℕ)
-    → processOf (run (newOf attack decay sustain release) cs) rate xs .result .answer ≡ Done n → (i : ℕ) → i < length xs → T (within naught one (getD (processOf (run (newOf attack decay sustain release) cs) rate xs .lent) i nan))
+    → processOf (run (newOf attack decay sustain release) cs) rate xs .result .answer ≡ Done n → (i : ℕ) → i < length xs → T (within zero64 one (getD (processOf (run (newOf attack decay sustain release) cs) rate xs .lent) i nan))
 unfolding processOf
 process-in attack decay sustain release w cs rate xs n done i l =
     let b = run (newOf attack decay sustain release) cs in
     let g : Good b = calls-keep (newOf attack decay sustain release) cs (record { sustain-fits = w; accepted = fresh-accepted }) in
     let usable = isAdsr (b .adsr) && isRate rate in
     let sound = isEnvelope (b .envelope) in
-    first-keeps (unless usable Setting ++ unless sound Argument) _ _ (λ (o : Outcome Processed). o .result .answer ≡ Done n → T (within naught one (getD (o .lent) i nan))) (λ why e. absurd (clash (cc)))
+    first-keeps (unless usable Setting ++ unless sound Argument) _ _ (λ (o : Outcome Processed). o .result .answer ≡ Done n → T (within zero64 one (getD (o .lent) i nan))) (λ why e. absurd (clash (cc)))
     (λ e d.
     let t = both-held usable sound Setting Argument e .0 in
     levels-in (b .adsr) rate (b .envelope) (and-l (isAdsr (b .adsr)) (isRate rate) t) (g .sustain-fits) (and-r (isAdsr (b .adsr)) (isRate rate) t) (g .accepted) i (length xs) l)

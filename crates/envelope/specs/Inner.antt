@@ -6,8 +6,8 @@ use mathlib.Core.Path.{_≡_}
 use Prim.Native.Nat.{ℕ, _+_, _≤_}
 use lib.ListN.{length, take, getD, set}
 use lib.Ieee.{Float, nan, le}
-use Rattle.floats.specs.Double.{_⊕_, _⊗_, naught, one}
-use Rattle.envelope.specs.Stages.{silent, movedOf, attackLevel, decayLevel, releaseLevel}
+use Rattle.floats.specs.Double.{_⊕_, _⊗_, zero64, one}
+use Rattle.envelope.specs.Stages.{releaseFloor, withStage, attackLevel, decayLevel, releaseLevel}
 use Rattle.envelope.specs.Running.{envelopeFrom}
 use Rattle.envelope.specs.Scaled.{scaledTo, Scaled}
 use Rattle.envelope.specs.declared.Adsr.{Adsr}
@@ -18,7 +18,7 @@ use Rattle.envelope.specs.declared.EnvelopeStage.the-variants.{Idle, Att
 -- ---- a step
 -- the level in a stage, before the test for its end
 abbrev pub levelOf : EnvelopeStage → Adsr → Envelope → Float
-levelOf Idle adsr e = naught
+levelOf Idle adsr e = zero64
 levelOf Attack adsr e = attackLevel (adsr .attack) e
 levelOf Decay adsr e = decayLevel (adsr .decay) (adsr .sustain) e
 levelOf Sustain adsr e = adsr .sustain
@@ -30,19 +30,19 @@ endsAt Idle adsr x = true
 endsAt Attack adsr x = le one x
 endsAt Decay adsr x = le x (adsr .sustain)
 endsAt Sustain adsr x = true
-endsAt Release adsr x = le x silent
+endsAt Release adsr x = le x releaseFloor
 
 -- a step in two cases: `nextIn` of a sample that does not end its stage, `endedIn` of one that does or is in Idle or
 -- Sustain
 abbrev pub nextIn : EnvelopeStage → Adsr → Float → Envelope → Envelope
-nextIn s adsr t e = movedOf e s (levelOf s adsr e) (e .«stage_time» ⊕ t)
+nextIn s adsr t e = withStage e s (levelOf s adsr e) (e .«stage_time» ⊕ t)
 
 abbrev pub endedIn : EnvelopeStage → Adsr → Float → Envelope → Envelope
-endedIn Idle adsr t e = movedOf e Idle naught (e .«stage_time»)
-endedIn Attack adsr t e = movedOf e Decay one (naught ⊕ t)
-endedIn Decay adsr t e = movedOf e Sustain (adsr .sustain) naught
-endedIn Sustain adsr t e = movedOf e Sustain (adsr .sustain) (e .«stage_time»)
-endedIn Release adsr t e = movedOf e Idle naught naught
+endedIn Idle adsr t e = withStage e Idle zero64 (e .«stage_time»)
+endedIn Attack adsr t e = withStage e Decay one (zero64 ⊕ t)
+endedIn Decay adsr t e = withStage e Sustain (adsr .sustain) zero64
+endedIn Sustain adsr t e = withStage e Sustain (adsr .sustain) (e .«stage_time»)
+endedIn Release adsr t e = withStage e Idle zero64 zero64
 
 -- ---- a part
 -- values i and i + 1 of a part, each times its level times the velocity
@@ -59,8 +59,8 @@ pub record Reached (adsr : Adsr) (t : Float) (e : Envelope) (velocity : Float) (
   pub others : (j : ℕ) → i ≤ j → getD ys j nan ≡ getD xs j nan
 
 -- from ys, c, i to zs, d, j: wherever a loop began, if it had reached the first three, it has now reached the others
-abbrev pub Onward : Adsr → Float → Float → List Float → Envelope → ℕ → List Float → Envelope → ℕ → Type 0
-Onward adsr t velocity ys c i zs d j = (e : Envelope) (xs : List Float) → Reached adsr t e velocity xs ys c i → Reached adsr t e velocity xs zs d j
+abbrev pub ScalesOn : Adsr → Float → Float → List Float → Envelope → ℕ → List Float → Envelope → ℕ → Type 0
+ScalesOn adsr t velocity ys c i zs d j = (e : Envelope) (xs : List Float) → Reached adsr t e velocity xs ys c i → Reached adsr t e velocity xs zs d j
 
 -- from ys, c, i to the end of the part, which is then zs
 abbrev pub Finished : Adsr → Float → Float → List Float → Envelope → ℕ → List Float → Envelope → Type 0

@@ -7,7 +7,7 @@ use Prim.Native.Nat.{ℕ}
 use lib.IntN.{pos}
 use lib.Ieee.{Float, binary64, ofBits, ofInt, isNan, lt}
 use Rattle.floats.specs.Range.{within}
-use Rattle.floats.specs.Double.{_⊘_, naught, one}
+use Rattle.floats.specs.Double.{_⊘_, zero64, one}
 use Rattle.envelope.specs.declared.Adsr.{Adsr}
 use Rattle.envelope.specs.declared.Envelope.{Envelope}
 
@@ -28,7 +28,7 @@ isAdsr adsr = not (isNan (adsr .attack)) && not (isNan (adsr .decay)) && not (is
 
 -- both levels 0 to 1, the time 0 to 11 s
 unfoldable pub isEnvelope : Envelope → Bool
-isEnvelope e = within naught one (e .level) && within naught one (e .«release_level») && within naught eleven (e .«stage_time»)
+isEnvelope e = within zero64 one (e .level) && within zero64 one (e .«release_level») && within zero64 eleven (e .«stage_time»)
 
 -- ---- what is made of the settings
 -- `f64::clamp`: a number that is not below lo and not above hi is kept, -0 at a lo of 0 too
@@ -37,7 +37,7 @@ clampOf lo hi x = cond (lt x lo) lo (cond (lt hi x) hi x)
 
 -- times to 0.001 to 10 s, sustain to 0 to 1
 unfoldable pub clampedOf : Adsr → Adsr
-clampedOf adsr = record { attack = clampOf milli ten (adsr .attack); decay = clampOf milli ten (adsr .decay); sustain = clampOf naught one (adsr .sustain); release = clampOf milli ten (adsr .release) }
+clampedOf adsr = record { attack = clampOf milli ten (adsr .attack); decay = clampOf milli ten (adsr .decay); sustain = clampOf zero64 one (adsr .sustain); release = clampOf milli ten (adsr .release) }
 
 -- the time of one sample, in seconds
 unfoldable pub sampleTimeOf : ℕ → Float

@@ -7,19 +7,19 @@
 -- Settings are taken as clamped. Definitions only.
 use mathlib.Core.Bool.{Bool, true, false, cond}
 use lib.Ieee.{Float, binary64, ofBits, le}
-use Rattle.floats.specs.Double.{_⊕_, _⊖_, _⊗_, _⊘_, naught, one}
+use Rattle.floats.specs.Double.{_⊕_, _⊖_, _⊗_, _⊘_, zero64, one}
 use Rattle.envelope.specs.declared.Adsr.{Adsr}
 use Rattle.envelope.specs.declared.Envelope.{Envelope}
 use Rattle.envelope.specs.declared.EnvelopeStage.{EnvelopeStage}
 use Rattle.envelope.specs.declared.EnvelopeStage.the-variants.{Idle, Attack, Decay, Sustain, Release}
 
 -- 1e-6, the floor of a release
-abbrev pub silent : Float
-silent = ofBits binary64 0x3eb0_c6f7_a0b5_ed8d
+abbrev pub releaseFloor : Float
+releaseFloor = ofBits binary64 0x3eb0_c6f7_a0b5_ed8d
 
 -- stage, level and time are set; the release level is kept
-abbrev pub movedOf : Envelope → EnvelopeStage → Float → Float → Envelope
-movedOf e stage level time = record { stage = stage; level = level; «stage_time» = time; «release_level» = e .«release_level» }
+abbrev pub withStage : Envelope → EnvelopeStage → Float → Float → Envelope
+withStage e stage level time = record { stage = stage; level = level; «stage_time» = time; «release_level» = e .«release_level» }
 
 -- ---- the level in each stage in which it moves
 -- from 0 to 1, whatever the level was before
@@ -38,35 +38,35 @@ releaseLevel release e = e .«release_level» ⊗ (one ⊖ e .«stage_time» ⊘
 abbrev pub attackRule : Float → Envelope → Envelope
 attackRule attack e =
     let x = attackLevel attack e in
-    cond (le one x) (movedOf e Decay one naught) (movedOf e Attack x (e .«stage_time»))
+    cond (le one x) (withStage e Decay one zero64) (withStage e Attack x (e .«stage_time»))
 
 abbrev pub decayRule : Float → Float → Envelope → Envelope
 decayRule decay sustain e =
     let x = decayLevel decay sustain e in
-    cond (le x sustain) (movedOf e Sustain sustain naught) (movedOf e Decay x (e .«stage_time»))
+    cond (le x sustain) (withStage e Sustain sustain zero64) (withStage e Decay x (e .«stage_time»))
 
 abbrev pub releaseRule : Float → Envelope → Envelope
 releaseRule release e =
     let x = releaseLevel release e in
-    cond (le x silent) (movedOf e Idle naught naught) (movedOf e Release x (e .«stage_time»))
+    cond (le x releaseFloor) (withStage e Idle zero64 zero64) (withStage e Release x (e .«stage_time»))
 
 abbrev pub ruleOf : EnvelopeStage → Adsr → Envelope → Envelope
-ruleOf Idle adsr e = movedOf e Idle naught (e .«stage_time»)
+ruleOf Idle adsr e = withStage e Idle zero64 (e .«stage_time»)
 ruleOf Attack adsr e = attackRule (adsr .attack) e
 ruleOf Decay adsr e = decayRule (adsr .decay) (adsr .sustain) e
-ruleOf Sustain adsr e = movedOf e Sustain (adsr .sustain) (e .«stage_time»)
+ruleOf Sustain adsr e = withStage e Sustain (adsr .sustain) (e .«stage_time»)
 ruleOf Release adsr e = releaseRule (adsr .release) e
 
 -- ---- the growth of the time
-abbrev pub grows : EnvelopeStage → Bool
-grows Idle = false
-grows Attack = true
-grows Decay = true
-grows Sustain = false
-grows Release = true
+abbrev pub isMoving : EnvelopeStage → Bool
+isMoving Idle = false
+isMoving Attack = true
+isMoving Decay = true
+isMoving Sustain = false
+isMoving Release = true
 
 abbrev pub grownOf : Float → Envelope → Envelope
-grownOf t e = cond (grows (e .stage)) (movedOf e (e .stage) (e .level) (e .«stage_time» ⊕ t)) e
+grownOf t e = cond (isMoving (e .stage)) (withStage e (e .stage) (e .level) (e .«stage_time» ⊕ t)) e
 
 -- one sample: its level is the level of the envelope after it
 unfoldable pub stepOf : Adsr → Float → Envelope → Envelope
@@ -74,19 +74,19 @@ stepOf adsr t e = grownOf t (ruleOf (e .stage) adsr e)
 
 -- ---- notes
 abbrev pub freshOf : Envelope
-freshOf = record { stage = Idle; level = naught; «stage_time» = naught; «release_level» = naught }
+freshOf = record { stage = Idle; level = zero64; «stage_time» = zero64; «release_level» = zero64 }
 
 -- a note starts: both levels are kept
 abbrev pub triggeredOf : Envelope → Envelope
-triggeredOf e = movedOf e Attack (e .level) naught
+triggeredOf e = withStage e Attack (e .level) zero64
 
-abbrev pub restsIn : EnvelopeStage → Bool
-restsIn Idle = true
-restsIn Attack = false
-restsIn Decay = false
-restsIn Sustain = false
-restsIn Release = false
+abbrev pub isIdle : EnvelopeStage → Bool
+isIdle Idle = true
+isIdle Attack = false
+isIdle Decay = false
+isIdle Sustain = false
+isIdle Release = false
 
 -- a note ends: in Idle nothing changes, else the release starts from the present level
 unfoldable pub releasedOf : Envelope → Envelope
-releasedOf e = cond (restsIn (e .stage)) e (record { stage = Release; level = e .level; «stage_time» = naught; «release_level» = e .level })
+releasedOf e = cond (isIdle (e .stage)) e (record { stage = Release; level = e .level; «stage_time» = zero64; «release_level» = e .level })

@@ -4,9 +4,9 @@ ghost use mathlib.Core.Path.{_≡_};
 ghost use mathlib.Core.Bool.{false};
 ghost use Prim.Native.Nat.{_+_, _<_, _≤_};
 ghost use lib.ListN.{length};
-ghost use Rattle.envelope.specs.Stages.{grows};
+ghost use Rattle.envelope.specs.Stages.{isMoving};
 ghost use Rattle.envelope.specs.Scaled.{Scaled};
-ghost use Rattle.envelope.specs.Inner.{scaledTwo, Onward, Finished};
+ghost use Rattle.envelope.specs.Inner.{scaledTwo, ScalesOn, Finished};
 use crate::Adsr;
 use crate::Envelope;
 use crate::EnvelopeStage;
@@ -15,7 +15,7 @@ use crate::next_in;
 use crate::step;
 
 // How many values of a part are scaled, and the envelope after them.
-struct Reach {
+struct Progress {
     envelope: Envelope,
     count: usize,
 }
@@ -34,11 +34,11 @@ pub fn scale(
     let mut envelope = start;
     let mut i = 0;
     while i < part.len() {
-        let at = Reach { envelope, count: i };
-        if !moves(envelope) {
-            return hold(adsr, sample_time, at, velocity, part);
+        let at = Progress { envelope, count: i };
+        if !is_moving(envelope) {
+            return scale_steady(adsr, sample_time, at, velocity, part);
         }
-        let reach = run_on(adsr, sample_time, at, velocity, part);
+        let reach = scale_stage(adsr, sample_time, at, velocity, part);
         i = reach.count;
         if part.len() <= i {
             return reach.envelope;
@@ -51,23 +51,35 @@ pub fn scale(
 }
 
 // The samples of the present stage before the sample that ends it.
-fn run_on(adsr: Adsr, sample_time: f64, at: Reach, velocity: f64, part: &mut [f64]) -> Reach
-    ensures { λ r. ⌜ (at .count ≤ r .count) × Onward adsr «sample_time» velocity (now (part .entry)) (at .envelope) (at .count) (now (part .exit)) (r .envelope) (r .count) ⌝ }
+fn scale_stage(
+    adsr: Adsr,
+    sample_time: f64,
+    at: Progress,
+    velocity: f64,
+    part: &mut [f64],
+) -> Progress
+    ensures { λ r. ⌜ (at .count ≤ r .count) × ScalesOn adsr «sample_time» velocity (now (part .entry)) (at .envelope) (at .count) (now (part .exit)) (r .envelope) (r .count) ⌝ }
 {
-    let fours = run_fours(adsr, sample_time, at, velocity, part);
-    run(adsr, sample_time, fours, velocity, part)
+    let fours = scale_fours(adsr, sample_time, at, velocity, part);
+    scale_singly(adsr, sample_time, fours, velocity, part)
 }
 
 // Four samples at a time, as long as none of them ends the stage.
-fn run_fours(adsr: Adsr, sample_time: f64, at: Reach, velocity: f64, part: &mut [f64]) -> Reach
-    ensures { λ r. ⌜ (at .count ≤ r .count) × Onward adsr «sample_time» velocity (now (part .entry)) (at .envelope) (at .count) (now (part .exit)) (r .envelope) (r .count) ⌝ }
+fn scale_fours(
+    adsr: Adsr,
+    sample_time: f64,
+    at: Progress,
+    velocity: f64,
+    part: &mut [f64],
+) -> Progress
+    ensures { λ r. ⌜ (at .count ≤ r .count) × ScalesOn adsr «sample_time» velocity (now (part .entry)) (at .envelope) (at .count) (now (part .exit)) (r .envelope) (r .count) ⌝ }
 {
     let mut envelope = at.envelope;
     let stage = envelope.stage;
     let mut i = at.count;
     while i < part.len() {
         if part.len() - i < 4 {
-            return Reach { envelope, count: i };
+            return Progress { envelope, count: i };
         }
         let first = next_in(stage, adsr, sample_time, envelope);
         let second = next_in(stage, adsr, sample_time, first);
@@ -76,14 +88,14 @@ fn run_fours(adsr: Adsr, sample_time: f64, at: Reach, velocity: f64, part: &mut 
         let soon = ends_at(stage, adsr, first.level) | ends_at(stage, adsr, second.level);
         let late = ends_at(stage, adsr, third.level) | ends_at(stage, adsr, fourth.level);
         if soon | late {
-            return Reach { envelope, count: i };
+            return Progress { envelope, count: i };
         }
         scale_two(first.level, second.level, velocity, i, part);
         scale_two(third.level, fourth.level, velocity, i + 2, part);
         envelope = fourth;
         i += 4;
     }
-    Reach { envelope, count: i }
+    Progress { envelope, count: i }
 }
 
 // Values i and i + 1, each times its level times the velocity.
@@ -96,8 +108,14 @@ fn scale_two(first: f64, second: f64, velocity: f64, i: usize, part: &mut [f64])
 }
 
 // One sample at a time, up to the sample that ends the stage or the end of the part.
-fn run(adsr: Adsr, sample_time: f64, at: Reach, velocity: f64, part: &mut [f64]) -> Reach
-    ensures { λ r. ⌜ (at .count ≤ r .count) × Onward adsr «sample_time» velocity (now (part .entry)) (at .envelope) (at .count) (now (part .exit)) (r .envelope) (r .count) ⌝ }
+fn scale_singly(
+    adsr: Adsr,
+    sample_time: f64,
+    at: Progress,
+    velocity: f64,
+    part: &mut [f64],
+) -> Progress
+    ensures { λ r. ⌜ (at .count ≤ r .count) × ScalesOn adsr «sample_time» velocity (now (part .entry)) (at .envelope) (at .count) (now (part .exit)) (r .envelope) (r .count) ⌝ }
 {
     let mut envelope = at.envelope;
     let stage = envelope.stage;
@@ -105,18 +123,24 @@ fn run(adsr: Adsr, sample_time: f64, at: Reach, velocity: f64, part: &mut [f64])
     while i < part.len() {
         let next = next_in(stage, adsr, sample_time, envelope);
         if ends_at(stage, adsr, next.level) {
-            return Reach { envelope, count: i };
+            return Progress { envelope, count: i };
         }
         part[i] = part[i] * next.level * velocity;
         envelope = next;
         i += 1;
     }
-    Reach { envelope, count: i }
+    Progress { envelope, count: i }
 }
 
 // Idle and Sustain last to the end of the part: one level for all samples, no branch.
-fn hold(adsr: Adsr, sample_time: f64, at: Reach, velocity: f64, part: &mut [f64]) -> Envelope
-    requires { ⌜ (grows (at .envelope .stage) ≡ false) × (at .count < length (now part)) ⌝ }
+fn scale_steady(
+    adsr: Adsr,
+    sample_time: f64,
+    at: Progress,
+    velocity: f64,
+    part: &mut [f64],
+) -> Envelope
+    requires { ⌜ (isMoving (at .envelope .stage) ≡ false) × (at .count < length (now part)) ⌝ }
     ensures { λ r. ⌜ Finished adsr «sample_time» velocity (now (part .entry)) (at .envelope) (at .count) (now (part .exit)) r ⌝ }
 {
     let held = step(adsr, sample_time, at.envelope);
@@ -130,8 +154,8 @@ fn hold(adsr: Adsr, sample_time: f64, at: Reach, velocity: f64, part: &mut [f64]
 }
 
 // Whether the level changes from sample to sample.
-fn moves(e: Envelope) -> bool
-    ensures { λ r. ⌜ r ≡ grows (e .stage) ⌝ }
+fn is_moving(e: Envelope) -> bool
+    ensures { λ r. ⌜ r ≡ isMoving (e .stage) ⌝ }
 {
     let stage = e.stage;
     match stage {

@@ -7,7 +7,7 @@ ghost use mathlib.Core.List.{_++_};
 ghost use lib.ListN.{length};
 ghost use lib.Ieee.{isNan};
 ghost use Rattle.envelope.specs.Limits.{isAdsr, isEnvelope, clampOf, clampedOf, sampleTimeOf};
-ghost use Rattle.envelope.specs.Stages.{movedOf, stepOf, freshOf, triggeredOf, restsIn, releasedOf};
+ghost use Rattle.envelope.specs.Stages.{withStage, stepOf, freshOf, triggeredOf, isIdle, releasedOf};
 ghost use Rattle.envelope.specs.Inner.{levelOf, endsAt, nextIn, endedIn};
 ghost use Rattle.envelope.specs.Running.{Filled};
 ghost use Rattle.answers.specs.declared.Refusal.the-variants.{Setting, Argument};
@@ -20,7 +20,7 @@ use answers::Refusal;
 pub mod levels;
 
 // A release ends at or below this level.
-const FLOOR: f64 = 0.000001;
+const RELEASE_FLOOR: f64 = 0.000001;
 
 pub enum EnvelopeStage {
     Idle,
@@ -128,7 +128,7 @@ pub fn fresh() -> Envelope
 pub fn triggered(e: Envelope) -> Envelope
     ensures { λ r. ⌜ r ≡ triggeredOf e ⌝ }
 {
-    moved(e, EnvelopeStage::Attack, e.level, 0.0)
+    with_stage(e, EnvelopeStage::Attack, e.level, 0.0)
 }
 
 // A note ends: in Idle nothing changes, else the release starts from the present level.
@@ -136,7 +136,7 @@ pub fn released(e: Envelope) -> Envelope
     ensures { λ r. ⌜ r ≡ releasedOf e ⌝ }
 {
     let stage = e.stage;
-    if rests(stage) {
+    if is_idle(stage) {
         return e;
     }
     Envelope {
@@ -231,7 +231,7 @@ fn ends_at(stage: EnvelopeStage, adsr: Adsr, level: f64) -> bool
         EnvelopeStage::Attack => level >= 1.0,
         EnvelopeStage::Decay => level <= adsr.sustain,
         EnvelopeStage::Sustain => true,
-        EnvelopeStage::Release => level <= FLOOR,
+        EnvelopeStage::Release => level <= RELEASE_FLOOR,
     }
 }
 
@@ -240,17 +240,17 @@ fn ended_in(stage: EnvelopeStage, adsr: Adsr, sample_time: f64, e: Envelope) -> 
     ensures { λ r. ⌜ r ≡ endedIn stage adsr «sample_time» e ⌝ }
 {
     match stage {
-        EnvelopeStage::Idle => moved(e, EnvelopeStage::Idle, 0.0, e.stage_time),
-        EnvelopeStage::Attack => moved(e, EnvelopeStage::Decay, 1.0, 0.0 + sample_time),
-        EnvelopeStage::Decay => moved(e, EnvelopeStage::Sustain, adsr.sustain, 0.0),
-        EnvelopeStage::Sustain => moved(e, EnvelopeStage::Sustain, adsr.sustain, e.stage_time),
-        EnvelopeStage::Release => moved(e, EnvelopeStage::Idle, 0.0, 0.0),
+        EnvelopeStage::Idle => with_stage(e, EnvelopeStage::Idle, 0.0, e.stage_time),
+        EnvelopeStage::Attack => with_stage(e, EnvelopeStage::Decay, 1.0, 0.0 + sample_time),
+        EnvelopeStage::Decay => with_stage(e, EnvelopeStage::Sustain, adsr.sustain, 0.0),
+        EnvelopeStage::Sustain => with_stage(e, EnvelopeStage::Sustain, adsr.sustain, e.stage_time),
+        EnvelopeStage::Release => with_stage(e, EnvelopeStage::Idle, 0.0, 0.0),
     }
 }
 
 // Stage, level and time change, and the release level is kept.
-fn moved(e: Envelope, stage: EnvelopeStage, level: f64, stage_time: f64) -> Envelope
-    ensures { λ r. ⌜ r ≡ movedOf e stage level «stage_time» ⌝ }
+fn with_stage(e: Envelope, stage: EnvelopeStage, level: f64, stage_time: f64) -> Envelope
+    ensures { λ r. ⌜ r ≡ withStage e stage level «stage_time» ⌝ }
 {
     Envelope {
         stage,
@@ -260,8 +260,8 @@ fn moved(e: Envelope, stage: EnvelopeStage, level: f64, stage_time: f64) -> Enve
     }
 }
 
-fn rests(stage: EnvelopeStage) -> bool
-    ensures { λ r. ⌜ r ≡ restsIn stage ⌝ }
+fn is_idle(stage: EnvelopeStage) -> bool
+    ensures { λ r. ⌜ r ≡ isIdle stage ⌝ }
 {
     match stage {
         EnvelopeStage::Idle => true,

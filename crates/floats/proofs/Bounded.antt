@@ -10,7 +10,7 @@ use lib.Ieee.{Float, nan, inf, fin, Format, neg, add, sub, mul, div, le, fits}
 use lib.Ieee.Fits.{and-i, and-l, and-r}
 use lib.Ieee.Scale.{finite}
 use lib.Ieee.Positive.{num, den, den-pos, positive}
-use Rattle.floats.specs.Range.{nought, unity, nonneg, within}
+use Rattle.floats.specs.Range.{plusZero, plusOne, nonneg, within}
 use Rattle.floats.proofs.Order.{between-finite, fle-trans, fle-refl, positive-num, nonneg→finite, nonneg→ge0, ge0→le}
 use Rattle.floats.proofs.Signed.{finite-neg}
 use Rattle.floats.proofs.Near.{Near, plus, less, order, near-self, near-neg, near-add, near-div}
@@ -78,33 +78,33 @@ size-widen a b x h k s =
     }
 
 -- 0 ≤ x ≤ a: |x| ≤ a
-pub size-of-range : (a x : Float) → T (finite a) → T (within nought a x) → Size a x
+pub size-of-range : (a x : Float) → T (finite a) → T (within plusZero a x) → Size a x
 size-of-range a x h p =
-    let l : T (le nought x) = and-l (le nought x) (le x a) p in
-    let r : T (le x a) = and-r (le nought x) (le x a) p in
-    record { bound = h; between = and-i (le (neg a) x) (le x a) (fle-trans (neg a) nought x (minus-le a (fle-trans nought x a l r)) l) r }
+    let l : T (le plusZero x) = and-l (le plusZero x) (le x a) p in
+    let r : T (le x a) = and-r (le plusZero x) (le x a) p in
+    record { bound = h; between = and-i (le (neg a) x) (le x a) (fle-trans (neg a) plusZero x (minus-le a (fle-trans plusZero x a l r)) l) r }
   where
     -- -a ≤ 0 for 0 ≤ a
-    minus-le : (a : Float) → T (le nought a) → T (le (neg a) nought)
-    minus-le a k = fle-trans (neg a) (neg nought) nought (neg-order nought a k) (unfold neg in unfold le in tt)
+    minus-le : (a : Float) → T (le plusZero a) → T (le (neg a) plusZero)
+    minus-le a k = fle-trans (neg a) (neg plusZero) plusZero (neg-order plusZero a k) (unfold neg in unfold le in tt)
 
 -- |d| ≤ y and 0 < y: |d / y| ≤ 1
-pub size-div : (f : Format) (d y : Float) → T (positive y) → Size y d → Size unity (div f d y)
+pub size-div : (f : Format) (d y : Float) → T (positive y) → Size y d → Size plusOne (div f d y)
 size-div f d y q s =
     let D = size-finite y d s in
     record {
       bound = tt;
       between =
-          and-i (le (neg unity) (div f d y)) (le (div f d y) unity)
-          (order f (neg unity) (div f d y) 0 1 1 (plus d * den y) (less d * den y) (num y * den d) (near-neg f unity 1 0 1 (unit f)) (near-div f d y D q) (lit< tt) (mul-pos (positive-num y q) (den-pos d))
+          and-i (le (neg plusOne) (div f d y)) (le (div f d y) plusOne)
+          (order f (neg plusOne) (div f d y) 0 1 1 (plus d * den y) (less d * den y) (num y * den d) (near-neg f plusOne 1 0 1 (unit f)) (near-div f d y D q) (lit< tt) (mul-pos (positive-num y q) (den-pos d))
           (under (plus d) (less d) (den d) (num y) (den y) (plus y) (less y) (positive-parts y q) (simp (neg-parts y .0, neg-parts y .1, neg-parts y .2) at (le→frac (neg y) d (finite-neg y (s .bound)) D (low y d s)))))
-          (order f (div f d y) unity (plus d * den y) (less d * den y) (num y * den d) 1 0 1 (near-div f d y D q) (unit f) (mul-pos (positive-num y q) (den-pos d)) (lit< tt)
+          (order f (div f d y) plusOne (plus d * den y) (less d * den y) (num y * den d) 1 0 1 (near-div f d y D q) (unit f) (mul-pos (positive-num y q) (den-pos d)) (lit< tt)
           (over (plus d) (less d) (den d) (num y) (den y) (plus y) (less y) (positive-parts y q) (le→frac d y D (s .bound) (high y d s))));
     }
   where
-    unit : (f : Format) → Near f unity 1 0 1
-    unit Format.binary32 = near-self Format.binary32 unity (unfold fits in tt) tt
-    unit Format.binary64 = near-self Format.binary64 unity (unfold fits in tt) tt
+    unit : (f : Format) → Near f plusOne 1 0 1
+    unit Format.binary32 = near-self Format.binary32 plusOne (unfold fits in tt) tt
+    unit Format.binary64 = near-self Format.binary64 plusOne (unfold fits in tt) tt
 
     -- y is positive: `plus y` is its numerator, and `less y` is 0
     positive-parts : (y : Float) → T (positive y) → (plus y ≡ num y) × (less y ≡ 0)
@@ -121,4 +121,4 @@ size-div f d y q s =
 
 -- 0 ≤ x: |x| ≤ x
 pub size-own : (x : Float) → T (nonneg x) → Size x x
-size-own x p = size-of-range x x (nonneg→finite x p) (and-i (le nought x) (le x x) (ge0→le x (nonneg→ge0 x p)) (fle-refl x (nonneg→finite x p)))
+size-own x p = size-of-range x x (nonneg→finite x p) (and-i (le plusZero x) (le x x) (ge0→le x (nonneg→ge0 x p)) (fle-refl x (nonneg→finite x p)))

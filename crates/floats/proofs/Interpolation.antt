@@ -10,7 +10,7 @@ use lib.Ieee.{Float, Format, add, sub, mul, le, fits}
 use lib.Ieee.Fits.{and-i, and-l, and-r, sub-fits}
 use lib.Ieee.Scale.{finite}
 use lib.Ieee.Positive.{den, den-pos}
-use Rattle.floats.specs.Range.{nought, unity, nonneg, within}
+use Rattle.floats.specs.Range.{plusZero, plusOne, nonneg, within}
 use Rattle.floats.proofs.Operations.{dens-pos}
 use Rattle.floats.proofs.Order.{fle-trans, fle-refl, not-le-le}
 pub use Rattle.floats.proofs.Order.{between-finite}
@@ -38,9 +38,9 @@ module _ (f : Format) (a d b w : Float) (fa : T (finite a)) (fd : T (finite d)) 
       (den-pos b))
 
 -- lo ≤ a ≤ hi and lo ≤ b ≤ hi, with lo and hi of the format, and t in [0, 1]: lo ≤ a + (b - a) * t ≤ hi
-pub lerp-in : (f : Format) (a b t lo hi : Float) → T (finite a) → T (finite b) → T (finite (sub f b a)) → Exact (sub f b a) b a → T (nonneg t) → T (le t unity)
+pub lerp-in : (f : Format) (a b t lo hi : Float) → T (finite a) → T (finite b) → T (finite (sub f b a)) → Exact (sub f b a) b a → T (nonneg t) → T (le t plusOne)
     → T (fits f lo) → T (finite lo) → T (fits f hi) → T (finite hi) → T (within lo hi a) → T (within lo hi b) → T (within lo hi (add f a (mul f (sub f b a) t)))
-lerp-in f a b t lo hi fa fb fd x nt t1 wl fl wh fh ha hb = go (le nought d) refl
+lerp-in f a b t lo hi fa fb fd x nt t1 wl fl wh fh ha hb = go (le plusZero d) refl
   where
     d : Float
     d = sub f b a
@@ -55,8 +55,8 @@ lerp-in f a b t lo hi fa fb fd x nt t1 wl fl wh fh ha hb = go (le nought d) refl
         (le-sum f a e z lo fa fe fz wl fl y (and-l (le lo z) (le z hi) h))
         (sum-le f a e z hi fa fe fz wh fh y (and-r (le lo z) (le z hi) h))
 
-    start : T (within lo hi (add f a nought))
-    start = sum-in nought a tt fa (omega arith) ha
+    start : T (within lo hi (add f a plusZero))
+    start = sum-in plusZero a tt fa (omega arith) ha
 
     end : T (within lo hi (add f a d))
     end = sum-in d b fd fb x hb
@@ -72,8 +72,8 @@ lerp-in f a b t lo hi fa fb fd x nt t1 wl fl wh fh ha hb = go (le nought d) refl
         (fle-trans (add f a s) (add f a v) hi (add-order f a a s v fa fa fs fv (fle-refl a fa) r) (and-r (le lo (add f a v)) (le (add f a v) hi) hv))
 
     -- s lies between 0 and d, whichever is greater
-    go : (c : Bool) → le nought d ≡ c → T (within lo hi (add f a s))
-    go true c = between nought d tt fd start end (scale-up-in f d t (sub-fits f b a) fd nt t1 (subst T (sym c) tt))
+    go : (c : Bool) → le plusZero d ≡ c → T (within lo hi (add f a s))
+    go true c = between plusZero d tt fd start end (scale-up-in f d t (sub-fits f b a) fd nt t1 (subst T (sym c) tt))
     go false c =
-        between d nought fd tt end start
-        (scale-down-in f d t (sub-fits f b a) fd nt t1 (not-le-le nought d tt fd (subst (λ (z : Bool). T (not z)) (sym c) tt)))
+        between d plusZero fd tt end start
+        (scale-down-in f d t (sub-fits f b a) fd nt t1 (not-le-le plusZero d tt fd (subst (λ (z : Bool). T (not z)) (sym c) tt)))

@@ -14,7 +14,7 @@ use lib.Ieee.{prec, emax, neg, add, le, fits, ofBits}
 use lib.Ieee.Bits.{is-true}
 use lib.Ieee.Fits.{and-i, and-l, and-r, neg-fits, reach}
 use lib.Ieee.Scale.{finite}
-use Rattle.floats.specs.Range.{nought, unity, largest, within}
+use Rattle.floats.specs.Range.{plusZero, plusOne, largest, within}
 use Rattle.floats.proofs.Order.{Le→le, nonneg→finite, between-finite}
 use Rattle.floats.proofs.Held.{fits-small, fits-top, split-pow}
 use Rattle.floats.proofs.Signed.{neg-neg, neg-order, finite-neg}
@@ -79,16 +79,16 @@ finite-is-bounded f (fin s m e) w = sym (is-true _ (and-i (le (neg (largest f)) 
 
 -- ---- a sum with a value in [0, 1]
 -- 0 - largest and 1 + largest are finite
-ends-finite : (f : Format) → T (finite (add f nought (neg (largest f)))) × T (finite (add f unity (largest f)))
+ends-finite : (f : Format) → T (finite (add f plusZero (neg (largest f)))) × T (finite (add f plusOne (largest f)))
 unfolding add neg
 ends-finite binary32 = (tt, tt)
 ends-finite binary64 = (tt, tt)
 
 -- p + x lies between 0 - largest and 1 + largest for p in [0, 1] and any finite x of the format: p + x is finite
-pub add-finite-unit : (f : Format) (p x : Float) → T (fits f x) → T (finite x) → T (within nought unity p) → T (finite (add f p x))
+pub add-finite-unit : (f : Format) (p x : Float) → T (fits f x) → T (finite x) → T (within plusZero plusOne p) → T (finite (add f p x))
 add-finite-unit f p x w q h =
-    let fp : T (finite p) = nonneg→finite p (within-nonneg unity p tt h) in
+    let fp : T (finite p) = nonneg→finite p (within-nonneg plusOne p tt h) in
     let fl : T (finite (neg (largest f))) = finite-neg (largest f) tt in
-    between-finite (add f nought (neg (largest f))) (add f p x) (add f unity (largest f)) (ends-finite f .0) (ends-finite f .1)
-    (add-order f nought p (neg (largest f)) x tt fp fl q (and-l (le nought p) (le p unity) h) (finite-at-least f x w q))
-    (add-order f p unity x (largest f) fp tt q tt (and-r (le nought p) (le p unity) h) (finite-at-most f x w q))
+    between-finite (add f plusZero (neg (largest f))) (add f p x) (add f plusOne (largest f)) (ends-finite f .0) (ends-finite f .1)
+    (add-order f plusZero p (neg (largest f)) x tt fp fl q (and-l (le plusZero p) (le p plusOne) h) (finite-at-least f x w q))
+    (add-order f p plusOne x (largest f) fp tt q tt (and-r (le plusZero p) (le p plusOne) h) (finite-at-most f x w q))

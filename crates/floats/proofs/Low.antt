@@ -10,10 +10,10 @@ use lib.Ieee.Fits.{and-l, and-r}
 use lib.Ieee.Scale.{finite}
 use lib.Ieee.Positive.{num, den, den-pos, positive}
 use Rattle.floats.specs.Floor.{floorOf}
-use Rattle.floats.specs.Range.{nought, nonneg}
-use Rattle.floats.specs.Double.{naught, one, two}
+use Rattle.floats.specs.Range.{plusZero, nonneg}
+use Rattle.floats.specs.Double.{zero64, one, two}
 use Rattle.floats.proofs.Order.{lt-le, lt-not-le, not-lt-le, between-finite, le→cross, cross→le, positive-nonneg, above-positive}
-use Rattle.floats.proofs.Literals.{lit0-is}
+use Rattle.floats.proofs.Literals.{zeroOf-is}
 
 -- the floor of a positive number is the whole part of its fraction
 whole-part : (x : Float) → T (positive x) → floorOf binary64 x ≡ round binary64 false (num x / den x) 1
@@ -23,8 +23,8 @@ whole-part (inf s) p = absurd p
 whole-part (fin true m e) p = absurd p
 whole-part (fin false m e) p = refl
 
-naught-is : naught ≡ round binary64 false 0 1
-naught-is = unfold ofBits round in refl
+zero64-is : zero64 ≡ round binary64 false 0 1
+zero64-is = unfold ofBits round in refl
 
 one-is : one ≡ round binary64 false 1 1
 one-is = unfold ofBits round in refl
@@ -41,26 +41,26 @@ one-parts = unfold ofBits in (refl, refl)
 two-parts : (num two ≡ 2) × (den two ≡ 1)
 two-parts = unfold ofBits in (refl, refl)
 
-module _ (x : Float) (t : (lt naught x && lt x two) ≡ true) where
-  above : T (lt nought x)
-  above = rw (lit0-is binary64) at (and-l (lt naught x) (lt x two) (subst T (sym t) tt))
+module _ (x : Float) (t : (lt zero64 x && lt x two) ≡ true) where
+  above : T (lt plusZero x)
+  above = rw (zeroOf-is binary64) at (and-l (lt zero64 x) (lt x two) (subst T (sym t) tt))
 
   below : T (lt x two)
-  below = and-r (lt naught x) (lt x two) (subst T (sym t) tt)
+  below = and-r (lt zero64 x) (lt x two) (subst T (sym t) tt)
 
   x-finite : T (finite x)
-  x-finite = between-finite nought x two tt (unfold ofBits in tt) (lt-le nought x above) (lt-le x two below)
+  x-finite = between-finite plusZero x two tt (unfold ofBits in tt) (lt-le plusZero x above) (lt-le x two below)
 
   x-positive : T (positive x)
-  x-positive = above-positive nought x tt x-finite above
+  x-positive = above-positive plusZero x tt x-finite above
 
   -- x < y, as fractions
   under : (y : Float) → T (nonneg y) → T (lt x y) → num x * den y < num y * den x
   under y q l = nat.lt-of-not-le (λ (g : num y * den x ≤ num x * den y). lt-not-le x y l (cross→le y x q (positive-nonneg x x-positive) g))
 
-  pub below-one : lt x one ≡ true → naught ≡ floorOf binary64 x
+  pub below-one : lt x one ≡ true → zero64 ≡ floorOf binary64 x
   below-one l =
-      naught-is
+      zero64-is
       ∙ ap (λ (n : ℕ). round binary64 false n 1) (sym (nat.div-eq-of-lt (plain (num x) (den x) (rw (one-parts .0, one-parts .1) at (under one one-nonneg (subst T (sym l) tt))))))
       ∙ sym (whole-part x x-positive)
     where

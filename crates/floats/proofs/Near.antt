@@ -13,7 +13,7 @@ use lib.Ieee.{neg, sum, add, sub, mul, div, le, fits}
 use lib.Ieee.Fits.{up-pos, down-pos, neg-fits, and-i, and-l, and-r, eq→eqb}
 use lib.Ieee.Scale.{finite}
 use lib.Ieee.Positive.{num, den, positive}
-use Rattle.floats.specs.Range.{nought, nonneg, within}
+use Rattle.floats.specs.Range.{plusZero, nonneg, within}
 use Rattle.floats.proofs.Order.{Le, Le2, le→Le, fle-trans, ge0→le, zero-first, signed}
 use Rattle.floats.proofs.Rounds.{Rounds, mono, of-signed, self, sum-up, mul-rounds}
 use Rattle.floats.proofs.Operations.{dens-pos, quot-pos, add-is, mul-is, div-is}
@@ -59,7 +59,7 @@ order f x y p n c p' n' c' r r' C C' h = go (leb n p) (leb→le n p) (nleb→lt 
 
     go : (b : Bool) → (T b → n ≤ p) → (T (not b) → p < n) → (b' : Bool) → (T b' → n' ≤ p') → (T (not b') → p' < n') → T (le x y)
     go true a k true a' k' = mono f x y (p - n) c (p' - n') c' (r .above (a tt)) (r' .above (a' tt)) C C' (both (p - n) (p' - n') (omega (arith, a tt)) (omega (arith, a' tt)))
-    go false a k true a' k' = fle-trans x nought y (below-zero x (r .under (le-of-lt (k tt)) .sign)) (ge0→le y (r' .above (a' tt) .sign))
+    go false a k true a' k' = fle-trans x plusZero y (below-zero x (r .under (le-of-lt (k tt)) .sign)) (ge0→le y (r' .above (a' tt) .sign))
     go false a k false a' k' =
         le-neg y x
         (mono f (neg y) (neg x) (n' - p') c' (n - p) c (r' .under (le-of-lt (k' tt))) (r .under (le-of-lt (k tt))) C' C (neither (n - p) (n' - p') (omega (arith, k tt)) (omega (arith, k' tt))))
@@ -237,7 +237,7 @@ round-bound f s k c z a b r C B h = go s
     up-in =
         let u = of-signed f false k c C absurd in
         and-i (le (neg z) (round f false k c)) (le (round f false k c) z)
-        (fle-trans (neg z) nought (round f false k c) (below-zero (neg z) (rw (neg-neg z) (r .sign))) (ge0→le (round f false k c) (u .sign)))
+        (fle-trans (neg z) plusZero (round f false k c) (below-zero (neg z) (rw (neg-neg z) (r .sign))) (ge0→le (round f false k c) (u .sign)))
         (mono f (round f false k c) z k c a b u r C B h)
 
     go : (s : Bool) → T (within (neg z) z (round f s k c))

@@ -13,7 +13,7 @@ use lib.Ieee.Fits.{and-l, up-pos, down-pos, round-fits}
 use lib.Ieee.Exact.{HasValue}
 use lib.Ieee.Scale.{finite}
 use lib.Ieee.Positive.{num, den}
-use Rattle.floats.specs.Range.{unity}
+use Rattle.floats.specs.Range.{plusOne}
 use Rattle.floats.proofs.Order.{signed}
 use Rattle.floats.proofs.Held.{ups, downs, up-is, down-is, self-value}
 
@@ -116,7 +116,7 @@ self-is f (fin s m e) w p =
     value-is-one f (round f s (m * up e) (down e)) (fin s m e) s (m * up e) (down e) (down-pos e) (round-fits f s (m * up e) (down e)) w (self-value f s m e w) (refl, refl)
 
 -- x * 1 is x
-pub times-one : (f : Format) (x : Float) → T (fits f x) → mul f x unity ≡ x
+pub times-one : (f : Format) (x : Float) → T (fits f x) → mul f x plusOne ≡ x
 unfolding mul
 times-one f nan w = refl
 times-one f (inf true) w = refl

@@ -14,7 +14,7 @@ use lib.Ieee.{below, level, lt, eq, le, isNan}
 use lib.Ieee.Fits.{up-pos, down-pos, and-l, and-r, and-i, eq→eqb}
 use lib.Ieee.Scale.{finite}
 use lib.Ieee.Positive.{num, den, positive, through}
-use Rattle.floats.specs.Range.{nought, ge0, nonneg}
+use Rattle.floats.specs.Range.{plusZero, ge0, nonneg}
 
 -- ---- one of two tests passes
 or-split : (a b : Bool) → T (a || b) → T a ⊎ T b
@@ -251,17 +251,17 @@ not-le-le x y p q h = not-lt-le x y p q (not-or (lt x y) (eq x y) h)
 
 -- ---- not negative: `ge0`, and `nonneg` where x is also finite
 -- `ge0 x`: 0 ≤ x
-pub ge0→le : (x : Float) → T (ge0 x) → T (le nought x)
+pub ge0→le : (x : Float) → T (ge0 x) → T (le plusZero x)
 ge0→le nan h = absurd h
-ge0→le (inf s) h = Le→le nought (inf s) h
-ge0→le (fin true n d) h = Le→le nought (fin true n d) (zero-mul (down d), times-zero (n * up d) 1 (times-zero n (up d) (eqb→eq n 0 h)))
-ge0→le (fin false n d) h = Le→le nought (fin false n d) (omega (arith, zero-mul (down d)))
+ge0→le (inf s) h = Le→le plusZero (inf s) h
+ge0→le (fin true n d) h = Le→le plusZero (fin true n d) (zero-mul (down d), times-zero (n * up d) 1 (times-zero n (up d) (eqb→eq n 0 h)))
+ge0→le (fin false n d) h = Le→le plusZero (fin false n d) (omega (arith, zero-mul (down d)))
 
 -- 0 ≤ x: `ge0 x`
-pub le→ge0 : (x : Float) → T (le nought x) → T (ge0 x)
-le→ge0 nan h = absurd (le→Le nought nan h)
-le→ge0 (inf s) h = le→Le nought (inf s) h
-le→ge0 (fin true n d) h = eq→eqb (zero-first n (up d) (up-pos d) (zero-first (n * up d) 1 (down-pos (pos 0)) (le→Le nought (fin true n d) h .1)))
+pub le→ge0 : (x : Float) → T (le plusZero x) → T (ge0 x)
+le→ge0 nan h = absurd (le→Le plusZero nan h)
+le→ge0 (inf s) h = le→Le plusZero (inf s) h
+le→ge0 (fin true n d) h = eq→eqb (zero-first n (up d) (up-pos d) (zero-first (n * up d) 1 (down-pos (pos 0)) (le→Le plusZero (fin true n d) h .1)))
 le→ge0 (fin false n d) h = tt
 
 -- x is finite and not negative: x is not negative
@@ -358,11 +358,11 @@ positive-num (fin true m e) p = absurd p
 positive-num (fin false m e) p = mul-pos (ltb→lt 0 m p) (up-pos e)
 
 -- y is finite and not positive: y ≤ 0
-pub not-positive-le : (y : Float) → T (finite y) → T (not (positive y)) → T (le y nought)
+pub not-positive-le : (y : Float) → T (finite y) → T (not (positive y)) → T (le y plusZero)
 not-positive-le nan q h = absurd q
 not-positive-le (inf t) q h = absurd q
-not-positive-le (fin true n d) q h = Le→le (fin true n d) nought tt
-not-positive-le (fin false n d) q h = Le→le (fin false n d) nought (omega (arith, times-zero n (up d) (none n (nltb→le 0 n h))))
+not-positive-le (fin true n d) q h = Le→le (fin true n d) plusZero tt
+not-positive-le (fin false n d) q h = Le→le (fin false n d) plusZero (omega (arith, times-zero n (up d) (none n (nltb→le 0 n h))))
   where
     none : (n : ℕ) → n ≤ 0 → n ≡ 0
     none n h = omega arith
@@ -374,7 +374,7 @@ by-contra false h = absurd (h tt)
 
 -- 0 ≤ x < y, y finite: y is positive
 pub above-positive : (x y : Float) → T (nonneg x) → T (finite y) → T (lt x y) → T (positive y)
-above-positive x y p q h = by-contra (positive y) (λ (n : T (not (positive y))). lt-not-le x y h (fle-trans y nought x (not-positive-le y q n) (ge0→le x (nonneg→ge0 x p))))
+above-positive x y p q h = by-contra (positive y) (λ (n : T (not (positive y))). lt-not-le x y h (fle-trans y plusZero x (not-positive-le y q n) (ge0→le x (nonneg→ge0 x p))))
 
 -- ---- x < y ≤ z, or x ≤ y < z: x < z
 pub lt-le-lt : (x y z : Float) → T (finite x) → T (finite z) → T (lt x y) → T (le y z) → T (lt x z)

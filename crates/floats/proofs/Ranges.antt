@@ -10,7 +10,7 @@ use lib.Ieee.{mul, div, rem, neg, le, fits}
 use lib.Ieee.Fits.{and-i, and-l, and-r}
 use lib.Ieee.Scale.{finite}
 use lib.Ieee.Positive.{num, den, den-pos, positive, above-of-le}
-use Rattle.floats.specs.Range.{nought, unity, ge0, nonneg, within}
+use Rattle.floats.specs.Range.{plusZero, plusOne, ge0, nonneg, within}
 use Rattle.floats.proofs.Operations.{dens-pos, quot-pos}
 use Rattle.floats.proofs.Order.{le→cross, ge0→le, le→ge0, nonneg→ge0, nonneg→finite, under}
 pub use Rattle.floats.proofs.Order.{positive-nonneg, positive-num}
@@ -20,8 +20,8 @@ use Rattle.floats.proofs.Scale.{scale-up-in}
 
 -- ---- from a range to its values
 -- 0 ≤ x ≤ hi with hi finite: x is finite and not negative
-pub within-nonneg : (hi x : Float) → T (finite hi) → T (within nought hi x) → T (nonneg x)
-within-nonneg hi x p h = under x hi (le→ge0 x (and-l (le nought x) (le x hi) h)) p (and-r (le nought x) (le x hi) h)
+pub within-nonneg : (hi x : Float) → T (finite hi) → T (within plusZero hi x) → T (nonneg x)
+within-nonneg hi x p h = under x hi (le→ge0 x (and-l (le plusZero x) (le x hi) h)) p (and-r (le plusZero x) (le x hi) h)
 
 -- 0 < lo ≤ x with x finite: x is positive
 pub ge0-positive : (lo x : Float) → T (positive lo) → T (le lo x) → T (finite x) → T (positive x)
@@ -54,11 +54,11 @@ module _ (f : Format) where
 
   -- ---- not positive
   -- x - y ≤ 0 for x ≤ y
-  pub sub-nonpos : (x y : Float) → T (nonneg x) → T (nonneg y) → T (le x y) → T (le (sub f x y) nought)
+  pub sub-nonpos : (x y : Float) → T (nonneg x) → T (nonneg y) → T (le x y) → T (le (sub f x y) plusZero)
   sub-nonpos x y p q h = below-zero (sub f x y) (neg-sub-rounds f x y p q h .sign)
 
   -- x * z ≤ 0 for z ≤ 0
-  pub mul-nonpos : (x z : Float) → T (nonneg x) → T (nonneg (neg z)) → T (le (mul f x z) nought)
+  pub mul-nonpos : (x z : Float) → T (nonneg x) → T (nonneg (neg z)) → T (le (mul f x z) plusZero)
   mul-nonpos x z p q = below-zero (mul f x z) (neg-mul-rounds f x z p q .sign)
 
   -- ---- sums and differences
@@ -73,8 +73,8 @@ module _ (f : Format) where
       (omega (arith, mul-le-mul-right (den x) (native.Mathlib.Nat.sub-le (num x * den y) (num y * den x))))
 
   -- x - y is in [0, x] for y ≤ x
-  pub sub-in : (x y : Float) → T (fits f x) → T (nonneg x) → T (nonneg y) → T (le y x) → T (within nought x (sub f x y))
-  sub-in x y w p q h = and-i (le nought (sub f x y)) (le (sub f x y) x) (ge0→le (sub f x y) (sub-ge0 x y p q h)) (sub-le x y w p q h)
+  pub sub-in : (x y : Float) → T (fits f x) → T (nonneg x) → T (nonneg y) → T (le y x) → T (within plusZero x (sub f x y))
+  sub-in x y w p q h = and-i (le plusZero (sub f x y)) (le (sub f x y) x) (ge0→le (sub f x y) (sub-ge0 x y p q h)) (sub-le x y w p q h)
 
   -- -(x - y) for x ≤ y is at most y, so it is finite and not negative
   pub neg-sub-nonneg : (x y : Float) → T (fits f y) → T (nonneg x) → T (nonneg y) → T (le x y) → T (nonneg (neg (sub f x y)))
@@ -86,27 +86,27 @@ module _ (f : Format) where
 
   -- ---- products
   -- x * y is in [0, x] for y in [0, 1]
-  pub mul-in : (x y : Float) → T (fits f x) → T (nonneg x) → T (nonneg y) → T (le y unity) → T (within nought x (mul f x y))
+  pub mul-in : (x y : Float) → T (fits f x) → T (nonneg x) → T (nonneg y) → T (le y plusOne) → T (within plusZero x (mul f x y))
   mul-in x y w p q h = scale-up-in f x y w (nonneg→finite x p) q h (ge0→le x (nonneg→ge0 x p))
 
   -- x * y ≤ x for y in [0, 1]
-  pub mul-le : (x y : Float) → T (fits f x) → T (nonneg x) → T (nonneg y) → T (le y unity) → T (le (mul f x y) x)
-  mul-le x y w p q h = and-r (le nought (mul f x y)) (le (mul f x y) x) (mul-in x y w p q h)
+  pub mul-le : (x y : Float) → T (fits f x) → T (nonneg x) → T (nonneg y) → T (le y plusOne) → T (le (mul f x y) x)
+  mul-le x y w p q h = and-r (le plusZero (mul f x y)) (le (mul f x y) x) (mul-in x y w p q h)
 
   -- ---- quotients
   -- x / y ≤ 1 for x ≤ y
-  pub div-le-one : (x y : Float) → T (nonneg x) → T (positive y) → T (le x y) → T (le (div f x y) unity)
+  pub div-le-one : (x y : Float) → T (nonneg x) → T (positive y) → T (le x y) → T (le (div f x y) plusOne)
   div-le-one x y p q h =
       mono f _ _ _ _ _ _ (div-rounds f x y p q) (one-rounds f) (quot-pos x y q) (ltb→lt 0 1 tt) (omega (arith, le→cross x y p (positive-nonneg y q) h))
 
   -- 1 ≤ x / y for y ≤ x
-  pub one-le-div : (x y : Float) → T (nonneg x) → T (positive y) → T (le y x) → T (le unity (div f x y))
+  pub one-le-div : (x y : Float) → T (nonneg x) → T (positive y) → T (le y x) → T (le plusOne (div f x y))
   one-le-div x y p q h =
       mono f _ _ _ _ _ _ (one-rounds f) (div-rounds f x y p q) (ltb→lt 0 1 tt) (quot-pos x y q) (omega (arith, le→cross y x (positive-nonneg y q) p h))
 
   -- x / y is in [0, 1] for x ≤ y
-  pub div-in : (x y : Float) → T (nonneg x) → T (positive y) → T (le x y) → T (within nought unity (div f x y))
-  div-in x y p q h = and-i (le nought (div f x y)) (le (div f x y) unity) (ge0→le (div f x y) (div-ge0 x y p q)) (div-le-one x y p q h)
+  pub div-in : (x y : Float) → T (nonneg x) → T (positive y) → T (le x y) → T (within plusZero plusOne (div f x y))
+  div-in x y p q h = and-i (le plusZero (div f x y)) (le (div f x y) plusOne) (ge0→le (div f x y) (div-ge0 x y p q)) (div-le-one x y p q h)
 
   -- ---- remainders
   -- x % y ≤ y

@@ -14,7 +14,7 @@ use lib.Ieee.Fits.{up-pos, down-pos, eq→eqb, round-is}
 use lib.Ieee.Exact.{HasValue}
 use lib.Ieee.Order.{round-mono, drop, kept}
 use lib.Ieee.Positive.{num, den, positive, value→cross}
-use Rattle.floats.specs.Range.{unity, ge0, nonneg}
+use Rattle.floats.specs.Range.{plusOne, ge0, nonneg}
 use Rattle.floats.proofs.Order.{fle-trans, ge0-refl, le→cross, cross→le, zero-first, times-zero, nonneg→ge0, nonneg→finite, signed, signed-zero, signed-zero-over}
 pub use Rattle.floats.proofs.Held.{fits-small, fits-low, fits-top, pow-le-inv, self-value}
 use Rattle.floats.proofs.Held.{zero-value}
@@ -112,9 +112,9 @@ self f (fin false m e) h p =
     has-nonneg (fin false m e) a c v = tt
 
 -- 1 is 1 / 1 rounded
-pub one-rounds : (f : Format) → Rounds f unity 1 1
-one-rounds Format.binary32 = self Format.binary32 unity (unfold fits in tt) tt
-one-rounds Format.binary64 = self Format.binary64 unity (unfold fits in tt) tt
+pub one-rounds : (f : Format) → Rounds f plusOne 1 1
+one-rounds Format.binary32 = self Format.binary32 plusOne (unfold fits in tt) tt
+one-rounds Format.binary64 = self Format.binary64 plusOne (unfold fits in tt) tt
 
 -- ---- sums
 -- ±a / c + ±b / c is one fraction k / c rounded, with a sign: k is what is added less what is subtracted

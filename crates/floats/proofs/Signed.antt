@@ -11,7 +11,7 @@ use lib.Ieee.Fits.{up-pos, eq→eqb, round-is}
 use lib.Ieee.Order.{drop, kept}
 use lib.Ieee.Scale.{finite}
 use lib.Ieee.Positive.{num, den, den-pos}
-use Rattle.floats.specs.Range.{nought, ge0, nonneg}
+use Rattle.floats.specs.Range.{plusZero, ge0, nonneg}
 use Rattle.floats.proofs.Order.{Le, Le2, le→Le, Le→le, fle-trans, ge0→le, le→cross}
 use Rattle.floats.proofs.Order.{zero-first, times-zero, under, nonneg→finite, signed, signed-zero-over}
 use Rattle.floats.proofs.Rounds.{Rounds, of-zero, of-signed, zero-nonneg, sum-cases, parts, mul-rounds}
@@ -61,8 +61,8 @@ pub neg-order : (x y : Float) → T (le x y) → T (le (neg y) (neg x))
 neg-order x y h = Le→le (neg y) (neg x) (neg-Le x y (le→Le x y h))
 
 -- 0 ≤ -x: x ≤ 0
-pub below-zero : (x : Float) → T (ge0 (neg x)) → T (le x nought)
-below-zero x h = fle-trans x (neg nought) nought (rw neg-neg at (neg-order nought (neg x) (ge0→le (neg x) h))) (unfold neg le in tt)
+pub below-zero : (x : Float) → T (ge0 (neg x)) → T (le x plusZero)
+below-zero x h = fle-trans x (neg plusZero) plusZero (rw neg-neg at (neg-order plusZero (neg x) (ge0→le (neg x) h))) (unfold neg le in tt)
 
 -- ---- a rounded fraction, negated
 neg-odd : (d : ℕ) (s : Bool) (q k l : ℕ) → neg (odd d s q k l) ≡ odd d (not s) q k l

@@ -107,10 +107,10 @@ module _ (f : Format) (x : Float) (w : T (fits f x)) where
       some Format.binary64 = lit≤ tt
 
 -- ---- the literals 0.0 and -1.0 of the code
-pub nought-is : (f : Format) → ofBits f 0 ≡ round f false 0 1
+pub plusZero-is : (f : Format) → ofBits f 0 ≡ round f false 0 1
 unfolding ofBits round
-nought-is Format.binary32 = refl
-nought-is Format.binary64 = refl
+plusZero-is Format.binary32 = refl
+plusZero-is Format.binary64 = refl
 
 pub minus-one-is : (f : Format) → neg (ofBits f (emax f * hid f)) ≡ round f true 1 1
 unfolding ofBits round neg

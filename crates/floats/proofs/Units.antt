@@ -14,7 +14,7 @@ use lib.Ieee.Back.{round-whole}
 use lib.Ieee.Exact.{HasValue}
 use lib.Ieee.Scale.{round-same, finite}
 use lib.Ieee.Positive.{num, den, den-pos, positive, first-pos}
-use Rattle.floats.specs.Range.{nought, nonneg}
+use Rattle.floats.specs.Range.{plusZero, nonneg}
 use Rattle.floats.proofs.Order.{cross→le, lt-not-le, nonneg→finite, signed, positive-nonneg, positive-num}
 use Rattle.floats.proofs.Operations.{dens-pos, quot-pos, sub-is, div-is, rem-is}
 use Rattle.floats.proofs.Remainder.{mod-scale}
@@ -45,8 +45,8 @@ unfolding sum
 less f a b c h = rw (is-false (ltb a b) (not-T (ltb a b) (λ (t : T (ltb a b)). omega (arith, ltb→lt a b t)))) refl
 
 -- x - 0 is x, for a positive x
-pub less-nought : (f : Format) (x : Float) → T (fits f x) → T (positive x) → sub f x nought ≡ x
-less-nought f x w p = sub-is f x nought finite-x tt ∙ rest
+pub less-zero : (f : Format) (x : Float) → T (fits f x) → T (positive x) → sub f x plusZero ≡ x
+less-zero f x w p = sub-is f x plusZero finite-x tt ∙ rest
   where
     finite-x : T (finite x)
     finite-x = nonneg→finite x (positive-nonneg x p)

@@ -1,7 +1,7 @@
 -- The f64 operations + - * / as infix ⊕ ⊖ ⊗ ⊘, each rounded once, and the numbers that other crates write as literals.
 -- Definitions only.
 use lib.Ieee.{Float, binary64, ofBits, add, sub, mul, div}
-use Rattle.floats.specs.Range.{lit0, lit1}
+use Rattle.floats.specs.Range.{zeroOf, oneOf}
 
 infixl 60 _⊕_ _⊖_
 infixl 70 _⊗_ _⊘_
@@ -17,14 +17,14 @@ x ⊗ y = mul binary64 x y
 abbrev pub _⊘_ : Float → Float → Float
 x ⊘ y = div binary64 x y
 
-abbrev pub naught : Float
-naught = lit0 binary64
+abbrev pub zero64 : Float
+zero64 = zeroOf binary64
 
 abbrev pub half : Float
 half = ofBits binary64 0x3fe0_0000_0000_0000
 
 abbrev pub one : Float
-one = lit1 binary64
+one = oneOf binary64
 
 abbrev pub two : Float
 two = ofBits binary64 0x4000_0000_0000_0000

@@ -6,18 +6,18 @@ use lib.Dec.{eqb}
 use lib.Ieee.{Float, nan, inf, fin, Format, binary32, binary64, prec, emax, le, ofBits}
 
 -- +0
-abbrev pub nought : Float
-nought = fin false 0 (pos 0)
+abbrev pub plusZero : Float
+plusZero = fin false 0 (pos 0)
 
 -- 1
-abbrev pub unity : Float
-unity = fin false 1 (pos 0)
+abbrev pub plusOne : Float
+plusOne = fin false 1 (pos 0)
 
 -- the largest finite value of f: every digit set, the exponent greatest (bits 0x7f7fffff and 0x7fefffffffffffff)
 abbrev pub largest : Format → Float
 largest f = fin false (2 ^ prec f - 1) (pos (suc (emax f) - prec f))
 
--- 0 ≤ x, +infinity and -0 included; it is the test `le nought x` (`ge0→le` and `le→ge0` of proofs/Order.antt)
+-- 0 ≤ x, +infinity and -0 included; it is the test `le plusZero x` (`ge0→le` and `le→ge0` of proofs/Order.antt)
 abbrev pub ge0 : Float → Bool
 ge0 nan = false
 ge0 (inf s) = not s
@@ -35,10 +35,10 @@ nonneg (fin false m e) = true
 abbrev pub within : Float → Float → Float → Bool
 within lo hi x = le lo x && le x hi
 
--- the literals 0.0 and 1.0 in code of either width; they are `nought` and `unity` (proofs/Literals.antt)
-abbrev pub lit0 : Format → Float
-lit0 f = ofBits f 0
+-- the literals 0.0 and 1.0 in code of either width; they are `plusZero` and `plusOne` (proofs/Literals.antt)
+abbrev pub zeroOf : Format → Float
+zeroOf f = ofBits f 0
 
-abbrev pub lit1 : Format → Float
-lit1 binary32 = ofBits binary32 0x3f80_0000
-lit1 binary64 = ofBits binary64 0x3ff0_0000_0000_0000
+abbrev pub oneOf : Format → Float
+oneOf binary32 = ofBits binary32 0x3f80_0000
+oneOf binary64 = ofBits binary64 0x3ff0_0000_0000_0000

@@ -15,7 +15,7 @@ use lib.Ieee.Scale.{finite}
 use Rattle.runs.specs.Runs.{run, listed}
 use Rattle.runs.proofs.Listed.{listed-more, listed-length, listed-at, listed-same}
 use Rattle.floats.specs.Range.{within}
-use Rattle.floats.specs.Double.{_⊕_, _⊖_, _⊗_, _⊘_, naught, half, one, two}
+use Rattle.floats.specs.Double.{_⊕_, _⊖_, _⊗_, _⊘_, zero64, half, one, two}
 use Rattle.floats.proofs.Order.{fle-refl, lt-le-lt, le-lt-lt, between-finite}
 use Rattle.floats.proofs.Near.{add-order, sub-order}
 use Rattle.floats.proofs.Low.{below-one, from-one}
@@ -58,8 +58,8 @@ module _ (value : Float → Float) (xs : List Float) where
   remade-all ys i h b = let z : i ≡ length xs = omega (arith, b .long, b .within) in sym (take-all i ys h) ∙ b .first ∙ ap (madeOf value xs) z
 
   -- what is still to be made is a fraction of a cycle, where all were
-  pub still-fraction : (ys : List Float) (i : ℕ) → AllFractions xs → i < length ys → Remade value xs ys i → T (within naught one (getD ys i nan ⊗ invTau))
-  still-fraction ys i a h b = subst (λ (x : Float). T (within naught one (x ⊗ invTau))) (sym (b .others i (omega arith))) (a i (omega (arith, b .long)))
+  pub still-fraction : (ys : List Float) (i : ℕ) → AllFractions xs → i < length ys → Remade value xs ys i → T (within zero64 one (getD ys i nan ⊗ invTau))
+  still-fraction ys i a h b = subst (λ (x : Float). T (within zero64 one (x ⊗ invTau))) (sym (b .others i (omega arith))) (a i (omega (arith, b .long)))
 
   pub made-length : (k : ℕ) → length (madeOf value xs k) ≡ k
   unfolding madeOf
@@ -129,47 +129,47 @@ module _ (step p : Float) where
 abbrev branchlessX : Float → Float → Float
 branchlessX t dt = cond (lt t dt) t (t ⊖ one) ⊘ dt
 
-pub branchless-is : (after before : Float → Float) (t dt : Float) → cond (lt t dt) (after (branchlessX t dt)) (cond (lt (one ⊖ dt) t) (before (branchlessX t dt)) naught) ≡ polyblep.valueAt after before (sideOf t dt)
+pub branchless-is : (after before : Float → Float) (t dt : Float) → cond (lt t dt) (after (branchlessX t dt)) (cond (lt (one ⊖ dt) t) (before (branchlessX t dt)) zero64) ≡ polyblep.valueAt after before (sideOf t dt)
 branchless-is after before t dt = go (lt t dt) (lt (one ⊖ dt) t)
   where
-    go : (a b : Bool) → cond a (after (cond a t (t ⊖ one) ⊘ dt)) (cond b (before (cond a t (t ⊖ one) ⊘ dt)) naught) ≡ polyblep.valueAt after before (cond a (After (t ⊘ dt)) (cond b (Before ((t ⊖ one) ⊘ dt)) Away))
+    go : (a b : Bool) → cond a (after (cond a t (t ⊖ one) ⊘ dt)) (cond b (before (cond a t (t ⊖ one) ⊘ dt)) zero64) ≡ polyblep.valueAt after before (cond a (After (t ⊘ dt)) (cond b (Before ((t ⊖ one) ⊘ dt)) Away))
     go true b = refl
     go false true = refl
     go false false = refl
 
-pub fract-is : (x : Float) → (lt naught x && lt x two) ≡ true → cond (lt x one) naught one ≡ floorOf binary64 x
+pub fract-is : (x : Float) → (lt zero64 x && lt x two) ≡ true → cond (lt x one) zero64 one ≡ floorOf binary64 x
 fract-is x t = go (lt x one) refl
   where
-    go : (b : Bool) → lt x one ≡ b → cond b naught one ≡ floorOf binary64 x
+    go : (b : Bool) → lt x one ≡ b → cond b zero64 one ≡ floorOf binary64 x
     go true e = below-one x t e
     go false e = from-one x t e
 
 -- ---- the second edge's phase lies above 0 and below 2
 abbrev Low : Float → Type 0
-Low x = (lt naught x && lt x two) ≡ true
+Low x = (lt zero64 x && lt x two) ≡ true
 
-between : (a x b : Float) → T (finite a) → T (finite b) → T (lt naught a) → T (lt b two) → T (le a x) → T (le x b) → Low x
+between : (a x b : Float) → T (finite a) → T (finite b) → T (lt zero64 a) → T (lt b two) → T (le a x) → T (le x b) → Low x
 between a x b f g l h p q =
     let k : T (finite x) = between-finite a x b f g p q in
-    is-true _ (and-i (lt naught x) (lt x two) (lt-le-lt naught a x (unfold ofBits in tt) k l p) (le-lt-lt x b two k (unfold ofBits in tt) q h))
+    is-true _ (and-i (lt zero64 x) (lt x two) (lt-le-lt zero64 a x (unfold ofBits in tt) k l p) (le-lt-lt x b two k (unfold ofBits in tt) q h))
 
-module _ (u : Float) (h : T (within naught one u)) where
-  from : T (le naught u)
-  from = and-l (le naught u) (le u one) h
+module _ (u : Float) (h : T (within zero64 one u)) where
+  from : T (le zero64 u)
+  from = and-l (le zero64 u) (le u one) h
 
   to : T (le u one)
-  to = and-r (le naught u) (le u one) h
+  to = and-r (le zero64 u) (le u one) h
 
   u-finite : T (finite u)
-  u-finite = between-finite naught u one (unfold ofBits in tt) (unfold ofBits in tt) from to
+  u-finite = between-finite zero64 u one (unfold ofBits in tt) (unfold ofBits in tt) from to
 
   half-finite : T (finite half)
   half-finite = unfold ofBits in tt
 
   pub half-low : Low (u ⊕ half)
   half-low =
-      between (naught ⊕ half) (u ⊕ half) (one ⊕ half) (unfold ofBits add in tt) (unfold ofBits add in tt) (unfold ofBits add lt in tt) (unfold ofBits add lt in tt)
-      (add-order binary64 naught u half half (unfold ofBits in tt) u-finite half-finite half-finite from (fle-refl half half-finite))
+      between (zero64 ⊕ half) (u ⊕ half) (one ⊕ half) (unfold ofBits add in tt) (unfold ofBits add in tt) (unfold ofBits add lt in tt) (unfold ofBits add lt in tt)
+      (add-order binary64 zero64 u half half (unfold ofBits in tt) u-finite half-finite half-finite from (fle-refl half half-finite))
       (add-order binary64 u one half half u-finite (unfold ofBits in tt) half-finite half-finite to (fle-refl half half-finite))
 
   pub duty-low : (duty : Float) → T (within least most duty) → Low (u ⊖ duty ⊕ one)
@@ -178,9 +178,9 @@ module _ (u : Float) (h : T (within naught one u)) where
       let b : T (le duty most) = and-r (le least duty) (le duty most) d in
       let f : T (finite duty) = between-finite least duty most (unfold ofBits in tt) (unfold ofBits in tt) a b in
       let one-finite : T (finite one) = unfold ofBits in tt in
-      let down : T (le (naught ⊖ most) (u ⊖ duty)) = sub-order binary64 naught u most duty (unfold ofBits in tt) u-finite (unfold ofBits in tt) f from b in
+      let down : T (le (zero64 ⊖ most) (u ⊖ duty)) = sub-order binary64 zero64 u most duty (unfold ofBits in tt) u-finite (unfold ofBits in tt) f from b in
       let up : T (le (u ⊖ duty) (one ⊖ least)) = sub-order binary64 u one duty least u-finite one-finite f (unfold ofBits in tt) to a in
-      let g : T (finite (u ⊖ duty)) = between-finite (naught ⊖ most) (u ⊖ duty) (one ⊖ least) (unfold ofBits sub in tt) (unfold ofBits sub in tt) down up in
-      between (naught ⊖ most ⊕ one) (u ⊖ duty ⊕ one) (one ⊖ least ⊕ one) (unfold ofBits sub add in tt) (unfold ofBits sub add in tt) (unfold ofBits sub add lt in tt) (unfold ofBits sub add lt in tt)
-      (add-order binary64 (naught ⊖ most) (u ⊖ duty) one one (unfold ofBits sub in tt) g one-finite one-finite down (fle-refl one one-finite))
+      let g : T (finite (u ⊖ duty)) = between-finite (zero64 ⊖ most) (u ⊖ duty) (one ⊖ least) (unfold ofBits sub in tt) (unfold ofBits sub in tt) down up in
+      between (zero64 ⊖ most ⊕ one) (u ⊖ duty ⊕ one) (one ⊖ least ⊕ one) (unfold ofBits sub add in tt) (unfold ofBits sub add in tt) (unfold ofBits sub add lt in tt) (unfold ofBits sub add lt in tt)
+      (add-order binary64 (zero64 ⊖ most) (u ⊖ duty) one one (unfold ofBits sub in tt) g one-finite one-finite down (fle-refl one one-finite))
       (add-order binary64 (u ⊖ duty) (one ⊖ least) one one g (unfold ofBits sub in tt) one-finite one-finite up (fle-refl one one-finite))

@@ -16,9 +16,9 @@ use lib.Ieee.Scale.{finite, round-same}
 use lib.Ieee.Positive.{num, den, den-pos, positive}
 use Rattle.runs.specs.Runs.{listed}
 use Rattle.runs.proofs.Listed.{listed-length, listed-at, listed-same}
-use Rattle.floats.specs.Range.{nought, nonneg, within}
-use Rattle.floats.specs.Double.{_⊖_, naught}
-use Rattle.floats.proofs.Literals.{lit0-is}
+use Rattle.floats.specs.Range.{plusZero, nonneg, within}
+use Rattle.floats.specs.Double.{_⊖_, zero64}
+use Rattle.floats.proofs.Literals.{zeroOf-is}
 use Rattle.floats.proofs.Order.{fle-trans, fle-refl, le-lt-lt, lt-not-le, not-lt-le, cross→le, le→cross, nonneg→finite, positive-nonneg, signed, under}
 use Rattle.floats.proofs.Operations.{dens-pos, sub-is, rem-is}
 use Rattle.floats.proofs.OneWay.{self-is}
@@ -35,17 +35,17 @@ use Rattle.waveform.proofs.Values.{far, sixteen, Near, phase-near}
 use Rattle.high_notes.proofs.Remaking.{made-twice, made-length, made-at}
 
 -- ---- x - 0 is x, for an x that is not negative, -0 included
-less-nothing : (x : Float) → T (fits binary64 x) → T (nonneg x) → x ⊖ naught ≡ x
+less-nothing : (x : Float) → T (fits binary64 x) → T (nonneg x) → x ⊖ zero64 ≡ x
 unfolding sum
-less-nothing x w h = ap (λ (z : Float). x ⊖ z) (lit0-is binary64) ∙ go x w h
+less-nothing x w h = ap (λ (z : Float). x ⊖ z) (zeroOf-is binary64) ∙ go x w h
   where
-    go : (x : Float) → T (fits binary64 x) → T (nonneg x) → sub binary64 x nought ≡ x
+    go : (x : Float) → T (fits binary64 x) → T (nonneg x) → sub binary64 x plusZero ≡ x
     go nan w h = absurd h
     go (inf s) w h = absurd h
-    go (fin true m e) w h = sub-is binary64 (fin true m e) nought tt tt ∙ rw (nat.mul-one (num (fin true m e)), nat.mul-one (den (fin true m e)), nat.zero-mul (den (fin true m e)), nat.add-zero (num (fin true m e))) (self-is binary64 (fin true m e) w tt)
+    go (fin true m e) w h = sub-is binary64 (fin true m e) plusZero tt tt ∙ rw (nat.mul-one (num (fin true m e)), nat.mul-one (den (fin true m e)), nat.zero-mul (den (fin true m e)), nat.add-zero (num (fin true m e))) (self-is binary64 (fin true m e) w tt)
     go (fin false m e) w h =
         let n = num (fin false m e) in
-        sub-is binary64 (fin false m e) nought tt tt ∙ rw (nat.mul-one n, nat.mul-one (den (fin false m e)), nat.zero-mul (den (fin false m e)), is-false (ltb n 0) (not-T (ltb n 0) (λ (t : T (ltb n 0)). omega (arith, ltb→lt n 0 t))), nat.sub-zero n) (self-is binary64 (fin false m e) w tt)
+        sub-is binary64 (fin false m e) plusZero tt tt ∙ rw (nat.mul-one n, nat.mul-one (den (fin false m e)), nat.zero-mul (den (fin false m e)), is-false (ltb n 0) (not-T (ltb n 0) (λ (t : T (ltb n 0)). omega (arith, ltb→lt n 0 t))), nat.sub-zero n) (self-is binary64 (fin false m e) w tt)
 
 -- what is not below y is y or more
 from : (x y : Float) → lt x y ≡ false → T (nonneg x) → T (positive y) → T (le y x)
@@ -124,7 +124,7 @@ module _ (y z : Float) (d : Double y z) where
       below : (nx dx ny dy nz dz : ℕ) → 0 < dy → nz * dy ≡ 2 * (ny * dz) → nx * dz < nz * dx → nx * dy < ny * dx + ny * dx
       below nx dx ny dy nz dz Y two h = nat.lt-of-not-le (λ (g : ny * dx + ny * dx ≤ nx * dy). omega (arith, ap (λ (j : ℕ). j * dx) two, nat.mul-lt-mul-of-pos-right h Y, nat.mul-le-mul-right dz g))
 
-      go : (t : Bool) → lt x y ≡ t → x ⊖ cond t naught y ≡ rem binary64 x y
+      go : (t : Bool) → lt x y ≡ t → x ⊖ cond t zero64 y ≡ rem binary64 x y
       go true e = less-nothing x (b .fit) (b .sign) ∙ sym (rem-below binary64 x y (b .fit) (b .sign) py (subst T (sym e) tt))
       go false e =
           let l : T (le y x) = from x y e (b .sign) py in
@@ -171,18 +171,18 @@ pub sixteen-thirty-two : Double sixteenTau thirtyTwoTau
 sixteen-thirty-two = record { fit = unfold ofBits in unfold fits in tt; above = unfold ofBits in tt; over = unfold ofBits in tt; double = unfold ofBits in refl }
 
 -- ---- the phases of a rising block
-module _ (step p : Float) (w : T (fits binary64 p)) (h : (within naught far p && within naught sixteen step) ≡ true) where
-  both : T (within naught far p) × T (within naught sixteen step)
-  both = (and-l (within naught far p) (within naught sixteen step) (subst T (sym h) tt), and-r (within naught far p) (within naught sixteen step) (subst T (sym h) tt))
+module _ (step p : Float) (w : T (fits binary64 p)) (h : (within zero64 far p && within zero64 sixteen step) ≡ true) where
+  both : T (within zero64 far p) × T (within zero64 sixteen step)
+  both = (and-l (within zero64 far p) (within zero64 sixteen step) (subst T (sym h) tt), and-r (within zero64 far p) (within zero64 sixteen step) (subst T (sym h) tt))
 
-  nonneg-of : (bound x : Float) → T (finite bound) → T (within naught bound x) → T (nonneg x)
-  nonneg-of bound x f i = within-nonneg bound x f (subst (λ (z : Float). T (within z bound x)) (lit0-is binary64) i)
+  nonneg-of : (bound x : Float) → T (finite bound) → T (within zero64 bound x) → T (nonneg x)
+  nonneg-of bound x f i = within-nonneg bound x f (subst (λ (z : Float). T (within z bound x)) (zeroOf-is binary64) i)
 
   step-nonneg : T (nonneg step)
   step-nonneg = nonneg-of sixteen step (unfold ofBits in tt) (both .1)
 
   near : (k : ℕ) → Near (phaseFrom step p k)
-  near = phase-near step p step-nonneg (and-r (le naught step) (le step sixteen) (both .1)) (record { p-fits = w; p-nonneg = nonneg-of far p (unfold ofBits in tt) (both .0); p-le = and-r (le naught p) (le p far) (both .0) })
+  near = phase-near step p step-nonneg (and-r (le zero64 step) (le step sixteen) (both .1)) (record { p-fits = w; p-nonneg = nonneg-of far p (unfold ofBits in tt) (both .0); p-le = and-r (le zero64 p) (le p far) (both .0) })
 
   rises : (k j : ℕ) → T (le (phaseFrom step p k) (phaseFrom step p (k + j)))
   rises k zero = rw (nat.add-zero k) (fle-refl (phaseFrom step p k) (nonneg→finite (phaseFrom step p k) (near k .p-nonneg)))

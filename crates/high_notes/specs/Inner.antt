@@ -6,7 +6,7 @@ use lib.Dec.{T}
 use lib.ListN.{length, getD}
 use lib.Ieee.{Float, binary64, ofBits, lt, fits, nan}
 use Rattle.floats.specs.Range.{within, nonneg}
-use Rattle.floats.specs.Double.{_⊖_, _⊗_, naught, one}
+use Rattle.floats.specs.Double.{_⊖_, _⊗_, zero64, one}
 use Rattle.waveform.specs.Waveform.{invTau}
 
 -- 2^-10 and 1 - 2^-10, between which a duty is far enough from 0 and 1
@@ -31,7 +31,7 @@ thirtyTwoTau = ofBits binary64 0x4069_21fb_5444_2d18
 
 -- x less y, where it is not below y
 abbrev pub wrapOnceOf : Float → Float → Float
-wrapOnceOf y x = x ⊖ cond (lt x y) naught y
+wrapOnceOf y x = x ⊖ cond (lt x y) zero64 y
 
 -- every number of a list is a float from 0 up to, not including, a bound
 pub record Below (bound x : Float) : Type 0 where
@@ -44,4 +44,4 @@ AllBelow bound xs = (i : ℕ) → i < length xs → Below bound (getD xs i nan)
 
 -- as a fraction of a cycle, from 0 to 1
 abbrev pub AllFractions : List Float → Type 0
-AllFractions xs = (i : ℕ) → i < length xs → T (within naught one (getD xs i nan ⊗ invTau))
+AllFractions xs = (i : ℕ) → i < length xs → T (within zero64 one (getD xs i nan ⊗ invTau))

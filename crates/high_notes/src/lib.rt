@@ -8,7 +8,7 @@ ghost use lib.Ieee.{Float, lt};
 ghost use lib.Ieee.Scale.{finite};
 ghost use Rattle.runs.specs.Runs.{listed};
 ghost use Rattle.floats.specs.Range.{within};
-ghost use Rattle.floats.specs.Double.{_⊗_, naught, one, two};
+ghost use Rattle.floats.specs.Double.{_⊗_, zero64, one, two};
 ghost use Rattle.polyblep.specs.Polyblep.{fractOf, blepOf, blampOf, sawOf, squareOf, pulseOf, triangleOf};
 ghost use Rattle.waveform.specs.Waveform.{valueOf, remainderOf, invTau, radians};
 ghost use Rattle.waveform.specs.Filled.{phaseFrom, Filled};
@@ -81,7 +81,7 @@ fn fill_phases(out: &mut [f64], start: Radians, step: Radians) -> Radians
 
 // Whether no phase falls, and none is below 0 or grows beyond 2^60.
 fn is_rising(start: Radians, step: Radians) -> bool
-    ensures { λ r. ⌜ r ≡ (within naught far (start .0) && within naught sixteen (step .0)) ⌝ }
+    ensures { λ r. ⌜ r ≡ (within zero64 far (start .0) && within zero64 sixteen (step .0)) ⌝ }
 {
     ((0.0 <= start.0) & (start.0 <= 1152921504606846976.0)) & ((0.0 <= step.0) & (step.0 <= 16.0))
 }
@@ -178,7 +178,7 @@ fn fill_values(out: &mut [f64], waveform: Waveform, dt: f64, scale: f64)
 
 // `value_at` of a fraction of a cycle, without a branch that hangs on it.
 fn branchless_value(waveform: Waveform, u: f64, dt: f64) -> f64
-    requires { ⌜ T (within naught one u) ⌝ }
+    requires { ⌜ T (within zero64 one u) ⌝ }
     ensures { λ r. ⌜ r ≡ valueOf waveform u dt ⌝ }
 {
     match waveform {
@@ -194,21 +194,21 @@ fn branchless_value(waveform: Waveform, u: f64, dt: f64) -> f64
 fn saw(u: f64, dt: f64) -> f64
     ensures { λ r. ⌜ r ≡ sawOf u dt ⌝ }
 {
-    polyblep::climb(u) - blep(u, dt)
+    polyblep::naive_saw(u) - blep(u, dt)
 }
 
 fn square(u: f64, dt: f64) -> f64
-    requires { ⌜ T (within naught one u) ⌝ }
+    requires { ⌜ T (within zero64 one u) ⌝ }
     ensures { λ r. ⌜ r ≡ squareOf u dt ⌝ }
 {
     let rise = blep(u, dt);
     let fall = blep(fract(u + 0.5), dt);
-    polyblep::step(u, 0.5) + rise - fall
+    polyblep::naive_pulse(u, 0.5) + rise - fall
 }
 
 // A duty so near to 0 or 1 that the second edge's phase may leave 0 to 2 is made as any.
 fn pulse(u: f64, dt: f64, duty: f64) -> f64
-    requires { ⌜ T (within naught one u) ⌝ }
+    requires { ⌜ T (within zero64 one u) ⌝ }
     ensures { λ r. ⌜ r ≡ pulseOf u dt duty ⌝ }
 {
     if !((0.0009765625 <= duty) & (duty <= 0.9990234375)) {
@@ -216,16 +216,16 @@ fn pulse(u: f64, dt: f64, duty: f64) -> f64
     }
     let rise = blep(u, dt);
     let fall = blep(fract(u - duty + 1.0), dt);
-    polyblep::step(u, duty) + rise - fall
+    polyblep::naive_pulse(u, duty) + rise - fall
 }
 
 fn triangle(u: f64, dt: f64) -> f64
-    requires { ⌜ T (within naught one u) ⌝ }
+    requires { ⌜ T (within zero64 one u) ⌝ }
     ensures { λ r. ⌜ r ≡ triangleOf u dt ⌝ }
 {
     let low = blamp(u, dt);
     let high = blamp(fract(u + 0.5), dt);
-    polyblep::ramp(u) + 8.0 * low - 8.0 * high
+    polyblep::naive_triangle(u) + 8.0 * low - 8.0 * high
 }
 
 // The formulas of both sides are worked out, and one is taken.
@@ -248,7 +248,7 @@ fn blamp(t: f64, dt: f64) -> f64
 }
 
 fn fract(x: f64) -> f64
-    requires { ⌜ (lt naught x && lt x two) ≡ true ⌝ }
+    requires { ⌜ (lt zero64 x && lt x two) ≡ true ⌝ }
     ensures { λ r. ⌜ r ≡ fractOf x ⌝ }
 {
     x - select(x < 1.0, 0.0, 1.0)

@@ -23,7 +23,7 @@ use Rattle.score.proofs.Verdicts.{accepted-faults, none-accepted, faulty-faults
 use Rattle.shelf.specs.Shelf.{wordsFor}
 use Rattle.state.specs.declared.Settings.{Settings}
 use Rattle.state.specs.Settings.{settingsOk}
-use Rattle.judging.specs.Judging.{refusalsOf, Passed, newRefusalsOf, most, isRoom, isStretch}
+use Rattle.judging.specs.Judging.{refusalsOf, Passed, newRefusalsOf, mostSamples, sizesFit, partFits}
 
 -- ---- the first refusal in each case of settings, room and score
 module _ (g : Settings) (room : Bool) (s : List ℕ) (rest : Answer) where
@@ -122,19 +122,19 @@ module _ (s : List ℕ) where
 
 -- ---- sizes
 pub record Roomy (n words : ℕ) : Type 0 where
-  pub short : n ≤ most
+  pub short : n ≤ mostSamples
   pub fits : words ≡ wordsFor n
 
-pub roomy : (n words : ℕ) → isRoom n words ≡ true → Roomy n words
-roomy n words h = let b = both (leb n most) (eqb words (wordsFor n)) h in record { short = leb-true n most (b .0); fits = eqb-true words (wordsFor n) (b .1) }
+pub roomy : (n words : ℕ) → sizesFit n words ≡ true → Roomy n words
+roomy n words h = let b = both (leb n mostSamples) (eqb words (wordsFor n)) h in record { short = leb-true n mostSamples (b .0); fits = eqb-true words (wordsFor n) (b .1) }
 
 -- p + n <= most is tested as p <= most and n <= most - p, so that no sum overflows
-pub stretch-late : (p n : ℕ) → most < p → false ≡ isStretch p n
-stretch-late p n h = sym (lt-leb (p + n) most (omega arith))
+pub stretch-late : (p n : ℕ) → mostSamples < p → false ≡ partFits p n
+stretch-late p n h = sym (lt-leb (p + n) mostSamples (omega arith))
 
-pub stretch-in : (p n : ℕ) → p ≤ most → leb n (most - p) ≡ isStretch p n
-stretch-in p n h = go (leb n (most - p)) refl
+pub stretch-in : (p n : ℕ) → p ≤ mostSamples → leb n (mostSamples - p) ≡ partFits p n
+stretch-in p n h = go (leb n (mostSamples - p)) refl
   where
-    go : (t : Bool) → leb n (most - p) ≡ t → t ≡ isStretch p n
-    go true e = let q : n ≤ most - p = leb-true n (most - p) e in sym (le-leb (p + n) most (omega arith))
-    go false e = let q : most - p < n = leb-false n (most - p) e in sym (lt-leb (p + n) most (omega arith))
+    go : (t : Bool) → leb n (mostSamples - p) ≡ t → t ≡ partFits p n
+    go true e = let q : n ≤ mostSamples - p = leb-true n (mostSamples - p) e in sym (le-leb (p + n) mostSamples (omega arith))
+    go false e = let q : mostSamples - p < n = leb-false n (mostSamples - p) e in sym (lt-leb (p + n) mostSamples (omega arith))

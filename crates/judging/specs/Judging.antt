@@ -35,13 +35,13 @@ newRefusalsOf s = map NewScore (faultsOf s)
 
 -- ---- the room
 -- the most samples of an output, 2^24
-abbrev pub most : ℕ
-most = 16777216
+abbrev pub mostSamples : ℕ
+mostSamples = 16777216
 
 -- n samples are not too many, and the shelf's words are twelve for each entry of n samples
-abbrev pub isRoom : ℕ → ℕ → Bool
-isRoom n words = leb n most && eqb words (wordsFor n)
+abbrev pub sizesFit : ℕ → ℕ → Bool
+sizesFit n words = leb n mostSamples && eqb words (wordsFor n)
 
 -- n samples from position p on end at or before position 16,777,216
-abbrev pub isStretch : ℕ → ℕ → Bool
-isStretch p n = leb (p + n) most
+abbrev pub partFits : ℕ → ℕ → Bool
+partFits p n = leb (p + n) mostSamples

@@ -3,14 +3,14 @@
 ghost use mathlib.Core.Path.{_≡_};
 ghost use Rattle.answers.specs.Order.{firstOf};
 ghost use Rattle.answers.specs.declared.Answer.the-variants.{Done, Refused};
-ghost use Rattle.judging.specs.Judging.{refusalsOf, newRefusalsOf, isRoom, isStretch};
+ghost use Rattle.judging.specs.Judging.{refusalsOf, newRefusalsOf, sizesFit, partFits};
 use answers::Answer;
 use answers::Refusal;
 use score::Verdict;
 use state::Settings;
 
 // The most samples of an output, 2^24.
-const MOST: u64 = 16_777_216;
+const MOST_SAMPLES: u64 = 16_777_216;
 
 // 6, 7 and the faults of the old or only score, in that order; `rest` where there is none.
 pub fn judged(settings: Settings, room: bool, score: &[u8], rest: Answer) -> Answer
@@ -29,7 +29,7 @@ pub fn judged(settings: Settings, room: bool, score: &[u8], rest: Answer) -> Ans
 }
 
 // The new score's fault, or done with a count of 0.
-pub fn new_scored(new: &[u8]) -> Answer
+pub fn judged_new(new: &[u8]) -> Answer
     ensures { λ r. ⌜ r ≡ firstOf (newRefusalsOf (now (new .entry))) Refused (Done 0) ⌝ }
 {
     match score::judge(new) {
@@ -39,18 +39,18 @@ pub fn new_scored(new: &[u8]) -> Answer
 }
 
 // Whether samples <= 16,777,216 and the shelf has twelve words for each entry of so many samples.
-pub fn is_room(samples: usize, words: usize) -> bool
-    ensures { λ r. ⌜ r ≡ isRoom samples words ⌝ }
+pub fn sizes_fit(samples: usize, words: usize) -> bool
+    ensures { λ r. ⌜ r ≡ sizesFit samples words ⌝ }
 {
-    (samples as u64 <= MOST) & (words == shelf::words_for(samples))
+    (samples as u64 <= MOST_SAMPLES) & (words == shelf::words_for(samples))
 }
 
 // Whether position + samples <= 16,777,216, tested without overflow.
-pub fn is_stretch(position: u64, samples: usize) -> bool
-    ensures { λ r. ⌜ r ≡ isStretch position samples ⌝ }
+pub fn part_fits(position: u64, samples: usize) -> bool
+    ensures { λ r. ⌜ r ≡ partFits position samples ⌝ }
 {
-    if position > MOST {
+    if position > MOST_SAMPLES {
         return false;
     }
-    samples as u64 <= MOST - position
+    samples as u64 <= MOST_SAMPLES - position
 }

@@ -3,7 +3,7 @@ use mathlib.Core.Path.{_≡_, sym, _∙_}
 use mathlib.Core.List.{List}
 use Prim.Native.Nat.{ℕ}
 use lib.Ieee.{Float}
-use Rattle.floats.specs.Double.{naught}
+use Rattle.floats.specs.Double.{zero64}
 use Rattle.answers.specs.Outcome.{leaves}
 use Rattle.answers.proofs.Unique.{same-left}
 use Rattle.waveform.specs.declared.Waveform.{Waveform}
@@ -15,7 +15,7 @@ use Rattle.lfo.specs.declared.Processed.{Processed}
 pub new-unique : (f d : Float) (w : Waveform) (r t : LfoBlock) → r ≡ newOf f d w → t ≡ newOf f d w → r ≡ t
 new-unique f d w r t p q = p ∙ sym q
 
-pub reset-unique : (b r t : LfoBlock) → r ≡ withPhase b (radians naught) → t ≡ withPhase b (radians naught) → r ≡ t
+pub reset-unique : (b r t : LfoBlock) → r ≡ withPhase b (radians zero64) → t ≡ withPhase b (radians zero64) → r ≡ t
 reset-unique b r t p q = p ∙ sym q
 
 -- the result and every lent number

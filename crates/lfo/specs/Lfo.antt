@@ -6,7 +6,7 @@
 use mathlib.Core.List.{List}
 use Prim.Native.Nat.{ℕ}
 use lib.Ieee.{Float}
-use Rattle.floats.specs.Double.{naught}
+use Rattle.floats.specs.Double.{zero64}
 use Rattle.domain.specs.Domain.{highestLfo}
 use Rattle.answers.specs.Outcome.{Outcome, leaves}
 use Rattle.waveform.specs.declared.Radians.{Radians}
@@ -19,7 +19,7 @@ use Rattle.lfo.specs.declared.LfoBlock.{LfoBlock}
 use Rattle.lfo.specs.declared.Processed.{Processed}
 
 abbrev pub newOf : Float → Float → Waveform → LfoBlock
-newOf frequency depth w = record { frequency = frequency; depth = depth; phase = radians naught; waveform = w }
+newOf frequency depth w = record { frequency = frequency; depth = depth; phase = radians zero64; waveform = w }
 
 abbrev pub withPhase : LfoBlock → Radians → LfoBlock
 withPhase b p = record { frequency = b .frequency; depth = b .depth; phase = p; waveform = b .waveform }

@@ -4,7 +4,7 @@ ghost use mathlib.Core.Path.{_≡_};
 ghost use Rattle.answers.specs.Outcome.{leaves};
 ghost use Rattle.lfo.specs.Lfo.{newOf, withPhase, processOf};
 ghost use Rattle.waveform.specs.Waveform.{radians};
-ghost use Rattle.floats.specs.Double.{naught};
+ghost use Rattle.floats.specs.Double.{zero64};
 use answers::Answer;
 use blocks::Tone;
 use waveform::Radians;
@@ -38,7 +38,7 @@ impl LfoBlock {
 
     // Sets the phase to 0; the settings stay.
     pub fn reset(self) -> LfoBlock
-        ensures { λ r. ⌜ r ≡ withPhase self (radians naught) ⌝ }
+        ensures { λ r. ⌜ r ≡ withPhase self (radians zero64) ⌝ }
     {
         let start = Radians(0.0);
         let mut block = self;

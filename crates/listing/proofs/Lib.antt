@@ -4,6 +4,6 @@ pub mod Digits
 -- texts put into a buffer one after the other
 pub mod Puts
 -- 01's example
-pub mod Marks
+pub mod Examples
 -- two outcomes of the public function are equal
 pub mod Unique

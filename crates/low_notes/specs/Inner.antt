@@ -5,9 +5,9 @@ use mathlib.Core.Path.{_≡_}
 use lib.Dec.{T}
 use lib.Ieee.{Float, binary64, neg, lt, le, fits}
 use Rattle.floats.specs.Range.{within}
-use Rattle.floats.specs.Double.{_⊕_, _⊖_, _⊗_, naught, half, one}
+use Rattle.floats.specs.Double.{_⊕_, _⊖_, _⊗_, zero64, half, one}
 use Rattle.polyblep.specs.declared.Side.the-variants.{Away}
-use Rattle.polyblep.specs.Polyblep.{sideOf, fractOf, climbOf, riseOf, fallOf}
+use Rattle.polyblep.specs.Polyblep.{sideOf, fractOf, naiveSawOf, riseOf, fallOf}
 use Rattle.polyblep.proofs.Clear.{Lies}
 use Rattle.waveform.specs.declared.Waveform.{Waveform}
 use Rattle.waveform.specs.Waveform.{tau, twoTau, invTau, normalOf}
@@ -23,16 +23,16 @@ use Rattle.low_notes.specs.declared.Progress.{Progress}
 abbrev pub lineOf : Line → Float → Float
 lineOf High t = one
 lineOf Low t = neg one
-lineOf Climb t = climbOf t ⊖ naught
-lineOf Rise t = riseOf t ⊕ naught ⊖ naught
-lineOf Fall t = fallOf t ⊕ naught ⊖ naught
+lineOf Climb t = naiveSawOf t ⊖ zero64
+lineOf Rise t = riseOf t ⊕ zero64 ⊖ zero64
+lineOf Fall t = fallOf t ⊕ zero64 ⊖ zero64
 
 -- ---- the first two cycles
 abbrev pub baseOf : Bool → Float
-baseOf first = cond first naught tau
+baseOf first = cond first zero64 tau
 
 abbrev pub isOneCycle : Bool → Float → Float → Bool
-isOneCycle first from to = cond first (lt naught from && le to tau) (le tau from && le to twoTau)
+isOneCycle first from to = cond first (lt zero64 from && le to tau) (le tau from && le to twoTau)
 
 -- the fraction of the cycle from base that a phase is
 abbrev pub fractionOf : Float → Float → Float
@@ -40,7 +40,7 @@ fractionOf base q = (q ⊖ base) ⊗ invTau
 
 -- fractions that are away from the cycle's ends
 abbrev pub isClear : Float → Float → Float → Bool
-isClear fraction end dt = within naught one dt && le dt fraction && le end (one ⊖ dt)
+isClear fraction end dt = within zero64 one dt && le dt fraction && le end (one ⊖ dt)
 
 -- ---- a segment of phases
 abbrev pub Inside : Float → Float → Float → Type 0
@@ -52,7 +52,7 @@ isInSegment s q = le (s .from .0) q && lt q (s .to .0)
 
 -- no phase of it falls by a step
 abbrev pub isRising : Segment → Float → Bool
-isRising s step = le naught (s .from .0) && le (s .to .0) twoTau && within naught tau step
+isRising s step = le zero64 (s .from .0) && le (s .to .0) twoTau && within zero64 tau step
 
 -- the values on it are those of its line
 abbrev pub Straight : (Float → Float) → Segment → Type 0

@@ -221,7 +221,7 @@ fn line_at(line: Line, base: Radians, phase: Radians) -> f64
     match line {
         Line::High => polyblep::HIGH,
         Line::Low => polyblep::LOW,
-        Line::Climb => polyblep::climb(t) - 0.0,
+        Line::Climb => polyblep::naive_saw(t) - 0.0,
         Line::Rise => polyblep::rise(t) + 0.0 - 0.0,
         Line::Fall => polyblep::fall(t) + 0.0 - 0.0,
     }

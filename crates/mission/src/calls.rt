@@ -5,7 +5,7 @@ use crate::records;
 pub fn check(list: &[u64]) -> u64 {
     let score = records::bytes(list);
     let size = records::size(list);
-    desk::gav_check_score(&score[0..size])
+    ffi::gav_check_score(&score[0..size])
 }
 
 // Renders into the first half.
@@ -30,11 +30,11 @@ pub fn rerender(old: &[u64], new: &[u64], pair: &mut [f64], shelves: &mut [u64])
 }
 
 // Continues with a part from a state before a position.
-pub fn go_on(list: &[u64], state: &mut [u64], position: u64, part: &mut [f64]) -> u64 {
+pub fn continue_call(list: &[u64], state: &mut [u64], position: u64, part: &mut [f64]) -> u64 {
     let score = records::bytes(list);
     let size = records::size(list);
     let some = &score[0..size];
-    desk::gav_continue(
+    ffi::gav_continue(
         8000,
         2,
         0.5,
@@ -52,7 +52,7 @@ pub fn go_on(list: &[u64], state: &mut [u64], position: u64, part: &mut [f64]) -
 // The fresh state, but with so many records acted.
 pub fn at_rest(acted: u64) -> [u64; 12] {
     let mut state = [0u64; 12];
-    desk::gav_fresh(&mut state);
+    ffi::gav_fresh(&mut state);
     state[5] = 255 + 65536 * (acted % 8);
     state
 }
@@ -61,7 +61,7 @@ fn whole(list: &[u64], out: &mut [f64], shelf: &mut [u64]) -> u64 {
     let score = records::bytes(list);
     let size = records::size(list);
     let some = &score[0..size];
-    desk::gav_render(8000, 2, 0.5, 0.01, 10.0, 0.2, 5.0, some, out, shelf)
+    ffi::gav_render(8000, 2, 0.5, 0.01, 10.0, 0.2, 5.0, some, out, shelf)
 }
 
 fn again(old: &[u64], new: &[u64], out: &mut [f64], shelf: &mut [u64]) -> u64 {
@@ -71,5 +71,5 @@ fn again(old: &[u64], new: &[u64], out: &mut [f64], shelf: &mut [u64]) -> u64 {
     let is = records::size(new);
     let first = &before[0..was];
     let last = &after[0..is];
-    desk::gav_rerender(8000, 2, 0.5, 0.01, 10.0, 0.2, 5.0, first, last, out, shelf)
+    ffi::gav_rerender(8000, 2, 0.5, 0.01, 10.0, 0.2, 5.0, first, last, out, shelf)
 }

@@ -133,7 +133,7 @@ fn continued(pair: &mut [f64], shelves: &mut [u64]) -> u64 {
     if shelves.len() < 36 {
         return 0;
     }
-    calls::go_on(&NEW, &mut shelves[36..], 4096, &mut pair[8496..])
+    calls::continue_call(&NEW, &mut shelves[36..], 4096, &mut pair[8496..])
 }
 
 // The letter of each change names its word, in both halves: a is the entry's first word.

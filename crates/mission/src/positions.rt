@@ -40,14 +40,14 @@ fn up_to(samples: u64, acted: u64, pair: &mut [f64]) {
 fn beside(acted: u64, position: u64, pair: &mut [f64]) {
     let n = pair.len() / 2;
     let mut state = calls::at_rest(acted);
-    calls::go_on(&EARLY, &mut state, position, &mut pair[n..]);
+    calls::continue_call(&EARLY, &mut state, position, &mut pair[n..]);
 }
 
 fn tried(acted: u64, position: u64, pair: &mut [f64]) {
     let n = pair.len() / 2;
     let mut state = calls::at_rest(acted);
     told::call(
-        calls::go_on(&LATE, &mut state, position, &mut pair[0..n]),
+        calls::continue_call(&LATE, &mut state, position, &mut pair[0..n]),
         pair,
     );
 }

@@ -44,5 +44,8 @@ fn answered(score: &[u64], like: &[u64], pair: &mut [f64; 600], shelves: &mut [u
 fn continued(score: &[u64], pair: &mut [f64]) {
     let n = pair.len() / 2;
     let mut state = calls::at_rest(0);
-    told::call(calls::go_on(score, &mut state, 0, &mut pair[0..n]), pair);
+    told::call(
+        calls::continue_call(score, &mut state, 0, &mut pair[0..n]),
+        pair,
+    );
 }

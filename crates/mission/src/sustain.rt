@@ -25,5 +25,5 @@ fn held(decay: f64) {
 fn render(decay: f64, out: &mut [f64], shelf: &mut [u64]) -> u64 {
     let score = records::bytes(&[0_1_069_127, 4500_2_069_000]);
     let key = &score[0..20];
-    desk::gav_render(44100, 1, 0.5, 0.005, decay, 1.0, 0.02, key, out, shelf)
+    ffi::gav_render(44100, 1, 0.5, 0.005, decay, 1.0, 0.02, key, out, shelf)
 }

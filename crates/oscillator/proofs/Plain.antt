@@ -9,7 +9,7 @@ use lib.ListN.{length}
 use lib.Ieee.{Float, binary64, ofBits, le, fits}
 use Rattle.runs.proofs.Listed.{listed-same}
 use Rattle.floats.specs.Double.{_⊗_, one}
-use Rattle.floats.proofs.Literals.{lit1-is}
+use Rattle.floats.proofs.Literals.{oneOf-is}
 use Rattle.floats.proofs.OneWay.{times-one}
 use Rattle.domain.specs.Domain.{highestTone, isDepth}
 use Rattle.answers.specs.declared.Answer.the-variants.{Done}
@@ -25,7 +25,7 @@ use Rattle.oscillator.specs.declared.OscillatorBlock.{OscillatorBlock}
 
 -- x * 1 is x
 one-times : (x : Float) → T (fits binary64 x) → x ⊗ one ≡ x
-one-times x w = rw (lit1-is binary64) (times-one binary64 x w)
+one-times x w = rw (oneOf-is binary64) (times-one binary64 x w)
 
 pub samples-are-values : (w : Waveform) (step p : Float) (k : ℕ) → samplesFrom w step one p k ≡ valuesFrom w step p k
 unfolding samplesBy valuesFrom

@@ -4,7 +4,7 @@ use mathlib.Core.Path.{_≡_, sym, _∙_}
 use mathlib.Core.List.{List}
 use Prim.Native.Nat.{ℕ}
 use lib.Ieee.{Float}
-use Rattle.floats.specs.Double.{naught}
+use Rattle.floats.specs.Double.{zero64}
 use Rattle.answers.specs.Outcome.{leaves}
 use Rattle.answers.proofs.Unique.{same-left}
 use Rattle.waveform.specs.declared.Waveform.{Waveform}
@@ -26,7 +26,7 @@ clear-midi-frequency-unique b r t p q = p ∙ sym q
 pub set-waveform-unique : (b : OscillatorBlock) (w : Waveform) (r t : OscillatorBlock) → r ≡ withWaveform b w → t ≡ withWaveform b w → r ≡ t
 set-waveform-unique b w r t p q = p ∙ sym q
 
-pub reset-unique : (b r t : OscillatorBlock) → r ≡ withPhase b (radians naught) → t ≡ withPhase b (radians naught) → r ≡ t
+pub reset-unique : (b r t : OscillatorBlock) → r ≡ withPhase b (radians zero64) → t ≡ withPhase b (radians zero64) → r ≡ t
 reset-unique b r t p q = p ∙ sym q
 
 -- the result and every lent number

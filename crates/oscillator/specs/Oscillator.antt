@@ -12,7 +12,7 @@ use Prim.Native.Nat.{ℕ}
 use lib.ListN.{length}
 use lib.Ieee.{Float}
 use Rattle.runs.specs.Runs.{listed}
-use Rattle.floats.specs.Double.{naught}
+use Rattle.floats.specs.Double.{zero64}
 use Rattle.domain.specs.Domain.{highestTone, isFrequency, isRadians}
 use Rattle.answers.specs.declared.Refusal.the-variants.{Setting, Argument}
 use Rattle.answers.specs.Order.{unless}
@@ -30,7 +30,7 @@ use Rattle.oscillator.specs.declared.Processed.{Processed}
 
 -- ---- the calls that refuse nothing
 abbrev pub newOf : Float → Waveform → OscillatorBlock
-newOf frequency w = record { frequency = frequency; «midi_frequency» = Unset; phase = radians naught; waveform = w }
+newOf frequency w = record { frequency = frequency; «midi_frequency» = Unset; phase = radians zero64; waveform = w }
 
 abbrev pub withMidi : OscillatorBlock → MidiFrequency → OscillatorBlock
 withMidi b m = record { frequency = b .frequency; «midi_frequency» = m; phase = b .phase; waveform = b .waveform }

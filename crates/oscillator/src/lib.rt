@@ -6,7 +6,7 @@ ghost use Rattle.answers.specs.Outcome.{leaves};
 ghost use Rattle.oscillator.specs.Oscillator.{newOf, withMidi, withWaveform, withPhase, playedOf, processOf};
 ghost use Rattle.oscillator.specs.declared.MidiFrequency.the-variants.{Unset, Set};
 ghost use Rattle.waveform.specs.Waveform.{radians};
-ghost use Rattle.floats.specs.Double.{naught};
+ghost use Rattle.floats.specs.Double.{zero64};
 use answers::Answer;
 use blocks::Tone;
 use waveform::Radians;
@@ -72,7 +72,7 @@ impl OscillatorBlock {
 
     // Sets the phase to 0; the settings and the note's frequency stay.
     pub fn reset(self) -> OscillatorBlock
-        ensures { λ r. ⌜ r ≡ withPhase self (radians naught) ⌝ }
+        ensures { λ r. ⌜ r ≡ withPhase self (radians zero64) ⌝ }
     {
         let start = Radians(0.0);
         let mut block = self;

@@ -9,9 +9,9 @@ use lib.Ieee.{Float, binary32, add, div, lt, le, fits, ofBits}
 use lib.Ieee.Fits.{and-i, and-l, and-r, add-fits, sub-fits, div-fits}
 use lib.Ieee.Bits.{ofBits-fits}
 use lib.Ieee.Scale.{finite}
-use Rattle.floats.specs.Range.{nought, unity, lit0, lit1, within}
+use Rattle.floats.specs.Range.{plusZero, plusOne, zeroOf, oneOf, within}
 use Rattle.floats.specs.Floor.{floorOf}
-use Rattle.floats.proofs.Literals.{lit0-is, lit1-is}
+use Rattle.floats.proofs.Literals.{zeroOf-is, oneOf-is}
 use Rattle.floats.proofs.Fraction.{fraction-in}
 use Rattle.floats.proofs.Largest.{add-finite-unit}
 use Rattle.answers.specs.declared.Refusal.the-variants.{Argument}
@@ -29,32 +29,32 @@ pub record Good (a : PhaseAccumulator) : Type 0 where
   pub increment-fits : T (fits binary32 (a .increment .0))
   pub accepted : T (isState a)
 
--- the range from the literal 0.0 to the literal 1.0 is that from `nought` to `unity`
-unit-is : (x : Float) → within (lit0 binary32) (lit1 binary32) x ≡ within nought unity x
-unit-is x = rw (lit0-is binary32, lit1-is binary32) refl
+-- the range from the literal 0.0 to the literal 1.0 is that from `plusZero` to `plusOne`
+unit-is : (x : Float) → within (zeroOf binary32) (oneOf binary32) x ≡ within plusZero plusOne x
+unit-is x = rw (zeroOf-is binary32, oneOf-is binary32) refl
 
-pub wrap-in : (x : Float) → T (fits binary32 x) → T (finite x) → T (within (lit0 binary32) (lit1 binary32) (wrapOf x))
+pub wrap-in : (x : Float) → T (fits binary32 x) → T (finite x) → T (within (zeroOf binary32) (oneOf binary32) (wrapOf x))
 wrap-in x w h = rw (unit-is (wrapOf x)) (fraction-in binary32 x w h)
 
 pub new-good : Good newOf
 new-good = record { phase-fits = ofBits-fits binary32 0; increment-fits = ofBits-fits binary32 0; accepted = unfold ofBits in unfold le in tt }
 
 module _ (a : PhaseAccumulator) (g : Good a) where
-  phase-in : T (within (lit0 binary32) (lit1 binary32) (a .phase .0))
-  phase-in = and-l (within (lit0 binary32) (lit1 binary32) (a .phase .0)) (finite (a .increment .0)) (g .accepted)
+  phase-in : T (within (zeroOf binary32) (oneOf binary32) (a .phase .0))
+  phase-in = and-l (within (zeroOf binary32) (oneOf binary32) (a .phase .0)) (finite (a .increment .0)) (g .accepted)
 
   increment-finite : T (finite (a .increment .0))
-  increment-finite = and-r (within (lit0 binary32) (lit1 binary32) (a .phase .0)) (finite (a .increment .0)) (g .accepted)
+  increment-finite = and-r (within (zeroOf binary32) (oneOf binary32) (a .phase .0)) (finite (a .increment .0)) (g .accepted)
 
   -- phase + increment is finite: 1 plus the largest f32 rounds to the largest f32
   sum-finite : T (finite (add binary32 (a .phase .0) (a .increment .0)))
   sum-finite = add-finite-unit binary32 (a .phase .0) (a .increment .0) (g .increment-fits) increment-finite (rw (unit-is (a .phase .0)) at phase-in)
 
-  at-phase : (x : Float) → T (fits binary32 x) → T (within (lit0 binary32) (lit1 binary32) x) → Good (withPhase a x)
-  at-phase x w p = record { phase-fits = w; increment-fits = g .increment-fits; accepted = and-i (within (lit0 binary32) (lit1 binary32) x) (finite (a .increment .0)) p increment-finite }
+  at-phase : (x : Float) → T (fits binary32 x) → T (within (zeroOf binary32) (oneOf binary32) x) → Good (withPhase a x)
+  at-phase x w p = record { phase-fits = w; increment-fits = g .increment-fits; accepted = and-i (within (zeroOf binary32) (oneOf binary32) x) (finite (a .increment .0)) p increment-finite }
 
   at-increment : (x : Float) → T (fits binary32 x) → T (finite x) → Good (withIncrement a x)
-  at-increment x w p = record { phase-fits = g .phase-fits; increment-fits = w; accepted = and-i (within (lit0 binary32) (lit1 binary32) (a .phase .0)) (finite x) phase-in p }
+  at-increment x w p = record { phase-fits = g .phase-fits; increment-fits = w; accepted = and-i (within (zeroOf binary32) (oneOf binary32) (a .phase .0)) (finite x) phase-in p }
 
   at-wrap : (x : Float) → T (fits binary32 x) → T (finite x) → Good (withPhase a (wrapOf x))
   at-wrap x w p = at-phase (wrapOf x) (sub-fits binary32 x (floorOf binary32 x)) (wrap-in x w p)
@@ -62,7 +62,7 @@ module _ (a : PhaseAccumulator) (g : Good a) where
   pub set-frequency-keeps : (f r : Float) → Good (setFrequencyOf a f r .accumulator)
   set-frequency-keeps f r =
       let q = div binary32 f r in
-      let before = isState a && finite f && finite r && lt (lit0 binary32) r in
+      let before = isState a && finite f && finite r && lt (zeroOf binary32) r in
       first-keeps (unless (before && finite q) Argument) _ _ (λ (s : Changed). Good (s .accumulator)) (λ why. g) (λ e. at-increment q (div-fits binary32 f r) (and-r before (finite q) (held (before && finite q) Argument e)))
 
   pub set-increment-keeps : (x : Cycles) → T (fits binary32 (x .0)) → Good (setIncrementOf a x .accumulator)
@@ -77,7 +77,7 @@ module _ (a : PhaseAccumulator) (g : Good a) where
   set-phase-keeps x w = first-keeps (unless (isState a && finite (x .0)) Argument) _ _ (λ (r : Changed). Good (r .accumulator)) (λ why. g) (λ e. at-wrap (x .0) w (and-r (isState a) (finite (x .0)) (held (isState a && finite (x .0)) Argument e)))
 
   pub reset-keeps : Good (resetOf a .accumulator)
-  reset-keeps = first-keeps (unless (isState a) Argument) _ _ (λ (r : Changed). Good (r .accumulator)) (λ why. g) (λ e. at-phase (lit0 binary32) (ofBits-fits binary32 0) (unfold ofBits in unfold le in tt))
+  reset-keeps = first-keeps (unless (isState a) Argument) _ _ (λ (r : Changed). Good (r .accumulator)) (λ why. g) (λ e. at-phase (zeroOf binary32) (ofBits-fits binary32 0) (unfold ofBits in unfold le in tt))
 
 -- ---- any calls, one after the other
 pub data Call : Type 0 where

@@ -9,7 +9,7 @@ use mathlib.Core.Bool.{Bool, _&&_}
 use mathlib.Core.List.{List}
 use lib.Ieee.{Float, binary32, add, sub, div, lt}
 use lib.Ieee.Scale.{finite}
-use Rattle.floats.specs.Range.{lit0, lit1, within}
+use Rattle.floats.specs.Range.{zeroOf, oneOf, within}
 use Rattle.floats.specs.Floor.{floorOf}
 use Rattle.answers.specs.declared.Answer.the-variants.{Done, Refused}
 use Rattle.answers.specs.declared.Refusal.{Refusal}
@@ -26,7 +26,7 @@ cyclesOf x = record { 0 = x }
 
 -- phase 0 to 1, increment finite
 abbrev pub isState : PhaseAccumulator → Bool
-isState a = within (lit0 binary32) (lit1 binary32) (a .phase .0) && finite (a .increment .0)
+isState a = within (zeroOf binary32) (oneOf binary32) (a .phase .0) && finite (a .increment .0)
 
 -- x - floor(x), rounded once
 abbrev pub wrapOf : Float → Float
@@ -44,22 +44,22 @@ abbrev pub changedOr : List Refusal → PhaseAccumulator → PhaseAccumulator �
 changedOr refusals before after = firstOf refusals (λ (why : Refusal). record { answer = Refused why; accumulator = before }) (record { answer = Done 0; accumulator = after })
 
 abbrev pub shownOr : List Refusal → Float → Shown
-shownOr refusals x = firstOf refusals (λ (why : Refusal). record { answer = Refused why; cycles = cyclesOf (lit0 binary32) }) (record { answer = Done 0; cycles = cyclesOf x })
+shownOr refusals x = firstOf refusals (λ (why : Refusal). record { answer = Refused why; cycles = cyclesOf (zeroOf binary32) }) (record { answer = Done 0; cycles = cyclesOf x })
 
 abbrev pub steppedOr : List Refusal → Float → PhaseAccumulator → PhaseAccumulator → Stepped
 steppedOr refusals x before after =
-    firstOf refusals (λ (why : Refusal). record { answer = Refused why; cycles = cyclesOf (lit0 binary32); accumulator = before }) (record { answer = Done 0; cycles = cyclesOf x; accumulator = after })
+    firstOf refusals (λ (why : Refusal). record { answer = Refused why; cycles = cyclesOf (zeroOf binary32); accumulator = before }) (record { answer = Done 0; cycles = cyclesOf x; accumulator = after })
 
 -- ---- the calls
 -- phase 0 and increment 0
 abbrev pub newOf : PhaseAccumulator
-newOf = record { phase = cyclesOf (lit0 binary32); increment = cyclesOf (lit0 binary32) }
+newOf = record { phase = cyclesOf (zeroOf binary32); increment = cyclesOf (zeroOf binary32) }
 
 -- the increment is frequency / rate, both in Hz
 abbrev pub setFrequencyOf : PhaseAccumulator → Float → Float → Changed
 setFrequencyOf a f r =
     let increment = div binary32 f r in
-    changedOr (unless (isState a && finite f && finite r && lt (lit0 binary32) r && finite increment) Argument) a (withIncrement a increment)
+    changedOr (unless (isState a && finite f && finite r && lt (zeroOf binary32) r && finite increment) Argument) a (withIncrement a increment)
 
 abbrev pub setIncrementOf : PhaseAccumulator → Cycles → Changed
 setIncrementOf a x = changedOr (unless (isState a && finite (x .0)) Argument) a (withIncrement a (x .0))
@@ -80,4 +80,4 @@ setPhaseOf a x = changedOr (unless (isState a && finite (x .0)) Argument) a (wit
 
 -- the phase is set to 0; the increment stays
 abbrev pub resetOf : PhaseAccumulator → Changed
-resetOf a = changedOr (unless (isState a) Argument) a (withPhase a (lit0 binary32))
+resetOf a = changedOr (unless (isState a) Argument) a (withPhase a (zeroOf binary32))

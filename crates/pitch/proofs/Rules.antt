@@ -12,10 +12,10 @@ use lib.Ieee.Fits.{and-i, and-l, and-r, fits-widens}
 use lib.Ieee.Bits.{ofBits-fits}
 use lib.Ieee.Positive.{num, den}
 use lib.Ieee.Scale.{finite}
-use Rattle.floats.specs.Range.{nought}
-use Rattle.floats.specs.Double.{naught}
+use Rattle.floats.specs.Range.{plusZero}
+use Rattle.floats.specs.Double.{zero64}
 use Rattle.floats.proofs.Order.{lt-le}
-use Rattle.floats.proofs.Literals.{lit0-is}
+use Rattle.floats.proofs.Literals.{zeroOf-is}
 use Rattle.floats.proofs.Bounded.{Size, size-of-range, size-finite}
 use Rattle.pitch.specs.Patterns.{patterns}
 use Rattle.pitch.specs.Pitch.{frequencyOf}
@@ -98,9 +98,9 @@ module _ (note : ℕ) (h : note < 128) where
   pub frequency-sized : Size (highestPitch binary64) (frequencyOf note)
   frequency-sized =
       size-of-range (highestPitch binary64) (frequencyOf note) highest-finite
-      (and-i (le nought (frequencyOf note)) (le (frequencyOf note) (highestPitch binary64))
-      (rw lit0-is at (lt-le naught (frequencyOf note) (and-l (lt naught (frequencyOf note)) (le (frequencyOf note) (highestPitch binary64)) frequency-in)))
-      (and-r (lt naught (frequencyOf note)) (le (frequencyOf note) (highestPitch binary64)) frequency-in))
+      (and-i (le plusZero (frequencyOf note)) (le (frequencyOf note) (highestPitch binary64))
+      (rw zeroOf-is at (lt-le zero64 (frequencyOf note) (and-l (lt zero64 (frequencyOf note)) (le (frequencyOf note) (highestPitch binary64)) frequency-in)))
+      (and-r (lt zero64 (frequencyOf note)) (le (frequencyOf note) (highestPitch binary64)) frequency-in))
 
   pub frequency-finite : T (finite (frequencyOf note))
   frequency-finite = size-finite (highestPitch binary64) (frequencyOf note) frequency-sized
@@ -116,18 +116,18 @@ concert-pitch = refl
 
 -- ---- for every number, a note or not
 -- x is above 0: x is no NaN
-above-no-nan : (x : Float) → T (lt naught x) → T (not (isNan x))
+above-no-nan : (x : Float) → T (lt zero64 x) → T (not (isNan x))
 unfolding ofBits lt isNan
 above-no-nan nan h = h
 above-no-nan (inf s) h = tt
 above-no-nan (fin s m e) h = tt
 
-naught-no-nan : T (not (isNan naught))
+zero-no-nan : T (not (isNan zero64))
 unfolding ofBits isNan
-naught-no-nan = tt
+zero-no-nan = tt
 
 -- above note 127 the pitch is +0
-pub frequency-past : (note : ℕ) → 128 ≤ note → frequencyOf note ≡ naught
+pub frequency-past : (note : ℕ) → 128 ≤ note → frequencyOf note ≡ zero64
 unfolding frequencyOf ofBits
 frequency-past note h = ap (ofBits binary32) (List·getD-eq-default patterns 0 (rw count h))
 
@@ -141,8 +141,8 @@ pub frequency-no-nan : (note : ℕ) → T (not (isNan (frequencyOf note)))
 frequency-no-nan note = go (ltb note 128) refl
   where
     go : (t : Bool) → ltb note 128 ≡ t → T (not (isNan (frequencyOf note)))
-    go true e = above-no-nan (frequencyOf note) (and-l (lt naught (frequencyOf note)) (le (frequencyOf note) (highestPitch binary64)) (frequency-in note (ltb-true note 128 e)))
-    go false e = rw (frequency-past note (ltb-false note 128 e)) naught-no-nan
+    go true e = above-no-nan (frequencyOf note) (and-l (lt zero64 (frequencyOf note)) (le (frequencyOf note) (highestPitch binary64)) (frequency-in note (ltb-true note 128 e)))
+    go false e = rw (frequency-past note (ltb-false note 128 e)) zero-no-nan
 
 -- the cast of a pitch to an f64 loses nothing
 pub frequency-widens : (note : ℕ) → T (fits binary64 (frequencyOf note) && not (isNan (frequencyOf note)))

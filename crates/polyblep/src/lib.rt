@@ -2,7 +2,7 @@
 // naive waveform, and four corrected waveforms. The calls of 01 judge their arguments; the functions under them take
 // any number, and a waveform's inner loop uses these. Left out: the simd lanes.
 ghost use mathlib.Core.Path.{_≡_};
-ghost use Rattle.polyblep.specs.Polyblep.{sideOf, blepOf, blampOf, fractOf, stepOf, climbOf, riseOf, fallOf, rampOf, sawOf, squareOf, pulseOf, triangleOf};
+ghost use Rattle.polyblep.specs.Polyblep.{sideOf, blepOf, blampOf, fractOf, naivePulseOf, naiveSawOf, riseOf, fallOf, naiveTriangleOf, sawOf, squareOf, pulseOf, triangleOf};
 ghost use Rattle.polyblep.specs.Calls.{polyBlepOf, polyBlampOf, polyblepSawOf, polyblepSquareOf, polyblepPulseOf, polyblampTriangleOf};
 use answers::Refusal;
 use answers::Value;
@@ -107,7 +107,7 @@ pub fn blamp(t: f64, dt: f64) -> f64
 pub fn saw(phase: f64, dt: f64) -> f64
     ensures { λ r. ⌜ r ≡ sawOf phase dt ⌝ }
 {
-    climb(phase) - blep(phase, dt)
+    naive_saw(phase) - blep(phase, dt)
 }
 
 pub fn square(phase: f64, dt: f64) -> f64
@@ -115,7 +115,7 @@ pub fn square(phase: f64, dt: f64) -> f64
 {
     let rise = blep(phase, dt);
     let fall = blep(fract(phase + 0.5), dt);
-    step(phase, 0.5) + rise - fall
+    naive_pulse(phase, 0.5) + rise - fall
 }
 
 pub fn pulse(phase: f64, dt: f64, duty: f64) -> f64
@@ -123,7 +123,7 @@ pub fn pulse(phase: f64, dt: f64, duty: f64) -> f64
 {
     let rise = blep(phase, dt);
     let fall = blep(fract(phase - duty + 1.0), dt);
-    step(phase, duty) + rise - fall
+    naive_pulse(phase, duty) + rise - fall
 }
 
 pub fn triangle(phase: f64, dt: f64) -> f64
@@ -131,7 +131,7 @@ pub fn triangle(phase: f64, dt: f64) -> f64
 {
     let low = blamp(phase, dt);
     let high = blamp(fract(phase + 0.5), dt);
-    ramp(phase) + 8.0 * low - 8.0 * high
+    naive_triangle(phase) + 8.0 * low - 8.0 * high
 }
 
 // The side of the step at phase 0, which is also the step at phase 1, with the distance from it in samples.
@@ -148,8 +148,8 @@ fn side_of(t: f64, dt: f64) -> Side
 }
 
 // 1 before the edge, -1 from the edge on.
-pub fn step(phase: f64, edge: f64) -> f64
-    ensures { λ r. ⌜ r ≡ stepOf phase edge ⌝ }
+pub fn naive_pulse(phase: f64, edge: f64) -> f64
+    ensures { λ r. ⌜ r ≡ naivePulseOf phase edge ⌝ }
 {
     if phase < edge {
         return HIGH;
@@ -158,8 +158,8 @@ pub fn step(phase: f64, edge: f64) -> f64
 }
 
 // The naive triangle: from -1 at phase 0 up to 1 at phase 0.5, and down to -1 at phase 1.
-pub fn ramp(phase: f64) -> f64
-    ensures { λ r. ⌜ r ≡ rampOf phase ⌝ }
+pub fn naive_triangle(phase: f64) -> f64
+    ensures { λ r. ⌜ r ≡ naiveTriangleOf phase ⌝ }
 {
     if phase < 0.5 {
         return rise(phase);
@@ -168,8 +168,8 @@ pub fn ramp(phase: f64) -> f64
 }
 
 // The naive sawtooth: from -1 at phase 0 up to 1 at phase 1.
-pub fn climb(phase: f64) -> f64
-    ensures { λ r. ⌜ r ≡ climbOf phase ⌝ }
+pub fn naive_saw(phase: f64) -> f64
+    ensures { λ r. ⌜ r ≡ naiveSawOf phase ⌝ }
 {
     2.0 * phase - 1.0
 }

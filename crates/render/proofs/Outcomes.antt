@@ -13,7 +13,7 @@ use Rattle.answers.specs.declared.Answer.the-variants.{Done, Refused}
 use Rattle.answers.specs.declared.Refusal.{Refusal}
 use Rattle.answers.specs.declared.Refusal.the-variants.{GivenState}
 use Rattle.answers.proofs.Order.{first-append, leads-first, done-none, refused-leads, Decided, decided}
-use Rattle.score.specs.Below.{partsAt, Sorted, Cut}
+use Rattle.score.specs.Below.{isCountBelow, Sorted, Cut}
 use Rattle.score.proofs.Codec.{both}
 use Rattle.score.proofs.Cuts.{parts-cut, parts-count}
 use Rattle.state.specs.declared.Settings.{Settings}
@@ -27,7 +27,7 @@ use Rattle.spans.specs.Walk.{placeOf, Played}
 use Rattle.spans.proofs.Agrees.{kept, samples-agree}
 use Rattle.sections.specs.Sections.{playOnOf}
 use Rattle.sections.proofs.Agrees.{made}
-use Rattle.judging.specs.Judging.{refusalsOf, isRoom, isStretch}
+use Rattle.judging.specs.Judging.{refusalsOf, sizesFit, partFits}
 use Rattle.judging.proofs.Refusals.{all-passed, passed-sorted, roomy}
 use Rattle.render.specs.declared.Rendered.{Rendered}
 use Rattle.render.specs.Calls.{says, madeOf, renderOf, PartOutcome, leavesPart, isGiven, continueRefusals, madePart, keptPart, continueOf}
@@ -37,7 +37,7 @@ module _ (g : Settings) (s : List ℕ) (out : List Float) (shelf : List ℕ) whe
   n = length out
 
   abbrev refusals : List Refusal
-  refusals = refusalsOf g (isRoom n (length shelf)) s
+  refusals = refusalsOf g (sizesFit n (length shelf)) s
 
   pub render-refused : (why : Refusal) → firstOf refusals Refused (Done n) ≡ Refused why → leaves (says (Refused why) (freshOf 0)) out shelf ≡ renderOf g s out shelf
   unfolding renderOf
@@ -58,7 +58,7 @@ module _ (g : Settings) (s : List ℕ) (out : List Float) (shelf : List ℕ) whe
   render-done m e p ys ws x =
       let none : refusals ≡ [] = done-none refusals n m e in
       let k : Done n ≡ Done m = rw none at e in
-      let d = made g s (passed-sorted g (isRoom n (length shelf)) s none) 0 0 (freshOf 0) at-zero out shelf (roomy n (length shelf) (all-passed g (isRoom n (length shelf)) s none .sized) .fits) in
+      let d = made g s (passed-sorted g (sizesFit n (length shelf)) s none) 0 0 (freshOf 0) at-zero out shelf (roomy n (length shelf) (all-passed g (sizesFit n (length shelf)) s none .sized) .fits) in
       let v : p .state ≡ stateFrom g s 0 (freshOf 0) n = ap (λ (o : Outcome Place). o .result .state) x ∙ d .state-is ∙ ap (stateFrom g s 0 (freshOf 0)) (sub-zero n) in
       let y : ys ≡ samplesFrom g s 0 (freshOf 0) n = ap (λ (o : Outcome Place). o .heard) x ∙ d .heard-is ∙ ap (samplesFrom g s 0 (freshOf 0)) (sub-zero n) in
       let w : ws ≡ shelfOf (entriesFrom g s 0 (freshOf 0) (entriesFor n)) = ap (λ (o : Outcome Place). o .stored) x ∙ d .stored-is ∙ ap (λ (l : ℕ). shelfOf (entriesFrom g s 0 (freshOf 0) l)) (sub-zero (entriesFor n)) in
@@ -66,7 +66,7 @@ module _ (g : Settings) (s : List ℕ) (out : List Float) (shelf : List ℕ) whe
 
 module _ (g : Settings) (s : List ℕ) (v : State) (p : ℕ) (part : List Float) where
   abbrev room : Bool
-  room = isStretch p (length part)
+  room = partFits p (length part)
 
   -- the outcome where 6, 7 and the score's faults are not given
   abbrev rest : PartOutcome
@@ -89,15 +89,15 @@ module _ (g : Settings) (s : List ℕ) (v : State) (p : ℕ) (part : List Float)
 
   -- in a sorted score two records tell whether as many acted as lie below p
   module _ (o : Sorted s) where
-    given : isState v && partsAt s (v .acted) p ≡ isGiven s p v
+    given : isState v && isCountBelow s (v .acted) p ≡ isGiven s p v
     given = rw (parts-count s o (v .acted) p) refl
 
-    pub goes-refused : isState v && partsAt s (v .acted) p ≡ false → keptPart v part GivenState ≡ rest
+    pub goes-refused : isState v && isCountBelow s (v .acted) p ≡ false → keptPart v part GivenState ≡ rest
     goes-refused e = rw (← given, e) refl
 
-    pub goes-on : isState v && partsAt s (v .acted) p ≡ true → (r : Place) (ys : List Float) → Played g s p (placeOf v (v .acted)) part ys r → leavesPart (says (Done (length part)) (r .state)) ys ≡ rest
+    pub goes-on : isState v && isCountBelow s (v .acted) p ≡ true → (r : Place) (ys : List Float) → Played g s p (placeOf v (v .acted)) part ys r → leavesPart (says (Done (length part)) (r .state)) ys ≡ rest
     goes-on e r ys x =
-        let c : Cut s p (v .acted) = parts-cut s o (v .acted) p (both (isState v) (partsAt s (v .acted) p) e .1) in
+        let c : Cut s p (v .acted) = parts-cut s o (v .acted) p (both (isState v) (isCountBelow s (v .acted) p) e .1) in
         let w : r .state ≡ stateFrom g s p v (length part) = ap (λ (q : Place). q .state) (x .place) ∙ kept g s o p (v .acted) v c (length part) .state-is in
         let y : ys ≡ samplesFrom g s p v (length part) = x .samples ∙ samples-agree g s o p (v .acted) v c (length part) in
         rw (← given, e, w, y) refl

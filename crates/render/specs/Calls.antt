@@ -26,7 +26,7 @@ use Rattle.state.specs.declared.State.{State}
 use Rattle.state.specs.State.{freshOf}
 use Rattle.state.specs.Limits.{isState}
 use Rattle.state.specs.Heart.{stateFrom, samplesFrom, entriesFrom}
-use Rattle.judging.specs.Judging.{refusalsOf, isRoom, isStretch}
+use Rattle.judging.specs.Judging.{refusalsOf, sizesFit, partFits}
 use Rattle.render.specs.declared.Rendered.{Rendered}
 
 abbrev pub says : Answer → State → Rendered
@@ -40,7 +40,7 @@ madeOf g s n = leaves (says (Done n) (stateFrom g s 0 (freshOf 0) n)) (samplesFr
 -- a refusal leaves output and shelf as they came
 unfoldable pub renderOf : Settings → List ℕ → List Float → List ℕ → Outcome Rendered
 renderOf g s out shelf =
-    firstOf (refusalsOf g (isRoom (length out) (length shelf)) s)
+    firstOf (refusalsOf g (sizesFit (length out) (length shelf)) s)
     (λ (why : Refusal). leaves (says (Refused why) (freshOf 0)) out shelf)
     (madeOf g s (length out))
 
@@ -58,7 +58,7 @@ isGiven s p v = isState v && eqb (v .acted) (countBelow s p)
 
 -- 6, 7 and the score's faults, then 10 where the given state is refused
 abbrev pub continueRefusals : Settings → List ℕ → Bool → ℕ → ℕ → List Refusal
-continueRefusals g s given p n = refusalsOf g (isStretch p n) s ++ unless given GivenState
+continueRefusals g s given p n = refusalsOf g (partFits p n) s ++ unless given GivenState
 
 -- n samples, and the state after them
 abbrev pub madePart : Settings → List ℕ → State → ℕ → ℕ → PartOutcome

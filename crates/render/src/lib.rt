@@ -26,7 +26,7 @@ pub struct Rendered {
 pub fn render(settings: Settings, score: &[u8], out: &mut [f64], shelf: &mut [u64]) -> Rendered
     ensures { λ r. ⌜ leaves r (now (out .exit)) (now (shelf .exit)) ≡ renderOf settings (now (score .entry)) (now (out .entry)) (now (shelf .entry)) ⌝ }
 {
-    let room = judging::is_room(out.len(), shelf.len());
+    let room = judging::sizes_fit(out.len(), shelf.len());
     let answer = judging::judged(settings, room, score, Answer::Done(out.len()));
     match answer {
         Answer::Refused(why) => Rendered {
@@ -58,20 +58,20 @@ pub fn continue_render(
 ) -> Rendered
     ensures { λ r. ⌜ leavesPart r (now (part .exit)) ≡ continueOf settings (now (score .entry)) state position (now (part .entry)) ⌝ }
 {
-    let stretch = judging::is_stretch(position, part.len());
+    let stretch = judging::part_fits(position, part.len());
     let answer = judging::judged(settings, stretch, score, Answer::Done(part.len()));
     match answer {
         Answer::Refused(why) => Rendered {
             answer: Answer::Refused(why),
             state,
         },
-        Answer::Done(_) => go_on(settings, score, state, position, part),
+        Answer::Done(_) => continue_from(settings, score, state, position, part),
     }
 }
 
 // From the given state, or refusal 10. In a sorted score two records tell whether as many acted as lie below
 // `position`.
-fn go_on(
+fn continue_from(
     settings: Settings,
     score: &[u8],
     state: State,
@@ -83,7 +83,7 @@ fn go_on(
 {
     let acted = state.acted;
     let samples = part.len();
-    if !(state::is_state(state) & score::parts_at(score, acted, position)) {
+    if !(state::is_state(state) & score::is_count_below(score, acted, position)) {
         return Rendered {
             answer: Answer::Refused(Refusal::GivenState),
             state,

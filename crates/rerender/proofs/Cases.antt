@@ -20,12 +20,12 @@ use Rattle.score.specs.declared.Difference.the-variants.{Equal, At}
 use Rattle.score.specs.declared.Verdict.the-variants.{Accepted}
 use Rattle.score.specs.Record.{countOf}
 use Rattle.score.specs.Score.{verdictOf}
-use Rattle.score.specs.Below.{partsAt, Sorted, Cut}
+use Rattle.score.specs.Below.{isCountBelow, Sorted, Cut}
 use Rattle.score.specs.Apart.{differenceOf}
 use Rattle.score.proofs.Parted.{clash}
 use Rattle.score.proofs.Codec.{both}
 use Rattle.score.proofs.Cuts.{parts-cut, parts-count}
-use Rattle.shelf.specs.Shelf.{mark, entryWords, entriesFor, wordsFor, isEntry, shelfOf}
+use Rattle.shelf.specs.Shelf.{sectionSize, entryWords, entriesFor, wordsFor, isEntry, shelfOf}
 use Rattle.shelf.proofs.Count.{start-there}
 use Rattle.state.specs.declared.Settings.{Settings}
 use Rattle.state.specs.Settings.{settingsOk}
@@ -34,12 +34,12 @@ use Rattle.spans.specs.declared.Place.{Place}
 use Rattle.spans.specs.Walk.{placeOf}
 use Rattle.sections.specs.Sections.{playOnOf}
 use Rattle.sections.proofs.Agrees.{made}
-use Rattle.judging.specs.Judging.{refusalsOf, newRefusalsOf, isRoom}
+use Rattle.judging.specs.Judging.{refusalsOf, newRefusalsOf, sizesFit}
 use Rattle.judging.proofs.Refusals.{all-passed, new-passed, Roomy, roomy}
 use Rattle.rerender.specs.declared.Plan.{Plan}
 use Rattle.rerender.specs.declared.Plan.the-variants.{Nothing, From}
 use Rattle.rerender.specs.Rerender.{planFor, planOf, entryAt, startOf, isStart, between, madeFrom, runOf, startRefusals, rerenderRefusals, keptOf, rerenderOf, countFor}
-use Rattle.rerender.specs.Inner.{fromOf}
+use Rattle.rerender.specs.Inner.{rerenderFrom}
 
 -- ---- the plan
 module _ (old new : List ℕ) (n : ℕ) where
@@ -51,7 +51,7 @@ module _ (old new : List ℕ) (n : ℕ) where
   unfolding planFor
   plan-late p e h = rw (e, le-ltb p n h) refl
 
-  pub plan-from : (p : ℕ) → differenceOf old new ≡ At p → p < n → From (p / mark) ≡ planOf old new n
+  pub plan-from : (p : ℕ) → differenceOf old new ≡ At p → p < n → From (p / sectionSize) ≡ planOf old new n
   unfolding planFor
   plan-from p e h = rw (e, lt-ltb p n h) refl
 
@@ -60,7 +60,7 @@ pub record Planned (old new : List ℕ) (n m : ℕ) : Type 0 where
   pub change : ℕ
   pub differs : differenceOf old new ≡ At change
   pub heard : change < n
-  pub mark-is : m ≡ change / mark
+  pub section-is : m ≡ change / sectionSize
 
 from-inj : {n m : ℕ} → From n ≡ From m → n ≡ m
 from-inj e = cc
@@ -73,16 +73,16 @@ plan-says old new n m h = go (differenceOf old new) refl h
     go Equal e h = absurd (clash (cc))
     go (At p) e h = at (ltb p n) refl h
       where
-        at : (t : Bool) → ltb p n ≡ t → cond t (From (p / mark)) Nothing ≡ From m → Planned old new n m
-        at true q h = record { change = p; differs = e; heard = ltb-true p n q; mark-is = sym (from-inj h) }
+        at : (t : Bool) → ltb p n ≡ t → cond t (From (p / sectionSize)) Nothing ≡ From m → Planned old new n m
+        at true q h = record { change = p; differs = e; heard = ltb-true p n q; section-is = sym (from-inj h) }
         at false q h = absurd (clash (cc))
 
 -- section m starts at or before that position, and section m + 1 after it
-pub plan-last : (old new : List ℕ) (n m : ℕ) (p : Planned old new n m) → (m * mark ≤ p .change) × (p .change < suc m * mark)
-plan-last old new n m p = rw (p .mark-is) (omega arith, omega arith)
+pub plan-last : (old new : List ℕ) (n m : ℕ) (p : Planned old new n m) → (m * sectionSize ≤ p .change) × (p .change < suc m * sectionSize)
+plan-last old new n m p = rw (p .section-is) (omega arith, omega arith)
 
 pub plan-there : (old new : List ℕ) (n m : ℕ) → planOf old new n ≡ From m → m < entriesFor n
-plan-there old new n m h = let p : Planned old new n m = plan-says old new n m h in rw (p .mark-is) (start-there n (p .change) (p .heard))
+plan-there old new n m h = let p : Planned old new n m = plan-says old new n m h in rw (p .section-is) (start-there n (p .change) (p .heard))
 
 -- ---- the run
 -- the stop is the end of the list: nothing is kept after it
@@ -92,27 +92,27 @@ none-after a b xs ys h = rw (drop-of-length-le xs {i = b} h, append-nil ys) refl
 module _ (g : Settings) (old new : List ℕ) (m : ℕ) (out : List Float) (shelf : List ℕ) where
   -- in a sorted score two records tell whether as many acted as lie below the section's first sample
   abbrev starts : Bool
-  starts = isEntry (entryAt shelf m) && partsAt new (startOf shelf m .acted) (m * mark)
+  starts = isEntry (entryAt shelf m) && isCountBelow new (startOf shelf m .acted) (m * sectionSize)
 
   start-is : Sorted new → isStart new m shelf ≡ starts
-  start-is o = rw (parts-count new o (startOf shelf m .acted) (m * mark)) refl
+  start-is o = rw (parts-count new o (startOf shelf m .acted) (m * sectionSize)) refl
 
-  pub from-refused : Sorted new → starts ≡ false → leaves (Refused StartEntry) out shelf ≡ fromOf g old new m out shelf
-  unfolding fromOf
+  pub from-refused : Sorted new → starts ≡ false → leaves (Refused StartEntry) out shelf ≡ rerenderFrom g old new m out shelf
+  unfolding rerenderFrom
   from-refused o e = rw (start-is o ∙ e) refl
 
   -- where the shelf fits, no word lies beyond the stop
   pub made-is : length shelf ≡ wordsFor (length out) → madeFrom g old new m out shelf
-      ≡ leaves (Done (length out - m * mark)) (take (m * mark) out ++ samplesFrom g new (m * mark) (startOf shelf m) (length out - m * mark))
+      ≡ leaves (Done (length out - m * sectionSize)) (take (m * sectionSize) out ++ samplesFrom g new (m * sectionSize) (startOf shelf m) (length out - m * sectionSize))
       (take (m * entryWords) shelf ++ shelfOf (entriesFrom g new m (startOf shelf m) (entriesFor (length out) - m)))
-  made-is f = rw (none-after (m * mark) (length out) out _ (omega arith), none-after (m * entryWords) (entriesFor (length out) * entryWords) shelf _ (omega arith)) refl
+  made-is f = rw (none-after (m * sectionSize) (length out) out _ (omega arith), none-after (m * entryWords) (entriesFor (length out) * entryWords) shelf _ (omega arith)) refl
 
   pub from-made : Sorted new → length shelf ≡ wordsFor (length out) → starts ≡ true
       → (p : Place) (ys : List Float) (ws : List ℕ) → leaves p ys ws ≡ playOnOf g new m (placeOf (startOf shelf m) (startOf shelf m .acted)) out shelf
-      → leaves (Done (length out - m * mark)) ys ws ≡ fromOf g old new m out shelf
-  unfolding fromOf
+      → leaves (Done (length out - m * sectionSize)) ys ws ≡ rerenderFrom g old new m out shelf
+  unfolding rerenderFrom
   from-made o f e p ys ws x =
-      let cut : Cut new (m * mark) (startOf shelf m .acted) = parts-cut new o _ _ (both (isEntry (entryAt shelf m)) _ e .1) in
+      let cut : Cut new (m * sectionSize) (startOf shelf m .acted) = parts-cut new o _ _ (both (isEntry (entryAt shelf m)) _ e .1) in
       let d = made g new o m (startOf shelf m .acted) (startOf shelf m) cut out shelf f in
       rw (start-is o ∙ e, made-is f, ← d .heard-is, ← d .stored-is, ← x) refl
 
@@ -120,13 +120,13 @@ module _ (g : Settings) (old new : List ℕ) (m : ℕ) (out : List Float) (shelf
 -- what is refused before the plan is made, and what the code answers then
 module _ (g : Settings) (old new : List ℕ) (n words : ℕ) where
   abbrev pub checks : List Refusal
-  checks = refusalsOf g (isRoom n words) old ++ newRefusalsOf new
+  checks = refusalsOf g (sizesFit n words) old ++ newRefusalsOf new
 
   abbrev pub answered : Answer
-  answered = firstOf (refusalsOf g (isRoom n words) old) Refused (firstOf (newRefusalsOf new) Refused (Done 0))
+  answered = firstOf (refusalsOf g (sizesFit n words) old) Refused (firstOf (newRefusalsOf new) Refused (Done 0))
 
   answered-is : firstOf checks Refused (Done 0) ≡ answered
-  answered-is = first-append (refusalsOf g (isRoom n words) old) (newRefusalsOf new) Refused (Done 0)
+  answered-is = first-append (refusalsOf g (sizesFit n words) old) (newRefusalsOf new) Refused (Done 0)
 
   pub answer-none : (k : ℕ) → answered ≡ Done k → checks ≡ []
   answer-none k e = done-none checks 0 k (answered-is ∙ e)
@@ -143,8 +143,8 @@ module _ (g : Settings) (old new : List ℕ) (n words : ℕ) where
 
   pub all-checked : checks ≡ [] → Checked
   all-checked e =
-      let b = none-both (refusalsOf g (isRoom n words) old) (newRefusalsOf new) e in
-      let p = all-passed g (isRoom n words) old (b .0) in
+      let b = none-both (refusalsOf g (sizesFit n words) old) (newRefusalsOf new) e in
+      let p = all-passed g (sizesFit n words) old (b .0) in
       record { settings = p .settings; room = roomy n words (p .sized); old-accepted = p .accepted; new-accepted = new-passed new (b .1) }
 
   pub answer-checked : (k : ℕ) → answered ≡ Done k → Checked
@@ -178,9 +178,9 @@ module _ (g : Settings) (old new : List ℕ) (out : List Float) (shelf : List �
     pub nothing-run : plan ≡ Nothing → leaves (Done 0) out shelf ≡ rerenderOf g old new out shelf
     nothing-run q = sym (goes ∙ rw q refl)
 
-    pub mark-run : (m : ℕ) → plan ≡ From m → fromOf g old new m out shelf ≡ rerenderOf g old new out shelf
-    unfolding fromOf
-    mark-run m q = sym (goes ∙ rw q refl)
+    pub section-run : (m : ℕ) → plan ≡ From m → rerenderFrom g old new m out shelf ≡ rerenderOf g old new out shelf
+    unfolding rerenderFrom
+    section-run m q = sym (goes ∙ rw q refl)
 
   -- the list of refusals decides the answer, and the answer decides what is left
   pub rerender-decided : Decided (λ (o : Outcome Answer). o .result) (rerenderRefusals g old new (length out) shelf) (keptOf out shelf) (runOf g old new plan out shelf) (countFor g old new plan (length out)) (rerenderOf g old new out shelf)

@@ -11,5 +11,5 @@ use Rattle.state.specs.declared.Settings.{Settings}
 use Rattle.rerender.specs.Rerender.{isStart, madeFrom, keptOf}
 
 -- the outcome of the call from section m on, where 6, 7 and both scores' faults are not given
-unfoldable pub fromOf : Settings → List ℕ → List ℕ → ℕ → List Float → List ℕ → Outcome Answer
-fromOf g old new m out shelf = firstOf (unless (isStart new m shelf) StartEntry) (keptOf out shelf) (madeFrom g old new m out shelf)
+unfoldable pub rerenderFrom : Settings → List ℕ → List ℕ → ℕ → List Float → List ℕ → Outcome Answer
+rerenderFrom g old new m out shelf = firstOf (unless (isStart new m shelf) StartEntry) (keptOf out shelf) (madeFrom g old new m out shelf)

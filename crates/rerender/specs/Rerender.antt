@@ -24,18 +24,18 @@ use Rattle.score.specs.declared.Difference.{Difference}
 use Rattle.score.specs.declared.Difference.the-variants.{Equal, At}
 use Rattle.score.specs.Below.{countBelow}
 use Rattle.score.specs.Apart.{differenceOf}
-use Rattle.shelf.specs.Shelf.{mark, entryWords, entriesFor, stateOf, isEntry, shelfOf}
+use Rattle.shelf.specs.Shelf.{sectionSize, entryWords, entriesFor, stateOf, isEntry, shelfOf}
 use Rattle.state.specs.declared.Settings.{Settings}
 use Rattle.state.specs.declared.State.{State}
 use Rattle.state.specs.Heart.{samplesFrom, entriesFrom}
-use Rattle.judging.specs.Judging.{refusalsOf, newRefusalsOf, isRoom}
+use Rattle.judging.specs.Judging.{refusalsOf, newRefusalsOf, sizesFit}
 use Rattle.rerender.specs.declared.Plan.{Plan}
 use Rattle.rerender.specs.declared.Plan.the-variants.{Nothing, From}
 
 -- ---- the plan: nothing, or from the start of section m on
 unfoldable pub planFor : Difference → ℕ → Plan
 planFor Equal n = Nothing
-planFor (At p) n = cond (ltb p n) (From (p / mark)) Nothing
+planFor (At p) n = cond (ltb p n) (From (p / sectionSize)) Nothing
 
 abbrev pub planOf : List ℕ → List ℕ → ℕ → Plan
 planOf old new n = planFor (differenceOf old new) n
@@ -50,7 +50,7 @@ startOf shelf m = stateOf (entryAt shelf m)
 
 -- entry m is a state, with as many records acted as the new score has below sample 4096 m
 abbrev pub isStart : List ℕ → ℕ → List ℕ → Bool
-isStart new m shelf = isEntry (entryAt shelf m) && eqb (startOf shelf m .acted) (countBelow new (m * mark))
+isStart new m shelf = isEntry (entryAt shelf m) && eqb (startOf shelf m .acted) (countBelow new (m * sectionSize))
 
 -- the position at which the run stops, in an output of n samples: the end, whatever the scores and the shelf are
 abbrev pub stopOf : Settings → List ℕ → List ℕ → ℕ → ℕ → ℕ
@@ -66,8 +66,8 @@ madeFrom g old new m out shelf =
     let stop = stopOf g old new m (length out) in
     let v = startOf shelf m in
     leaves
-    (Done (stop - m * mark))
-    (between (m * mark) stop out (samplesFrom g new (m * mark) v (stop - m * mark)))
+    (Done (stop - m * sectionSize))
+    (between (m * sectionSize) stop out (samplesFrom g new (m * sectionSize) v (stop - m * sectionSize)))
     (between (m * entryWords) (entriesFor stop * entryWords) shelf (shelfOf (entriesFrom g new m v (entriesFor stop - m))))
 
 -- ---- the call
@@ -83,7 +83,7 @@ startRefusals new (From m) shelf = unless (isStart new m shelf) StartEntry
 
 -- 6, 7, the old score's faults, the new score's faults, 8
 abbrev pub rerenderRefusals : Settings → List ℕ → List ℕ → ℕ → List ℕ → List Refusal
-rerenderRefusals g old new n shelf = refusalsOf g (isRoom n (length shelf)) old ++ newRefusalsOf new ++ startRefusals new (planOf old new n) shelf
+rerenderRefusals g old new n shelf = refusalsOf g (sizesFit n (length shelf)) old ++ newRefusalsOf new ++ startRefusals new (planOf old new n) shelf
 
 -- a refusal leaves output and shelf as they came
 abbrev pub keptOf : List Float → List ℕ → Refusal → Outcome Answer
@@ -95,4 +95,4 @@ rerenderOf g old new out shelf = firstOf (rerenderRefusals g old new (length out
 -- how many samples a plan makes in an output of n samples
 abbrev pub countFor : Settings → List ℕ → List ℕ → Plan → ℕ → ℕ
 countFor g old new Nothing n = 0
-countFor g old new (From m) n = stopOf g old new m n - m * mark
+countFor g old new (From m) n = stopOf g old new m n - m * sectionSize

@@ -9,12 +9,12 @@ ghost use Rattle.score.specs.Below.{Sorted};
 ghost use Rattle.shelf.specs.Shelf.{entriesFor, wordsFor};
 ghost use Rattle.sections.specs.Outcome.{leaves};
 ghost use Rattle.rerender.specs.Rerender.{planOf, rerenderOf};
-ghost use Rattle.rerender.specs.Inner.{fromOf};
+ghost use Rattle.rerender.specs.Inner.{rerenderFrom};
 use answers::Answer;
 use answers::Refusal;
 use score::Difference;
 use shelf::ENTRY_WORDS;
-use shelf::MARK;
+use shelf::SECTION_SIZE;
 use spans::Place;
 use state::Settings;
 
@@ -36,15 +36,15 @@ pub fn rerender(
 ) -> Answer
     ensures { λ r. ⌜ leaves r (now (out .exit)) (now (shelf .exit)) ≡ rerenderOf settings (now (old .entry)) (now (new .entry)) (now (out .entry)) (now (shelf .entry)) ⌝ }
 {
-    let room = judging::is_room(out.len(), shelf.len());
-    let checked = judging::judged(settings, room, old, judging::new_scored(new));
+    let room = judging::sizes_fit(out.len(), shelf.len());
+    let checked = judging::judged(settings, room, old, judging::judged_new(new));
     if let Answer::Refused(why) = checked {
         return Answer::Refused(why);
     }
     let plan = planned(old, new, out.len());
     match plan {
         Plan::Nothing => Answer::Done(0),
-        Plan::From(mark) => run_from(settings, old, new, mark, out, shelf),
+        Plan::From(section) => rerender_from(settings, old, new, section, out, shelf),
     }
 }
 
@@ -57,7 +57,7 @@ fn planned(old: &[u8], new: &[u8], samples: usize) -> Plan
         Difference::At(position) => {
             let p = position as usize;
             if p < samples {
-                return Plan::From(p / MARK);
+                return Plan::From(p / SECTION_SIZE);
             }
             Plan::Nothing
         }
@@ -65,29 +65,29 @@ fn planned(old: &[u8], new: &[u8], samples: usize) -> Plan
 }
 
 // From the state that the shelf keeps for the start of section `mark`, or refusal 8.
-fn run_from(
+fn rerender_from(
     settings: Settings,
     old: &[u8],
     new: &[u8],
-    mark: usize,
+    section: usize,
     out: &mut [f64],
     shelf: &mut [u64],
 ) -> Answer
     requires { ⌜ Sorted (now new) ⌝ }
     requires { ⌜ length (now shelf) ≡ wordsFor (length (now out)) ⌝ }
-    requires { ⌜ mark < entriesFor (length (now out)) ⌝ }
-    ensures { λ r. ⌜ leaves r (now (out .exit)) (now (shelf .exit)) ≡ fromOf settings (now (old .entry)) (now (new .entry)) mark (now (out .entry)) (now (shelf .entry)) ⌝ }
+    requires { ⌜ section < entriesFor (length (now out)) ⌝ }
+    ensures { λ r. ⌜ leaves r (now (out .exit)) (now (shelf .exit)) ≡ rerenderFrom settings (now (old .entry)) (now (new .entry)) section (now (out .entry)) (now (shelf .entry)) ⌝ }
 {
-    let word = mark * ENTRY_WORDS;
-    let start = mark * MARK;
+    let word = section * ENTRY_WORDS;
+    let start = section * SECTION_SIZE;
     let count = out.len() - start;
     let entry = shelf::decode(&shelf[word..word + ENTRY_WORDS]);
     let state = entry.state;
     let acted = state.acted;
-    if !(entry.holds & score::parts_at(new, acted, start as u64)) {
+    if !(entry.valid & score::is_count_below(new, acted, start as u64)) {
         return Answer::Refused(Refusal::StartEntry);
     }
     let next = acted as usize;
-    sections::play_on(settings, new, mark, Place { state, next }, out, shelf);
+    sections::play_on(settings, new, section, Place { state, next }, out, shelf);
     Answer::Done(count)
 }

@@ -12,8 +12,8 @@ use borrow.Author.Tests.{le-leb, leb-true, eqb-true, eqb-false}
 use Rattle.score.specs.declared.Kind.{Kind}
 use Rattle.score.specs.declared.Kind.the-variants.{On, Off, Reset}
 use Rattle.score.specs.declared.Record.{Record}
-use Rattle.score.specs.Record.{byteAt, positionAt, kindByte, kindOf, recordAt, decodeOf, encodeOf, mostFor, Valid, Bytes}
-use Rattle.score.specs.Score.{markRight, kindRight, fieldsRight, mostOf}
+use Rattle.score.specs.Record.{byteAt, positionAt, kindByte, kindOf, recordAt, decodeOf, encodeOf, fieldLimitOf, Valid, Bytes}
+use Rattle.score.specs.Score.{markRight, kindRight, fieldsRight, fieldLimit}
 use Rattle.score.proofs.UpTo.{upTo, stretch}
 
 -- ---- four bytes, low byte first
@@ -61,13 +61,13 @@ byte-of-kind b low high = go (eqb b 1) refl (eqb b 2) refl
     go false e false f = omega (arith, eqb-false b 1 e, eqb-false b 2 f)
 
 -- the largest note and velocity, by the byte of the kind and by the kind
-pub most-of-byte : (k : Kind) → mostOf (kindByte k) ≡ mostFor k
+pub most-of-byte : (k : Kind) → fieldLimit (kindByte k) ≡ fieldLimitOf k
 most-of-byte On = refl
 most-of-byte Off = refl
 most-of-byte Reset = refl
 
-pub most-of-kind : (b : ℕ) → 1 ≤ b → b ≤ 3 → mostOf b ≡ mostFor (kindOf b)
-most-of-kind b low high = ap mostOf (sym (byte-of-kind b low high)) ∙ most-of-byte (kindOf b)
+pub most-of-kind : (b : ℕ) → 1 ≤ b → b ≤ 3 → fieldLimit b ≡ fieldLimitOf (kindOf b)
+most-of-kind b low high = ap fieldLimit (sym (byte-of-kind b low high)) ∙ most-of-byte (kindOf b)
 
 -- ---- the tests as equations
 pub both : (a b : Bool) → a && b ≡ true → (a ≡ true) × (b ≡ true)
@@ -88,8 +88,8 @@ pub record Right (s : List ℕ) (i : ℕ) : Type 0 where
   pub mark-two : byteAt s i 1 ≡ 0x4E
   pub kind-low : 1 ≤ byteAt s i 6
   pub kind-high : byteAt s i 6 ≤ 3
-  pub note-right : byteAt s i 7 ≤ mostOf (byteAt s i 6)
-  pub velocity-right : byteAt s i 8 ≤ mostOf (byteAt s i 6)
+  pub note-right : byteAt s i 7 ≤ fieldLimit (byteAt s i 6)
+  pub velocity-right : byteAt s i 8 ≤ fieldLimit (byteAt s i 6)
   pub last : byteAt s i 9 ≡ 0
 
 pub tests-right : (s : List ℕ) (i : ℕ) → markRight s i ≡ true → kindRight s i ≡ true → fieldsRight s i ≡ true → Right s i
@@ -97,8 +97,8 @@ unfolding markRight kindRight fieldsRight
 tests-right s i m k f =
     let m2 = both (eqb (byteAt s i 0) 0x56) (eqb (byteAt s i 1) 0x4E) m in
     let k2 = both (leb 1 (byteAt s i 6)) (leb (byteAt s i 6) 3) k in
-    let note = leb (byteAt s i 7) (mostOf (byteAt s i 6)) in
-    let velocity = leb (byteAt s i 8) (mostOf (byteAt s i 6)) in
+    let note = leb (byteAt s i 7) (fieldLimit (byteAt s i 6)) in
+    let velocity = leb (byteAt s i 8) (fieldLimit (byteAt s i 6)) in
     let f2 = both (note && velocity) (eqb (byteAt s i 9) 0) f in
     let f3 = both note velocity (f2 .0) in
     record {
@@ -162,7 +162,7 @@ module _ (s : List ℕ) (i : ℕ) (bytes : Bytes s) (r : Right s i) where
   -- the record that is read is valid
   pub valid-record : Valid (recordAt s i)
   valid-record =
-      let most : mostOf (byteAt s i 6) ≡ mostFor (kindOf (byteAt s i 6)) = most-of-kind (byteAt s i 6) (r .kind-low) (r .kind-high) in
+      let most : fieldLimit (byteAt s i 6) ≡ fieldLimitOf (kindOf (byteAt s i 6)) = most-of-kind (byteAt s i 6) (r .kind-low) (r .kind-high) in
       record {
         position-fits = position-bound s i bytes;
         note-most = rw (← most) (r .note-right);

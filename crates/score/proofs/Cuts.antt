@@ -13,7 +13,7 @@ use borrow.Author.Tests.{lt-ltb, le-ltb, ltb-true, ltb-false, le-leb, leb-true, 
 use Rattle.score.specs.declared.Verdict.the-variants.{Accepted}
 use Rattle.score.specs.Record.{countOf, positionAt}
 use Rattle.score.specs.Score.{inOrder, verdictOf}
-use Rattle.score.specs.Below.{below, countBelow, lastBelow, partsAt, Sorted, Cut}
+use Rattle.score.specs.Below.{below, countBelow, lastBelow, isCountBelow, Sorted, Cut}
 use Rattle.score.proofs.Codec.{both, either, or-right}
 use Rattle.score.proofs.Verdicts.{accepted-all}
 
@@ -110,8 +110,8 @@ unfolding lastBelow
 last-before s k p h = let left : k ≡ suc (k - 1) = omega arith in ap (λ (j : ℕ). lastBelow s j p) left
 
 module _ (s : List ℕ) (o : Sorted s) (k p : ℕ) where
-  pub parts-cut : partsAt s k p ≡ true → Cut s p k
-  unfolding partsAt
+  pub parts-cut : isCountBelow s k p ≡ true → Cut s p k
+  unfolding isCountBelow
   parts-cut h =
       let a = both (leb k (countOf s) && lastBelow s k p) (leb (countOf s) k || leb p (positionAt s k)) h in
       let b = both (leb k (countOf s)) (lastBelow s k p) (a .0) in
@@ -127,8 +127,8 @@ module _ (s : List ℕ) (o : Sorted s) (k p : ℕ) where
             (either (leb (countOf s) k) (leb p (positionAt s k)) (a .1));
       }
 
-  cut-parts : Cut s p k → partsAt s k p ≡ true
-  unfolding partsAt lastBelow
+  cut-parts : Cut s p k → isCountBelow s k p ≡ true
+  unfolding isCountBelow lastBelow
   cut-parts c =
       let low : lastBelow s k p ≡ true = ⊎-elim (λ h. last-before s k p h ∙ lt-ltb _ _ (c .lows (k - 1) (omega arith))) (λ h. let e : k ≡ 0 = omega arith in rw e refl) (lt-or-ge 0 k) in
       ⊎-elim
@@ -137,10 +137,10 @@ module _ (s : List ℕ) (o : Sorted s) (k p : ℕ) where
       (lt-or-ge k (countOf s))
 
   -- the test holds exactly of the number of records below p
-  pub parts-count : partsAt s k p ≡ eqb k (countBelow s p)
-  parts-count = go (partsAt s k p) refl (eqb k (countBelow s p)) refl
+  pub parts-count : isCountBelow s k p ≡ eqb k (countBelow s p)
+  parts-count = go (isCountBelow s k p) refl (eqb k (countBelow s p)) refl
     where
-      go : (a : Bool) → partsAt s k p ≡ a → (b : Bool) → eqb k (countBelow s p) ≡ b → a ≡ b
+      go : (a : Bool) → isCountBelow s k p ≡ a → (b : Bool) → eqb k (countBelow s p) ≡ b → a ≡ b
       go true e b f = sym (eq-eqb k (countBelow s p) (cut-count s o p k (parts-cut e))) ∙ f
       go false e true f = sym e ∙ cut-parts (rw (eqb-true k (countBelow s p) f) (count-cut s o p))
       go false e false f = refl

@@ -22,6 +22,6 @@ pub mod Words
 -- one turn of each loop
 pub mod Turns
 -- 01's example, and its edges
-pub mod Marks
+pub mod Examples
 -- two outcomes of a public function are equal
 pub mod Unique

@@ -9,7 +9,7 @@ use Rattle.score.specs.declared.Verdict.{Verdict}
 use Rattle.score.specs.declared.Difference.{Difference}
 use Rattle.score.specs.Record.{countOf, positionAt, recordAt, encodeOf}
 use Rattle.score.specs.Score.{verdictOf, answerOf}
-use Rattle.score.specs.Below.{partsAt}
+use Rattle.score.specs.Below.{isCountBelow}
 use Rattle.score.specs.Apart.{differenceOf}
 
 pub check-unique : (s : List ℕ) (a b : Answer) → a ≡ answerOf s → b ≡ answerOf s → a ≡ b
@@ -30,8 +30,8 @@ record-at-unique s i a b p q = p ∙ sym q
 pub encode-unique : (r : Record) (a b : List ℕ) → a ≡ encodeOf r → b ≡ encodeOf r → a ≡ b
 encode-unique r a b p q = p ∙ sym q
 
-pub parts-at-unique : (s : List ℕ) (k n : ℕ) (a b : Bool) → a ≡ partsAt s k n → b ≡ partsAt s k n → a ≡ b
-parts-at-unique s k n a b p q = p ∙ sym q
+pub is-count-below-unique : (s : List ℕ) (k n : ℕ) (a b : Bool) → a ≡ isCountBelow s k n → b ≡ isCountBelow s k n → a ≡ b
+is-count-below-unique s k n a b p q = p ∙ sym q
 
 pub first-difference-unique : (s t : List ℕ) (a b : Difference) → a ≡ differenceOf s t → b ≡ differenceOf s t → a ≡ b
 first-difference-unique s t a b p q = p ∙ sym q

@@ -11,8 +11,8 @@ use lib.Dec.{leb, eqb, lit<}
 use borrow.Author.Tests.{leb-true, eq-eqb, ne-eqb, eqb-true}
 use Rattle.words.specs.Words.{wordOf}
 use Rattle.score.specs.Record.{byteAt, wordAt}
-use Rattle.score.specs.Inner.{markAt, restAt}
-use Rattle.score.specs.Score.{mostOf, allRight}
+use Rattle.score.specs.Inner.{markAt, bodyAt}
+use Rattle.score.specs.Score.{fieldLimit, allRight}
 use Rattle.score.specs.Apart.{sameTo, sameAt}
 use Rattle.score.proofs.Parted.{same-bytes}
 use Rattle.score.proofs.Codec.{both, either, Right, right-mark, right-kind, right-fields}
@@ -43,7 +43,7 @@ module _ (k n v l : ℕ) (hk : k < 256) (hn : n < 256) (hv : v < 256) (hl : l < 
   kept = bitAnd (wordOf k n v l) 0xFF8080FF
 
   abbrev RestRight : Type 0
-  RestRight = (1 ≤ k) × (k ≤ 3) × (n ≤ mostOf k) × (v ≤ mostOf k) × (l ≡ 0)
+  RestRight = (1 ≤ k) × (k ≤ 3) × (n ≤ fieldLimit k) × (v ≤ fieldLimit k) × (l ≡ 0)
 
   reset-right : wordOf k n v l ≡ 3 → RestRight
   reset-right e =
@@ -101,7 +101,7 @@ module _ (s t : List ℕ) (i : ℕ) (x : (j : ℕ) → byteAt s i j < 256) (y : 
   four-same : (j : ℕ) → wordAt s i j ≡ wordAt t i j → Same j × Same (j + 1) × Same (j + 2) × Same (j + 3)
   four-same j = word-bytes _ _ _ _ _ _ _ _ (x j) (x (j + 1)) (x (j + 2)) (x (j + 3)) (y j) (y (j + 1)) (y (j + 2)) (y (j + 3))
 
-  words-same : markAt s i ≡ markAt t i → restAt s i ≡ restAt t i → sameAt s t i ≡ true
+  words-same : markAt s i ≡ markAt t i → bodyAt s i ≡ bodyAt t i → sameAt s t i ≡ true
   unfolding sameTo
   words-same m r =
       let a = word-bytes (byteAt s i 0) (byteAt s i 1) 0 0 (byteAt t i 0) (byteAt t i 1) 0 0 (x 0) (x 1) (lit< tt) (lit< tt) (y 0) (y 1) (lit< tt) (lit< tt) m in
@@ -110,15 +110,15 @@ module _ (s t : List ℕ) (i : ℕ) (x : (j : ℕ) → byteAt s i j < 256) (y : 
       let c = four-same 6 (two .1) in
       simp (eq-eqb _ _ (a .0), eq-eqb _ _ (a .1), eq-eqb _ _ (b .0), eq-eqb _ _ (b .1), eq-eqb _ _ (b .2), eq-eqb _ _ (b .3), eq-eqb _ _ (c .0), eq-eqb _ _ (c .1), eq-eqb _ _ (c .2), eq-eqb _ _ (c .3))
 
-  same-words : sameAt s t i ≡ true → (markAt s i ≡ markAt t i) × (restAt s i ≡ restAt t i)
+  same-words : sameAt s t i ≡ true → (markAt s i ≡ markAt t i) × (bodyAt s i ≡ bodyAt t i)
   same-words h =
       let f : (j : ℕ) → j < 10 → byteAt s i j ≡ byteAt t i j = same-bytes s t i 10 h in
       (rw (f 0 (lit< tt), f 1 (lit< tt)), rw (f 2 (lit< tt), f 3 (lit< tt), f 4 (lit< tt), f 5 (lit< tt), f 6 (lit< tt), f 7 (lit< tt), f 8 (lit< tt), f 9 (lit< tt)))
 
-  pub same-by-words : eqb (markAt s i) (markAt t i) && eqb (restAt s i) (restAt t i) ≡ sameAt s t i
-  same-by-words = go (eqb (markAt s i) (markAt t i)) refl (eqb (restAt s i) (restAt t i)) refl (sameAt s t i) refl
+  pub same-by-words : eqb (markAt s i) (markAt t i) && eqb (bodyAt s i) (bodyAt t i) ≡ sameAt s t i
+  same-by-words = go (eqb (markAt s i) (markAt t i)) refl (eqb (bodyAt s i) (bodyAt t i)) refl (sameAt s t i) refl
     where
-      go : (a : Bool) → eqb (markAt s i) (markAt t i) ≡ a → (b : Bool) → eqb (restAt s i) (restAt t i) ≡ b → (r : Bool) → sameAt s t i ≡ r → a && b ≡ r
+      go : (a : Bool) → eqb (markAt s i) (markAt t i) ≡ a → (b : Bool) → eqb (bodyAt s i) (bodyAt t i) ≡ b → (r : Bool) → sameAt s t i ≡ r → a && b ≡ r
       go a f b g true q = let e = same-words q in rw (← f, ← g, eq-eqb _ _ (e .0), eq-eqb _ _ (e .1))
       go true f true g false q = sym (words-same (eqb-true _ _ f) (eqb-true _ _ g)) ∙ q
       go true f false g false q = refl

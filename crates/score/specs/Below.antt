@@ -20,8 +20,8 @@ lastBelow s zero p = true
 lastBelow s (suc k) p = ltb (positionAt s k) p
 
 -- there are at least k records; record k - 1, if k is not 0, is below p, and record k, if there is one, is not
-unfoldable pub partsAt : List ℕ → ℕ → ℕ → Bool
-partsAt s k p = leb k (countOf s) && lastBelow s k p && (leb (countOf s) k || leb p (positionAt s k))
+unfoldable pub isCountBelow : List ℕ → ℕ → ℕ → Bool
+isCountBelow s k p = leb k (countOf s) && lastBelow s k p && (leb (countOf s) k || leb p (positionAt s k))
 
 -- positions never fall
 pub record Sorted (s : List ℕ) : Type 0 where

@@ -9,5 +9,5 @@ use Rattle.score.specs.Record.{byteAt, wordAt}
 abbrev pub markAt : List ℕ → ℕ → ℕ
 markAt s i = wordOf (byteAt s i 0) (byteAt s i 1) 0 0
 
-abbrev pub restAt : List ℕ → ℕ → ℕ
-restAt s i = wordAt s i 2 + wordAt s i 6 * 4294967296
+abbrev pub bodyAt : List ℕ → ℕ → ℕ
+bodyAt s i = wordAt s i 2 + wordAt s i 6 * 4294967296

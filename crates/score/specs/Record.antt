@@ -57,16 +57,16 @@ encodeOf r =
     ∷ kindByte (r .kind) ∷ r .note ∷ r .velocity ∷ 0 ∷ []
 
 -- note and velocity are at most 127, of a reset at most 0
-abbrev pub mostFor : Kind → ℕ
-mostFor On = 127
-mostFor Off = 127
-mostFor Reset = 0
+abbrev pub fieldLimitOf : Kind → ℕ
+fieldLimitOf On = 127
+fieldLimitOf Off = 127
+fieldLimitOf Reset = 0
 
 -- the records that can be encoded: a position of four bytes, note and velocity in range
 pub record Valid (r : Record) : Type 0 where
   pub position-fits : r .position < 4294967296
-  pub note-most : r .note ≤ mostFor (r .kind)
-  pub velocity-most : r .velocity ≤ mostFor (r .kind)
+  pub note-most : r .note ≤ fieldLimitOf (r .kind)
+  pub velocity-most : r .velocity ≤ fieldLimitOf (r .kind)
 
 -- ---- lists of records, and of bytes
 -- what is read past the end of a list of records

@@ -27,11 +27,11 @@ unfoldable pub kindRight : List ℕ → ℕ → Bool
 kindRight s i = leb 1 (byteAt s i 6) && leb (byteAt s i 6) 3
 
 -- note and velocity are at most 127, of a reset at most 0
-abbrev pub mostOf : ℕ → ℕ
-mostOf kind = cond (eqb kind 3) 0 127
+abbrev pub fieldLimit : ℕ → ℕ
+fieldLimit kind = cond (eqb kind 3) 0 127
 
 unfoldable pub fieldsRight : List ℕ → ℕ → Bool
-fieldsRight s i = leb (byteAt s i 7) (mostOf (byteAt s i 6)) && leb (byteAt s i 8) (mostOf (byteAt s i 6)) && eqb (byteAt s i 9) 0
+fieldsRight s i = leb (byteAt s i 7) (fieldLimit (byteAt s i 6)) && leb (byteAt s i 8) (fieldLimit (byteAt s i 6)) && eqb (byteAt s i 9) 0
 
 -- the tests of record i that look at no other record
 abbrev pub allRight : List ℕ → ℕ → Bool

@@ -6,18 +6,18 @@ ghost use Prim.Native.Nat.{_<_, _≤_, min};
 ghost use Rattle.answers.specs.Order.{firstOf};
 ghost use Rattle.score.specs.declared.Verdict.the-variants.{Accepted, Faulty};
 ghost use Rattle.score.specs.Record.{byteAt, wordAt, positionAt, kindOf, kindByte, recordAt, encodeOf, countOf};
-ghost use Rattle.score.specs.Inner.{markAt, restAt};
-ghost use Rattle.score.specs.Score.{mostOf, markRight, kindRight, fieldsRight, allRight, inOrder, faultsAt, verdictOf, answerOf};
-ghost use Rattle.score.specs.Below.{lastBelow, partsAt};
+ghost use Rattle.score.specs.Inner.{markAt, bodyAt};
+ghost use Rattle.score.specs.Score.{fieldLimit, markRight, kindRight, fieldsRight, allRight, inOrder, faultsAt, verdictOf, answerOf};
+ghost use Rattle.score.specs.Below.{lastBelow, isCountBelow};
 ghost use Rattle.score.specs.Apart.{sameAt, firstIndex, differenceOf};
 use answers::Answer;
 use answers::Refusal;
 use answers::ScoreFault;
 
 // The bytes of one record, and the largest number of records of a score.
-const SIZE: usize = 10;
+const RECORD_SIZE: usize = 10;
 
-const MOST: usize = 4096;
+const MOST_RECORDS: usize = 4096;
 
 // What a record does: a key goes down, a key goes up, or all is reset.
 pub enum Kind {
@@ -59,18 +59,18 @@ pub fn check(score: &[u8]) -> Answer
 pub fn judge(score: &[u8]) -> Verdict
     ensures { λ r. ⌜ r ≡ verdictOf (now (score .entry)) ⌝ }
 {
-    let n = score.len() / SIZE;
-    if score.len() % SIZE != 0 {
+    let n = score.len() / RECORD_SIZE;
+    if score.len() % RECORD_SIZE != 0 {
         return Verdict::Faulty(ScoreFault::Length);
     }
-    if MOST < n {
+    if MOST_RECORDS < n {
         return Verdict::Faulty(ScoreFault::Length);
     }
     let mut before = 0;
     let mut i = 0;
     while i < n {
         let here = word_at(score, i, 2);
-        let verdict = judge_after(score, i, before <= here);
+        let verdict = judge_in_order(score, i, before <= here);
         if let Verdict::Faulty(fault) = verdict {
             return Verdict::Faulty(fault);
         }
@@ -84,7 +84,7 @@ pub fn judge(score: &[u8]) -> Verdict
 pub fn count(score: &[u8]) -> usize
     ensures { λ r. ⌜ r ≡ countOf (now (score .entry)) ⌝ }
 {
-    score.len() / SIZE
+    score.len() / RECORD_SIZE
 }
 
 // The position of record i: four bytes, low byte first.
@@ -125,8 +125,8 @@ pub fn encode(given: Record) -> [u8; 10]
 }
 
 // Whether k records exist, the last of them below p and the next, if any, not. If in order: exactly k are below p.
-pub fn parts_at(score: &[u8], k: u64, p: u64) -> bool
-    ensures { λ r. ⌜ r ≡ partsAt (now (score .entry)) k p ⌝ }
+pub fn is_count_below(score: &[u8], k: u64, p: u64) -> bool
+    ensures { λ r. ⌜ r ≡ isCountBelow (now (score .entry)) k p ⌝ }
 {
     let n = count(score) as u64;
     let next = k as usize;
@@ -185,7 +185,7 @@ fn byte_at(score: &[u8], i: usize, j: usize) -> u8
     if count(score) < i {
         return 0;
     }
-    let at = i * SIZE;
+    let at = i * RECORD_SIZE;
     if score.len() - at <= j {
         return 0;
     }
@@ -198,7 +198,7 @@ fn word_at(score: &[u8], i: usize, j: usize) -> u32
     requires { ⌜ j ≤ 6 ⌝ }
     ensures { λ r. ⌜ r ≡ wordAt (now (score .entry)) i j ⌝ }
 {
-    let at = i * SIZE;
+    let at = i * RECORD_SIZE;
     let a = score[at + j];
     let b = score[at + (j + 1)];
     let c = score[at + (j + 2)];
@@ -211,16 +211,16 @@ fn mark_at(score: &[u8], i: usize) -> u32
     requires { ⌜ i < countOf (now score) ⌝ }
     ensures { λ r. ⌜ r ≡ markAt (now (score .entry)) i ⌝ }
 {
-    let at = i * SIZE;
+    let at = i * RECORD_SIZE;
     let a = score[at];
     let b = score[at + 1];
     words::word_of(a, b, 0, 0)
 }
 
 // The eight bytes after the mark of record i, low byte first.
-fn rest_at(score: &[u8], i: usize) -> u64
+fn body_at(score: &[u8], i: usize) -> u64
     requires { ⌜ i < countOf (now score) ⌝ }
-    ensures { λ r. ⌜ r ≡ restAt (now (score .entry)) i ⌝ }
+    ensures { λ r. ⌜ r ≡ bodyAt (now (score .entry)) i ⌝ }
 {
     let low = word_at(score, i, 2) as u64;
     let high = word_at(score, i, 6) as u64;
@@ -250,12 +250,12 @@ fn kind_byte(kind: Kind) -> u8
 }
 
 // The first fault of record i, whose order is known: one test accepts a valid record, the others are judged in full.
-fn judge_after(score: &[u8], i: usize, order: bool) -> Verdict
+fn judge_in_order(score: &[u8], i: usize, order: bool) -> Verdict
     requires { ⌜ i < countOf (now score) ⌝ }
     requires { ⌜ order ≡ inOrder (now score) i ⌝ }
     ensures { λ r. ⌜ r ≡ firstOf (faultsAt (now (score .entry)) i) Faulty (Accepted 1) ⌝ }
 {
-    if order & surely_right(score, i) {
+    if order & passes_fast_check(score, i) {
         return Verdict::Accepted(1);
     }
     judge_record(score, i)
@@ -263,7 +263,7 @@ fn judge_after(score: &[u8], i: usize, order: bool) -> Verdict
 
 // Fast path, true only for a valid record: the mark matches, and bytes 6 to 9 are a reset or, with the low seven bits
 // of note and velocity masked off, kind 1 or 2.
-fn surely_right(score: &[u8], i: usize) -> bool
+fn passes_fast_check(score: &[u8], i: usize) -> bool
     requires { ⌜ i < countOf (now score) ⌝ }
     ensures { λ r. ⌜ (r ≡ true → allRight (now (score .entry)) i ≡ true) ⌝ }
 {
@@ -312,13 +312,13 @@ fn kind_right(score: &[u8], i: usize) -> bool
 fn fields_right(score: &[u8], i: usize) -> bool
     ensures { λ r. ⌜ r ≡ fieldsRight (now (score .entry)) i ⌝ }
 {
-    let most = most_of(byte_at(score, i, 6));
+    let most = field_limit(byte_at(score, i, 6));
     (byte_at(score, i, 7) <= most) & (byte_at(score, i, 8) <= most) & (byte_at(score, i, 9) == 0)
 }
 
 // Note and velocity are at most 127, of a reset at most 0.
-fn most_of(kind: u8) -> u8
-    ensures { λ r. ⌜ r ≡ mostOf kind ⌝ }
+fn field_limit(kind: u8) -> u8
+    ensures { λ r. ⌜ r ≡ fieldLimit kind ⌝ }
 {
     if kind == 3 {
         return 0;
@@ -343,7 +343,7 @@ fn same_record(s: &[u8], t: &[u8], i: usize) -> bool
     ensures { λ r. ⌜ r ≡ sameAt (now (s .entry)) (now (t .entry)) i ⌝ }
 {
     let mark = mark_at(s, i) == mark_at(t, i);
-    let rest = rest_at(s, i) == rest_at(t, i);
+    let rest = body_at(s, i) == body_at(t, i);
     mark & rest
 }
 

@@ -10,7 +10,7 @@ use lib.Dec.{eqb}
 use lib.ListN.{length, take}
 use lib.Ieee.{Float}
 use Rattle.runs.specs.Runs.{listed}
-use Rattle.shelf.specs.Shelf.{mark, entryWords, entriesFor, wordsFor, shelfOf}
+use Rattle.shelf.specs.Shelf.{sectionSize, entryWords, entriesFor, wordsFor, shelfOf}
 use Rattle.spans.specs.declared.Place.{Place}
 use Rattle.spans.specs.Walk.{placeFrom, playedFrom}
 use Rattle.state.specs.declared.Settings.{Settings}
@@ -18,15 +18,15 @@ use Rattle.sections.specs.Outcome.{Outcome, leaves}
 
 -- the words of the entries m to m + k - 1, from a place p at the first sample of section m
 unfoldable pub keptFrom : Settings → List ℕ → ℕ → Place → ℕ → List ℕ
-keptFrom g s m p k = shelfOf (listed (λ (i : ℕ). placeFrom g s (m * mark) p (i * mark) .state) k)
+keptFrom g s m p k = shelfOf (listed (λ (i : ℕ). placeFrom g s (m * sectionSize) p (i * sectionSize) .state) k)
 
 -- the place after the last sample; samples and entries before section m are as they came
 abbrev pub played : Settings → List ℕ → ℕ → Place → List Float → List ℕ → Outcome Place
 played g s m p out shelf =
     let n = length out in
     leaves
-    (placeFrom g s (m * mark) p (n - m * mark))
-    (take (m * mark) out ++ playedFrom g s (m * mark) p (n - m * mark))
+    (placeFrom g s (m * sectionSize) p (n - m * sectionSize))
+    (take (m * sectionSize) out ++ playedFrom g s (m * sectionSize) p (n - m * sectionSize))
     (take (m * entryWords) shelf ++ keptFrom g s m p (entriesFor n - m))
 
 abbrev pub playedIf : Bool → Settings → List ℕ → ℕ → Place → List Float → List ℕ → Outcome Place

@@ -9,7 +9,7 @@ ghost use Rattle.sections.specs.Outcome.{leaves};
 ghost use Rattle.sections.specs.Sections.{played, playOnOf};
 ghost use Rattle.sections.specs.Inner.{SectionEnd};
 use shelf::ENTRY_WORDS;
-use shelf::MARK;
+use shelf::SECTION_SIZE;
 use spans::Place;
 use state::Settings;
 
@@ -18,40 +18,40 @@ use state::Settings;
 pub fn play_on(
     settings: Settings,
     score: &[u8],
-    mark: usize,
+    section: usize,
     place: Place,
     out: &mut [f64],
     shelf: &mut [u64],
 ) -> Place
-    ensures { λ r. ⌜ leaves r (now (out .exit)) (now (shelf .exit)) ≡ playOnOf settings (now (score .entry)) mark place (now (out .entry)) (now (shelf .entry)) ⌝ }
+    ensures { λ r. ⌜ leaves r (now (out .exit)) (now (shelf .exit)) ≡ playOnOf settings (now (score .entry)) section place (now (out .entry)) (now (shelf .entry)) ⌝ }
 {
     if shelf.len() != shelf::words_for(out.len()) {
         return place;
     }
-    if shelf::entries(out.len()) <= mark {
+    if shelf::entries(out.len()) <= section {
         return place;
     }
-    from_mark(settings, score, mark, place, out, shelf)
+    play_sections(settings, score, section, place, out, shelf)
 }
 
-fn from_mark(
+fn play_sections(
     settings: Settings,
     score: &[u8],
-    mark: usize,
+    section: usize,
     place: Place,
     out: &mut [f64],
     shelf: &mut [u64],
 ) -> Place
     requires { ⌜ length (now shelf) ≡ wordsFor (length (now out)) ⌝ }
-    requires { ⌜ mark < entriesFor (length (now out)) ⌝ }
-    ensures { λ r. ⌜ leaves r (now (out .exit)) (now (shelf .exit)) ≡ played settings (now (score .entry)) mark place (now (out .entry)) (now (shelf .entry)) ⌝ }
+    requires { ⌜ section < entriesFor (length (now out)) ⌝ }
+    ensures { λ r. ⌜ leaves r (now (out .exit)) (now (shelf .exit)) ≡ played settings (now (score .entry)) section place (now (out .entry)) (now (shelf .entry)) ⌝ }
 {
     let mut at = place;
-    let mut k = mark;
-    let mut start = mark * MARK;
+    let mut k = section;
+    let mut start = section * SECTION_SIZE;
     while start < out.len() {
         let word = k * ENTRY_WORDS;
-        shelf::keep(&mut shelf[word..word + ENTRY_WORDS], at.state);
+        shelf::store(&mut shelf[word..word + ENTRY_WORDS], at.state);
         let end = section_end(start, out.len());
         at = spans::play(settings, score, at, start as u64, &mut out[start..end]);
         start = end;
@@ -65,8 +65,8 @@ fn section_end(start: usize, length: usize) -> usize
     requires { ⌜ start < length ⌝ }
     ensures { λ r. ⌜ SectionEnd start length r ⌝ }
 {
-    if length - start < MARK {
+    if length - start < SECTION_SIZE {
         return length;
     }
-    start + MARK
+    start + SECTION_SIZE
 }

@@ -16,4 +16,4 @@ pub mod Whole
 -- the test is 01's sentence, word by word
 pub mod Sentence
 -- entries by example
-pub mod Marks
+pub mod Examples

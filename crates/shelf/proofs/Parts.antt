@@ -9,7 +9,7 @@ use lib.Dec.{T, leb, leb→le, le→leb}
 use lib.ListN.{getD, take, drop}
 use lib.Ieee.{isNan}
 use lib.Ieee.Fits.{and-i, and-l, and-r}
-use Rattle.voice.specs.Keys.{atMost, isFilled, isSound, isKeys}
+use Rattle.voice.specs.Keys.{atMost, isFilled, isGateRight, isKeys}
 use Rattle.voice.specs.declared.keys.Keys.{Keys}
 use Rattle.state.specs.declared.State.{State}
 use Rattle.state.specs.Limits.{isState}
@@ -56,7 +56,7 @@ filled-bytes (suc c) (x ∷ xs) (suc i) t =
 
 module _ (k : Keys) where
   abbrev few : Bool
-  few = isSound (k .active) (k .gate) && leb (k .count) 16
+  few = isGateRight (k .active) (k .gate) && leb (k .count) 16
 
   abbrev notes : Bool
   notes = isFilled (k .count) (k .notes)
@@ -72,9 +72,9 @@ module _ (k : Keys) where
   unfolding isKeys
   keys-velocities t = and-r (few && notes) velocities t
 
-  pub keys-are : T (isSound (k .active) (k .gate)) → k .count ≤ 16 → T (isFilled (k .count) (k .notes)) → T (isFilled (k .count) (k .velocities)) → T (isKeys k)
+  pub keys-are : T (isGateRight (k .active) (k .gate)) → k .count ≤ 16 → T (isFilled (k .count) (k .notes)) → T (isFilled (k .count) (k .velocities)) → T (isKeys k)
   unfolding isKeys
-  keys-are s c n v = and-i (few && notes) velocities (and-i few notes (and-i (isSound (k .active) (k .gate)) (leb (k .count) 16) s (le→leb (k .count) 16 c)) n) v
+  keys-are s c n v = and-i (few && notes) velocities (and-i few notes (and-i (isGateRight (k .active) (k .gate)) (leb (k .count) 16) s (le→leb (k .count) 16 c)) n) v
 
   pub notes-bytes : T (isKeys k) → (i : ℕ) → getD (k .notes) i 0 < 256
   notes-bytes t i = filled-bytes (k .count) (k .notes) i (keys-notes t)

@@ -15,11 +15,11 @@ use lib.Ieee.{binary64}
 use lib.Ieee.Fits.{and-i, and-l, and-r}
 use lib.Ieee.Bits.{is-true, is-false}
 use Rattle.floats.specs.Range.{within}
-use Rattle.floats.specs.Double.{naught, one}
+use Rattle.floats.specs.Double.{zero64, one}
 use Rattle.envelope.specs.Limits.{eleven}
 use Rattle.envelope.proofs.Inside.{is-inside, accepted}
 use Rattle.voice.specs.declared.keys.ActiveNote.the-variants.{Silent, Note}
-use Rattle.voice.specs.Keys.{isFilled, isSound, isKeys}
+use Rattle.voice.specs.Keys.{isFilled, isGateRight, isKeys}
 use Rattle.voice.proofs.Limits.{keys-sound, keys-few}
 use Rattle.domain.specs.Domain.{isRadians, isPitch}
 use Rattle.state.specs.Limits.{isState}
@@ -39,13 +39,13 @@ pub record Sentence (ws : List ℕ) : Type 0 where
   pub twelve-words : length ws ≡ entryWords
   pub phase-in : T (isRadians (float ws 0))
   pub stage-in : word ws 1 ≤ 4
-  pub level-in : T (within naught one (float ws 2))
-  pub time-in : T (within naught eleven (float ws 3))
-  pub release-in : T (within naught one (float ws 4))
+  pub level-in : T (within zero64 one (float ws 2))
+  pub time-in : T (within zero64 eleven (float ws 3))
+  pub release-in : T (within zero64 one (float ws 4))
   pub sounding : Sounding (word ws 5 % 256) (word ws 5 / 256 % 2)
   pub held-in : word ws 5 / 512 % 128 ≤ 16
   pub frequency-in : T (isPitch binary64 (float ws 6))
-  pub velocity-in : T (within naught one (float ws 7))
+  pub velocity-in : T (within zero64 one (float ws 7))
   pub notes-in : T (isFilled (word ws 5 / 512 % 128) (notesOf (word ws 8) (word ws 9) (word ws 10) (word ws 11)))
   pub velocities-in : T (isFilled (word ws 5 / 512 % 128) (velocitiesOf (word ws 8) (word ws 9) (word ws 10) (word ws 11)))
 
@@ -55,10 +55,10 @@ two zero h n = refl
 two (suc zero) h n = absurd (n refl)
 two (suc (suc g)) h n = absurd (omega arith)
 
-says-sounding : (b g : ℕ) → g < 2 → T (isSound (activeOf b) (eqb g 1)) → Sounding b g
+says-sounding : (b g : ℕ) → g < 2 → T (isGateRight (activeOf b) (eqb g 1)) → Sounding b g
 says-sounding b g h = go (eqb b 255) refl
   where
-    go : (t : Bool) → eqb b 255 ≡ t → T (isSound (cond t Silent (Note b)) (eqb g 1)) → Sounding b g
+    go : (t : Bool) → eqb b 255 ≡ t → T (isGateRight (cond t Silent (Note b)) (eqb g 1)) → Sounding b g
     go true e s =
         let z = eqb-true b 255 e in
         record { a-note-or-none = inr z; gate-up = λ n. absurd (n z); gate-down = λ n. two g h (eqb-false g 1 (is-false (eqb g 1) s)) }
@@ -66,10 +66,10 @@ says-sounding b g h = go (eqb b 255) refl
         let n = eqb-false b 255 e in
         record { a-note-or-none = inl (leb→le b 127 (and-l (leb b 127) (eqb g 1) s)); gate-up = λ m. eqb→eq g 1 (and-r (leb b 127) (eqb g 1) s); gate-down = λ m. absurd (n m) }
 
-sounding-is : (b g : ℕ) → Sounding b g → T (isSound (activeOf b) (eqb g 1))
+sounding-is : (b g : ℕ) → Sounding b g → T (isGateRight (activeOf b) (eqb g 1))
 sounding-is b g s = go (eqb b 255) refl
   where
-    go : (t : Bool) → eqb b 255 ≡ t → T (isSound (cond t Silent (Note b)) (eqb g 1))
+    go : (t : Bool) → eqb b 255 ≡ t → T (isGateRight (cond t Silent (Note b)) (eqb g 1))
     go true e = rw (s .gate-down (eqb-true b 255 e)) tt
     go false e =
         let n = eqb-false b 255 e in

@@ -14,7 +14,7 @@ use lib.Ieee.Bits.{ofBits-toBits}
 use Rattle.envelope.proofs.Holds.{Held}
 use Rattle.envelope.specs.declared.EnvelopeStage.{EnvelopeStage}
 use Rattle.envelope.specs.declared.EnvelopeStage.the-variants.{Idle, Attack, Decay, Sustain, Release}
-use Rattle.voice.specs.Keys.{isSound, isKeys}
+use Rattle.voice.specs.Keys.{isGateRight, isKeys}
 use Rattle.voice.specs.declared.keys.ActiveNote.{ActiveNote}
 use Rattle.voice.specs.declared.keys.ActiveNote.the-variants.{Silent, Note}
 use Rattle.voice.specs.declared.keys.Keys.{Keys}
@@ -22,7 +22,7 @@ use Rattle.voice.proofs.Limits.{keys-sound, keys-few}
 use Rattle.state.specs.declared.State.{State}
 use Rattle.state.specs.Limits.{isState}
 use Rattle.state.proofs.Limits.{in-kept, state-in, state-few}
-use Rattle.shelf.specs.Shelf.{entryWords, stageWord, activeByte, gateBit, packedWord, fourPairs, entryOf, keptIn, stageOf, activeOf, notesThen, velocitiesThen, notesOf, velocitiesOf, keysIn, stateOf, isEntry, decodedOf}
+use Rattle.shelf.specs.Shelf.{entryWords, stageWord, activeByte, gateBit, packedWord, fourPairs, entryOf, storedIn, stageOf, activeOf, notesThen, velocitiesThen, notesOf, velocitiesOf, keysIn, stateOf, isEntry, decodedOf}
 use Rattle.shelf.proofs.Digits.{Bytes, byte-in, bit-in, count-in, rest-in, bytes-in, sixteen}
 use Rattle.shelf.proofs.Parts.{notes-bytes, velocities-bytes}
 
@@ -50,14 +50,14 @@ stage-low Decay = refl
 stage-low Sustain = refl
 stage-low Release = refl
 
-note-low : (n : ℕ) (g : Bool) → T (isSound (Note n) g) → n ≤ 127
+note-low : (n : ℕ) (g : Bool) → T (isGateRight (Note n) g) → n ≤ 127
 note-low n g t = leb→le n 127 (and-l (leb n 127) g t)
 
-active-low : (a : ActiveNote) (g : Bool) → T (isSound a g) → activeByte a < 256
+active-low : (a : ActiveNote) (g : Bool) → T (isGateRight a g) → activeByte a < 256
 active-low Silent g t = lit< tt
 active-low (Note n) g t = omega (arith, note-low n g t)
 
-active-back : (a : ActiveNote) (g : Bool) → T (isSound a g) → activeOf (activeByte a) ≡ a
+active-back : (a : ActiveNote) (g : Bool) → T (isGateRight a g) → activeOf (activeByte a) ≡ a
 active-back Silent g t = refl
 active-back (Note n) g t =
     let l = note-low n g t in
@@ -148,13 +148,13 @@ unfolding entryOf
 entry-length v = refl
 
 -- twelve words become those of the state that is kept in them
-pub kept-twelve : (ws : List ℕ) (v : State) → length ws ≡ entryWords → keptIn ws v ≡ entryOf v
+pub kept-twelve : (ws : List ℕ) (v : State) → length ws ≡ entryWords → storedIn ws v ≡ entryOf v
 kept-twelve ws v e = rw (eq-eqb (length ws) entryWords e) refl
 
 entry-stage : (v : State) → leb (getD (entryOf v) 1 0) 4 ≡ true
 unfolding entryOf
 entry-stage v = stage-low (v .envelope .stage)
 
-pub encode-decode : (v : State) → Fitting v → isState v ≡ true → decodedOf (entryOf v) ≡ record { holds = true; state = v }
+pub encode-decode : (v : State) → Fitting v → isState v ≡ true → decodedOf (entryOf v) ≡ record { valid = true; state = v }
 unfolding isEntry
 encode-decode v f h = rw (entry-length v, entry-stage v, state-back v f h, h) refl

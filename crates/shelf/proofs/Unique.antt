@@ -4,7 +4,7 @@ use mathlib.Core.List.{List}
 use Prim.Native.Nat.{ℕ}
 use Rattle.state.specs.declared.State.{State}
 use Rattle.shelf.specs.declared.Entry.{Entry}
-use Rattle.shelf.specs.Shelf.{entriesFor, wordsFor, entryOf, keptIn, decodedOf}
+use Rattle.shelf.specs.Shelf.{entriesFor, wordsFor, entryOf, storedIn, decodedOf}
 
 pub entries-unique : (n r t : ℕ) → r ≡ entriesFor n → t ≡ entriesFor n → r ≡ t
 entries-unique n r t p q = p ∙ sym q
@@ -15,8 +15,8 @@ words-for-unique n r t p q = p ∙ sym q
 pub encode-unique : (v : State) (r t : List ℕ) → r ≡ entryOf v → t ≡ entryOf v → r ≡ t
 encode-unique v r t p q = p ∙ sym q
 
-pub keep-unique : (ws : List ℕ) (v : State) (r t : List ℕ) → r ≡ keptIn ws v → t ≡ keptIn ws v → r ≡ t
-keep-unique ws v r t p q = p ∙ sym q
+pub store-unique : (ws : List ℕ) (v : State) (r t : List ℕ) → r ≡ storedIn ws v → t ≡ storedIn ws v → r ≡ t
+store-unique ws v r t p q = p ∙ sym q
 
 pub decode-unique : (ws : List ℕ) (r t : Entry) → r ≡ decodedOf ws → t ≡ decodedOf ws → r ≡ t
 decode-unique ws r t p q = p ∙ sym q

@@ -32,12 +32,12 @@ abbrev pub entryWords : ℕ
 entryWords = 12
 
 -- the samples of a section, from one entry to the next
-abbrev pub mark : ℕ
-mark = 4096
+abbrev pub sectionSize : ℕ
+sectionSize = 4096
 
 -- how many numbers 4096 k lie below n
 abbrev pub entriesFor : ℕ → ℕ
-entriesFor n = (n + (mark - 1)) / mark
+entriesFor n = (n + (sectionSize - 1)) / sectionSize
 
 -- the words of a shelf for n samples
 abbrev pub wordsFor : ℕ → ℕ
@@ -97,8 +97,8 @@ entryOf v =
     ∷ []
 
 -- the words after a state is kept in ws: the state's if ws are twelve, else ws
-abbrev pub keptIn : List ℕ → State → List ℕ
-keptIn ws v = cond (eqb (length ws) entryWords) (entryOf v) ws
+abbrev pub storedIn : List ℕ → State → List ℕ
+storedIn ws v = cond (eqb (length ws) entryWords) (entryOf v) ws
 
 -- ---- words as a state: any words can be read
 -- word i, or 0 past the end
@@ -160,7 +160,7 @@ isEntry ws = eqb (length ws) entryWords && leb (word ws 1) 4 && isState (stateOf
 
 -- whether the words are an entry, and the state that they are read as
 abbrev pub decodedOf : List ℕ → Entry
-decodedOf ws = record { holds = isEntry ws; state = stateOf ws }
+decodedOf ws = record { valid = isEntry ws; state = stateOf ws }
 
 -- ---- a whole shelf: the words of its entries, one after the other
 unfoldable pub shelfOf : List State → List ℕ

@@ -3,7 +3,7 @@
 // decide when an entry is kept and who starts from it.
 ghost use mathlib.Core.Path.{_≡_};
 ghost use Prim.Native.Nat.{_<_, _≤_};
-ghost use Rattle.shelf.specs.Shelf.{entriesFor, wordsFor, stageWord, activeByte, gateBit, packedWord, pairAt, fourPairs, entryOf, keptIn, word, float, stageOf, activeOf, notesOf, velocitiesOf, keysIn, envelopeIn, stateOf, decodedOf};
+ghost use Rattle.shelf.specs.Shelf.{entriesFor, wordsFor, stageWord, activeByte, gateBit, packedWord, pairAt, fourPairs, entryOf, storedIn, word, float, stageOf, activeOf, notesOf, velocitiesOf, keysIn, envelopeIn, stateOf, decodedOf};
 use envelope::Envelope;
 use envelope::EnvelopeStage;
 use state::State;
@@ -15,11 +15,11 @@ use waveform::Radians;
 pub const ENTRY_WORDS: usize = 12;
 
 // The samples of a section, from one entry to the next.
-pub const MARK: usize = 4096;
+pub const SECTION_SIZE: usize = 4096;
 
 // Whether words are an entry, and the state that they are read as, of use only if they are.
 pub struct Entry {
-    pub holds: bool,
+    pub valid: bool,
     pub state: State,
 }
 
@@ -27,8 +27,8 @@ pub struct Entry {
 pub fn entries(samples: usize) -> usize
     ensures { λ r. ⌜ r ≡ entriesFor samples ⌝ }
 {
-    let whole = samples / MARK;
-    if samples % MARK == 0 {
+    let whole = samples / SECTION_SIZE;
+    if samples % SECTION_SIZE == 0 {
         return whole;
     }
     whole + 1
@@ -64,8 +64,8 @@ pub fn encode(state: State) -> [u64; ENTRY_WORDS]
 }
 
 // Writes a state's words over the words of an entry; nothing, if there are not twelve.
-pub fn keep(words: &mut [u64], state: State)
-    ensures { λ _. ⌜ now (words .exit) ≡ keptIn (now (words .entry)) state ⌝ }
+pub fn store(words: &mut [u64], state: State)
+    ensures { λ _. ⌜ now (words .exit) ≡ storedIn (now (words .entry)) state ⌝ }
 {
     let entry = encode(state);
     if words.len() != ENTRY_WORDS {
@@ -82,8 +82,8 @@ pub fn decode(words: &[u64]) -> Entry
     ensures { λ r. ⌜ r ≡ decodedOf (now (words .entry)) ⌝ }
 {
     let state = state_of(words);
-    let holds = (words.len() == ENTRY_WORDS) & (word(words, 1) <= 4) & state::is_state(state);
-    Entry { holds, state }
+    let valid = (words.len() == ENTRY_WORDS) & (word(words, 1) <= 4) & state::is_state(state);
+    Entry { valid, state }
 }
 
 fn stage_word(stage: EnvelopeStage) -> u64

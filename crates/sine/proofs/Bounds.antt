@@ -11,11 +11,11 @@ use lib.Ieee.{Float, binary64, ofBits, neg, lt, eq, le}
 use lib.Ieee.Fits.{and-r}
 use lib.Ieee.Scale.{finite}
 use lib.Ieee.Positive.{positive}
-use Rattle.floats.specs.Range.{nought, unity, within}
-use Rattle.floats.specs.Double.{_⊕_, _⊖_, _⊗_, naught, one}
+use Rattle.floats.specs.Range.{plusZero, plusOne, within}
+use Rattle.floats.specs.Double.{_⊕_, _⊖_, _⊗_, zero64, one}
 use Rattle.floats.proofs.Ranges.{within-nonneg}
 use Rattle.floats.proofs.Bounded.{Size, size-div, size-finite}
-use Rattle.floats.proofs.Literals.{lit1-is}
+use Rattle.floats.proofs.Literals.{oneOf-is}
 use Rattle.floats.proofs.Interpolation.{lerp-in}
 use Rattle.sine.specs.Table.{quarter, entryOf}
 use Rattle.sine.specs.Sine.{scale, wholePart, float, startOf, endOf, lineOf, betweenOf, pointOf, readingOf, steps}
@@ -50,13 +50,13 @@ scale-positive : T (positive scale)
 unfolding ofBits
 scale-positive = tt
 
-naught-in : T (within nought unity naught)
+zero-in : T (within plusZero plusOne zero64)
 unfolding ofBits lt eq le
-naught-in = tt
+zero-in = tt
 
-naught-within : T (within (neg one) one naught)
+zero-within : T (within (neg one) one zero64)
 unfolding ofBits neg lt eq le
-naught-within = tt
+zero-within = tt
 
 one-finite : T (finite one)
 unfolding ofBits
@@ -68,15 +68,15 @@ abbrev Within1 : Float → Type 0
 Within1 x = T (within (neg one) one x)
 
 -- between any two whole numbers of that size
-line-in : (a b : ℤ) (f : Float) → Sized (2 ^ 30) a → Sized (2 ^ 30) b → T (within nought unity f) → Within1 (lineOf (float a) (float b) f)
+line-in : (a b : ℤ) (f : Float) → Sized (2 ^ 30) a → Sized (2 ^ 30) b → T (within plusZero plusOne f) → Within1 (lineOf (float a) (float b) f)
 line-in a b f sa sb h =
-    rw lit1-is
+    rw oneOf-is
     (size-div binary64 (float a ⊕ (float b ⊖ float a) ⊗ f) scale scale-positive
     (record {
       bound = scale-is .ends;
       between =
           lerp-in binary64 (float a) (float b) f (neg scale) scale (ends a sa) (ends b sb) (sub-finite a b (more a sa) (more b sb)) (sub-exact a b (more a sa) (more b sb))
-          (within-nonneg unity f tt h) (and-r (le nought f) (le f unity) h) minus-fits (minus-is .ends) scale-fits (scale-is .ends) (float-in a sa) (float-in b sb);
+          (within-nonneg plusOne f tt h) (and-r (le plusZero f) (le f plusOne) h) minus-fits (minus-is .ends) scale-fits (scale-is .ends) (float-in a sa) (float-in b sb);
     }) .between)
   where
     more : (z : ℤ) → Sized (2 ^ 30) z → Sized (2 ^ 51) z
@@ -86,27 +86,27 @@ line-in a b f sa sb h =
     ends z s = fraction z (sized-more (2 ^ 30) (2 ^ 53) z (lit≤ tt) s) .ends
 
 -- so at every point of the wave
-between-in : (i : ℕ) (f : Float) → T (within nought unity f) → Within1 (betweenOf quarter i f)
+between-in : (i : ℕ) (f : Float) → T (within plusZero plusOne f) → Within1 (betweenOf quarter i f)
 between-in i f h =
     line-in (startOf quarter (i / 1024) (i % 1024)) (endOf quarter (i / 1024) (i % 1024)) f (start-sized (i / 1024) (i % 1024)) (end-sized (i / 1024) (i % 1024)) h
 
 -- and at p points from its start
-point-in : (p : Float) → T (within naught steps p) → Within1 (pointOf quarter p)
+point-in : (p : Float) → T (within zero64 steps p) → Within1 (pointOf quarter p)
 point-in p h = go (eqb (wholePart p) 4096) refl
   where
     go : (t : Bool) → eqb (wholePart p) 4096 ≡ t → Within1 (pointOf quarter p)
-    go true e = rw (point-last quarter p (eqb-true (wholePart p) 4096 e)) (between-in 0 naught naught-in)
+    go true e = rw (point-last quarter p (eqb-true (wholePart p) 4096 e)) (between-in 0 zero64 zero-in)
     go false e =
         rw (point-at quarter p (wholePart p) refl (eqb-false (wholePart p) 4096 e))
         (between-in (wholePart p) (p ⊖ float (pos (wholePart p))) (part-in p (not-negative p h) (le-trans (whole-at-most p h) (lit≤ tt))))
 
 -- of every float: outside 0 to 1 the reading is +0
 pub reading-within : (u : Float) → T (within (neg one) one (readingOf u))
-reading-within u = go (within naught one u) refl
+reading-within u = go (within zero64 one u) refl
   where
-    go : (t : Bool) → within naught one u ≡ t → Within1 (readingOf u)
+    go : (t : Bool) → within zero64 one u ≡ t → Within1 (readingOf u)
     go true e = rw (reading-inside quarter u e) (point-in (u ⊗ steps) (points-in u (subst T (sym e) tt)))
-    go false e = rw (reading-outside quarter u e) naught-within
+    go false e = rw (reading-outside quarter u e) zero-within
 
 -- so it has the size 1, and is finite
 pub reading-sized : (u : Float) → Size one (readingOf u)

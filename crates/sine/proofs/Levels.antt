@@ -19,7 +19,7 @@ use lib.Ieee.Exact.{HasValue}
 use lib.Ieee.Scale.{round-same}
 use Rattle.runs.specs.Runs.{listed}
 use Rattle.runs.proofs.Listed.{listed-more, listed-at}
-use Rattle.floats.specs.Double.{_⊖_, naught}
+use Rattle.floats.specs.Double.{_⊖_, zero64}
 use Rattle.sine.specs.Table.{quarter, entryOf}
 use Rattle.sine.specs.Sine.{float, startOf}
 use Rattle.sine.specs.Whole.{levelOf, levels, wholeWave}
@@ -40,7 +40,7 @@ unfolding sum
 more a b c n C e h = rw e (round-same binary64 false (0 + b) c n 1 C (lit< tt) (omega arith))
 
 -- x is n, or -n
-from-zero : (x : Float) (s : Bool) (n : ℕ) → HasValue x s n 1 → naught ⊖ x ≡ cond s (round binary64 false n 1) (float (negℤ (pos n)))
+from-zero : (x : Float) (s : Bool) (n : ℕ) → HasValue x s n 1 → zero64 ⊖ x ≡ cond s (round binary64 false n 1) (float (negℤ (pos n)))
 unfolding ofBits sub neg add
 from-zero nan s n h = absurd h
 from-zero (inf t) s n h = absurd h
@@ -49,7 +49,7 @@ from-zero (fin false m e) true n h = absurd (true≢false (sym (h .0)))
 from-zero (fin true m e) true n h = more (0 * up (pos 0) * down e) (m * up e * down (pos 0)) (down (pos 0) * down e) n (mul-pos (lit< tt) (down-pos e)) (omega arith) (omega (arith, h .1))
 from-zero (fin false m e) false n h = less (0 * up (pos 0) * down e) (m * up e * down (pos 0)) (down (pos 0) * down e) n (mul-pos (lit< tt) (down-pos e)) (omega arith) (omega (arith, h .1))
 
-pub negated : (z : ℤ) → Sized (2 ^ 53) z → naught ⊖ float z ≡ float (negℤ z)
+pub negated : (z : ℤ) → Sized (2 ^ 53) z → zero64 ⊖ float z ≡ float (negℤ z)
 unfolding ofInt
 negated (pos n) s = from-zero (round binary64 false n 1) false n (round-whole binary64 false n (s .up))
 negated (negsuc n) s = from-zero (round binary64 true (suc n) 1) true (suc n) (round-whole binary64 true (suc n) (s .down))
@@ -76,7 +76,7 @@ level-fall k h =
     ∙ ap (λ (n : ℕ). float (pos (entryOf n))) (omega arith)
     ∙ sym (level-rise (1023 - k) (omega arith))
 
-pub level-negate : (k : ℕ) → levelOf (2048 + k) ≡ naught ⊖ levelOf k
+pub level-negate : (k : ℕ) → levelOf (2048 + k) ≡ zero64 ⊖ levelOf k
 unfolding startOf
 level-negate k =
     at-is (2048 + k) (suc (suc (k / 1024))) (k % 1024) (omega arith) (omega arith)

@@ -16,6 +16,6 @@ pub mod Levels
 -- its reading is the quarter's
 pub mod Whole
 -- readings at the quarters
-pub mod Marks
+pub mod Examples
 -- two outcomes of a public function are equal
 pub mod Unique

@@ -12,13 +12,13 @@ use lib.Ieee.Fits.{and-i, and-r}
 use lib.Ieee.Back.{round-whole}
 use lib.Ieee.Exact.{HasValue}
 use lib.Ieee.Positive.{num, den, den-pos, positive}
-use Rattle.floats.specs.Range.{nought, unity, nonneg, within}
-use Rattle.floats.specs.Double.{naught, one}
+use Rattle.floats.specs.Range.{plusZero, plusOne, nonneg, within}
+use Rattle.floats.specs.Double.{zero64, one}
 use Rattle.floats.proofs.Order.{le→cross, cross→le, lt-not-le, not-lt-le, nonneg→finite, ge0→le}
 use Rattle.floats.proofs.Rounds.{Rounds, mono, sub-rounds, one-rounds}
 use Rattle.floats.proofs.Ranges.{within-nonneg, ge0-positive}
 use Rattle.floats.proofs.Operations.{dens-pos}
-use Rattle.floats.proofs.Literals.{lit0-is, lit1-is}
+use Rattle.floats.proofs.Literals.{zeroOf-is, oneOf-is}
 use Rattle.floats.proofs.Roof.{whole-same}
 use Rattle.floats.proofs.Pattern.{fieldsOf, scaled}
 use Rattle.floats.proofs.Fields as fields
@@ -40,7 +40,7 @@ small : (a c n v : ℕ) → a < n * c + c → (a * v - n * v * c) * 1 ≤ 1 * (c
 small a c n v h = omega (arith, nat.mul-le-mul-right v (nat.le-of-lt h))
 
 -- p is not negative, and its whole part is at most 2^53: p less its whole part lies from 0 to 1
-pub part-in : (p : Float) → T (nonneg p) → wholePart p ≤ 2 ^ 53 → T (within nought unity (sub binary64 p (float (pos (wholePart p)))))
+pub part-in : (p : Float) → T (nonneg p) → wholePart p ≤ 2 ^ 53 → T (within plusZero plusOne (sub binary64 p (float (pos (wholePart p)))))
 unfolding ofInt
 part-in p h few = go (of-whole y n (round-whole binary64 false n few))
   where
@@ -50,15 +50,15 @@ part-in p h few = go (of-whole y n (round-whole binary64 false n few))
     y : Float
     y = round binary64 false n 1
 
-    go : T (nonneg y) × (num y ≡ n * den y) → T (within nought unity (sub binary64 p y))
+    go : T (nonneg y) × (num y ≡ n * den y) → T (within plusZero plusOne (sub binary64 p y))
     go k =
         let r : Rounds binary64 (sub binary64 p y) (num p * den y - num y * den p) (den p * den y) =
         sub-rounds binary64 p y h (k .0) (cross→le y p (k .0) h (rw (k .1) (under (num p) (den p) n (den y) (nat.div-mul-le-self (num p) (den p))))) in
-        and-i (le nought (sub binary64 p y)) (le (sub binary64 p y) unity) (ge0→le (sub binary64 p y) (r .sign))
+        and-i (le plusZero (sub binary64 p y)) (le (sub binary64 p y) plusOne) (ge0→le (sub binary64 p y) (r .sign))
         (mono binary64 _ _ _ _ _ _ r (one-rounds binary64) (dens-pos p y) (lit< tt) (rw (k .1) (small (num p) (den p) n (den y) (nat.lt-div-mul-add (den-pos p)))))
 
 -- ---- a number from 0 to 4096
-module _ (p : Float) (h : T (within naught steps p)) where
+module _ (p : Float) (h : T (within zero64 steps p)) where
   -- 4096 as a fraction
   steps-is : (num steps ≡ 4096) × (den steps ≡ 1) × T (nonneg steps)
   unfolding ofBits
@@ -66,7 +66,7 @@ module _ (p : Float) (h : T (within naught steps p)) where
 
   -- p is finite and not negative, so it is no NaN
   pub not-negative : T (nonneg p)
-  not-negative = within-nonneg steps p (nonneg→finite steps (steps-is .2)) (rw lit0-is at h)
+  not-negative = within-nonneg steps p (nonneg→finite steps (steps-is .2)) (rw zeroOf-is at h)
 
   pub not-nan : T (not (isNan p))
   unfolding isNan
@@ -79,7 +79,7 @@ module _ (p : Float) (h : T (within naught steps p)) where
 
   -- p is at most 4096, and so is its whole part
   at-most : num p ≤ 4096 * den p
-  at-most = nat.le-trans (nat.le-of-eq (sym (nat.mul-one (num p)))) (rw (steps-is .0, steps-is .1) at (le→cross p steps not-negative (steps-is .2) (and-r (le naught p) (le p steps) h)))
+  at-most = nat.le-trans (nat.le-of-eq (sym (nat.mul-one (num p)))) (rw (steps-is .0, steps-is .1) at (le→cross p steps not-negative (steps-is .2) (and-r (le zero64 p) (le p steps) h)))
 
   pub whole-at-most : wholePart p ≤ 4096
   whole-at-most = nat.le-of-suc-le-suc (nat.div-lt-iff-lt-mul (den-pos p) .1 (room (num p) (den p) (den-pos p) at-most))
@@ -89,19 +89,19 @@ module _ (p : Float) (h : T (within naught steps p)) where
 
   -- below 1 the whole part is 0
   pub below-none : lt p one ≡ true → wholePart p ≡ 0
-  below-none t = nat.div-eq-of-lt (nat.lt-of-not-le (λ (l : den p ≤ num p). lt-not-le p unity (subst T (sym (rw lit1-is at t)) tt) (cross→le unity p tt not-negative (omega (arith, l)))))
+  below-none t = nat.div-eq-of-lt (nat.lt-of-not-le (λ (l : den p ≤ num p). lt-not-le p plusOne (subst T (sym (rw oneOf-is at t)) tt) (cross→le plusOne p tt not-negative (omega (arith, l)))))
 
   -- ---- from 1 on
   module _ (w : T (fits binary64 p)) (t : lt p one ≡ false) where
     -- 1 ≤ p, as numbers and as fractions
-    from-one : T (le unity p)
-    from-one = not-lt-le p unity (nonneg→finite p not-negative) tt (subst (λ (b : Bool). T (not b)) (sym (rw lit1-is at t)) tt)
+    from-one : T (le plusOne p)
+    from-one = not-lt-le p plusOne (nonneg→finite p not-negative) tt (subst (λ (b : Bool). T (not b)) (sym (rw oneOf-is at t)) tt)
 
     at-least : 1 * den p ≤ num p
-    at-least = nat.le-trans (le→cross unity p tt not-negative from-one) (nat.le-of-eq (nat.mul-one (num p)))
+    at-least = nat.le-trans (le→cross plusOne p tt not-negative from-one) (nat.le-of-eq (nat.mul-one (num p)))
 
     above : T (positive p)
-    above = ge0-positive unity p tt from-one (nonneg→finite p not-negative)
+    above = ge0-positive plusOne p tt from-one (nonneg→finite p not-negative)
 
     abbrev field : ℕ
     field = toBits binary64 p / hid binary64

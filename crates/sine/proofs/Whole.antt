@@ -13,7 +13,7 @@ use lib.ListN.{length}
 use lib.Ieee.{Float}
 use Rattle.runs.proofs.Listed.{listed-length}
 use Rattle.floats.specs.Range.{within}
-use Rattle.floats.specs.Double.{_⊖_, _⊗_, naught, one}
+use Rattle.floats.specs.Double.{_⊖_, _⊗_, zero64, one}
 use Rattle.sine.specs.Table.{quarter, entryOf}
 use Rattle.sine.specs.Sine.{steps, wholePart, float, startOf, endOf, betweenOf, pointOf, readingOf}
 use Rattle.sine.specs.Whole.{levelOf, levels, wholeWave, wholeLine, wholePointOf, wholeReading}
@@ -25,27 +25,27 @@ use Rattle.sine.proofs.Levels.{at-is, level-at}
 -- ---- the reading of a table W
 module _ (W : List Float) where
   -- u from 0 to 1 in a table as long as the wave, any other u, and any other table
-  pub whole-inside : (u : Float) → length W ≡ 4097 → within naught one u ≡ true → wholeReading W u ≡ wholePointOf W (u ⊗ steps)
+  pub whole-inside : (u : Float) → length W ≡ 4097 → within zero64 one u ≡ true → wholeReading W u ≡ wholePointOf W (u ⊗ steps)
   unfolding wholeReading
   whole-inside u l e = rw (e, l) refl
 
-  pub whole-outside : (u : Float) → within naught one u ≡ false → wholeReading W u ≡ naught
+  pub whole-outside : (u : Float) → within zero64 one u ≡ false → wholeReading W u ≡ zero64
   unfolding wholeReading
   whole-outside u e = rw e refl
 
-  pub whole-other : (u : Float) → (length W ≡ 4097 → ⊥) → wholeReading W u ≡ naught
+  pub whole-other : (u : Float) → (length W ≡ 4097 → ⊥) → wholeReading W u ≡ zero64
   unfolding wholeReading
-  whole-other u n = rw (ne-eqb (length W) 4097 n, and-false (within naught one u)) refl
+  whole-other u n = rw (ne-eqb (length W) 4097 n, and-false (within zero64 one u)) refl
 
   -- p = 4096, and any other, whose whole part is i
-  pub whole-last : (p : Float) → wholePart p ≡ 4096 → wholePointOf W p ≡ wholeLine W 0 naught
+  pub whole-last : (p : Float) → wholePart p ≡ 4096 → wholePointOf W p ≡ wholeLine W 0 zero64
   unfolding wholePointOf
-  whole-last p e = ap (λ (b : Bool). cond b (wholeLine W 0 naught) (wholeLine W (wholePart p) (p ⊖ float (pos (wholePart p))))) (eq-eqb (wholePart p) 4096 e)
+  whole-last p e = ap (λ (b : Bool). cond b (wholeLine W 0 zero64) (wholeLine W (wholePart p) (p ⊖ float (pos (wholePart p))))) (eq-eqb (wholePart p) 4096 e)
 
   pub whole-at : (p : Float) (i : ℕ) → i ≡ wholePart p → (i ≡ 4096 → ⊥) → wholePointOf W p ≡ wholeLine W i (p ⊖ float (pos i))
   unfolding wholePointOf
   whole-at p i e n =
-      ap (λ (b : Bool). cond b (wholeLine W 0 naught) (wholeLine W (wholePart p) (p ⊖ float (pos (wholePart p))))) (ne-eqb (wholePart p) 4096 (λ (z : wholePart p ≡ 4096). n (e ∙ z)))
+      ap (λ (b : Bool). cond b (wholeLine W 0 zero64) (wholeLine W (wholePart p) (p ⊖ float (pos (wholePart p))))) (ne-eqb (wholePart p) 4096 (λ (z : wholePart p ≡ 4096). n (e ∙ z)))
       ∙ ap (λ (k : ℕ). wholeLine W k (p ⊖ float (pos k))) (sym e)
 
 -- ---- b at a point is a at the next: within a quadrant, and over its end, where T[0] is 0
@@ -76,7 +76,7 @@ point-is : (p : Float) → wholePart p ≤ 4096 → wholePointOf wholeWave p ≡
 point-is p h = go (eqb (wholePart p) 4096) refl
   where
     go : (t : Bool) → eqb (wholePart p) 4096 ≡ t → wholePointOf wholeWave p ≡ pointOf quarter p
-    go true e = let l = eqb-true (wholePart p) 4096 e in whole-last wholeWave p l ∙ line-is 0 naught (lit< tt) ∙ sym (point-last quarter p l)
+    go true e = let l = eqb-true (wholePart p) 4096 e in whole-last wholeWave p l ∙ line-is 0 zero64 (lit< tt) ∙ sym (point-last quarter p l)
     go false e =
         let n = eqb-false (wholePart p) 4096 e in
         whole-at wholeWave p (wholePart p) refl n ∙ line-is (wholePart p) _ (omega (arith, n)) ∙ sym (point-at quarter p (wholePart p) refl n)
@@ -87,8 +87,8 @@ whole-long = listed-length levelOf 4097
 
 -- it is the sine, of every float
 pub whole-is : (u : Float) → wholeReading wholeWave u ≡ readingOf u
-whole-is u = go (within naught one u) refl
+whole-is u = go (within zero64 one u) refl
   where
-    go : (t : Bool) → within naught one u ≡ t → wholeReading wholeWave u ≡ readingOf u
+    go : (t : Bool) → within zero64 one u ≡ t → wholeReading wholeWave u ≡ readingOf u
     go true e = whole-inside wholeWave u whole-long e ∙ point-is (u ⊗ steps) (whole-at-most (u ⊗ steps) (points-in u (subst T (sym e) tt))) ∙ sym (reading-inside quarter u e)
     go false e = whole-outside wholeWave u e ∙ sym (reading-outside quarter u e)

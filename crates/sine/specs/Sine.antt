@@ -11,7 +11,7 @@ use lib.ListN.{getD}
 use lib.Ieee.{Float, binary64, ofBits, ofInt}
 use lib.Ieee.Positive.{num, den}
 use Rattle.floats.specs.Range.{within}
-use Rattle.floats.specs.Double.{_⊕_, _⊖_, _⊗_, _⊘_, naught, one}
+use Rattle.floats.specs.Double.{_⊕_, _⊖_, _⊗_, _⊘_, zero64, one}
 use Rattle.answers.specs.declared.Refusal.the-variants.{Argument}
 use Rattle.answers.specs.declared.Value.{Value}
 use Rattle.answers.specs.Order.{unless}
@@ -58,15 +58,15 @@ betweenOf T i f = lineOf (float (startOf T (i / 1024) (i % 1024))) (float (endOf
 
 -- at p points from the start
 unfoldable pub pointOf : List ℕ → Float → Float
-pointOf T p = let i = wholePart p in cond (eqb i 4096) (betweenOf T 0 naught) (betweenOf T i (p ⊖ float (pos i)))
+pointOf T p = let i = wholePart p in cond (eqb i 4096) (betweenOf T 0 zero64) (betweenOf T i (p ⊖ float (pos i)))
 
 -- the reading of T at u; +0 outside 0 to 1
 unfoldable pub readingIn : List ℕ → Float → Float
-readingIn T u = cond (within naught one u) (pointOf T (u ⊗ steps)) naught
+readingIn T u = cond (within zero64 one u) (pointOf T (u ⊗ steps)) zero64
 
 -- ---- the sine
 abbrev pub readingOf : Float → Float
 readingOf u = readingIn quarter u
 
 abbrev pub sineOf : Float → Value
-sineOf u = valueOr (unless (within naught one u) Argument) (readingOf u)
+sineOf u = valueOr (unless (within zero64 one u) Argument) (readingOf u)

@@ -9,7 +9,7 @@ use lib.ListN.{length, getD}
 use lib.Ieee.{Float, nan}
 use Rattle.runs.specs.Runs.{listed}
 use Rattle.floats.specs.Range.{within}
-use Rattle.floats.specs.Double.{_⊖_, _⊗_, naught, one}
+use Rattle.floats.specs.Double.{_⊖_, _⊗_, zero64, one}
 use Rattle.sine.specs.Table.{quarter}
 use Rattle.sine.specs.Sine.{steps, wholePart, float, startOf, lineOf}
 
@@ -30,8 +30,8 @@ abbrev pub wholeLine : List Float → ℕ → Float → Float
 wholeLine W i f = lineOf (getD W i nan) (getD W (i + 1) nan) f
 
 unfoldable pub wholePointOf : List Float → Float → Float
-wholePointOf W p = let i = wholePart p in cond (eqb i 4096) (wholeLine W 0 naught) (wholeLine W i (p ⊖ float (pos i)))
+wholePointOf W p = let i = wholePart p in cond (eqb i 4096) (wholeLine W 0 zero64) (wholeLine W i (p ⊖ float (pos i)))
 
 -- at u; +0 outside 0 to 1, and of a table of another length
 unfoldable pub wholeReading : List Float → Float → Float
-wholeReading W u = cond (within naught one u && eqb (length W) 4097) (wholePointOf W (u ⊗ steps)) naught
+wholeReading W u = cond (within zero64 one u && eqb (length W) 4097) (wholePointOf W (u ⊗ steps)) zero64

@@ -5,7 +5,7 @@ ghost use Prim.Native.Nat.{_≤_, _<_};
 ghost use lib.Dec.{T};
 ghost use lib.ListN.{length, getD};
 ghost use Rattle.floats.specs.Range.{within};
-ghost use Rattle.floats.specs.Double.{naught};
+ghost use Rattle.floats.specs.Double.{zero64};
 ghost use Rattle.sine.specs.Table.{quarter};
 ghost use Rattle.sine.specs.Sine.{steps, wholePart, float, signedOf, lineOf, betweenOf, pointOf, readingIn, readingOf, sineOf};
 ghost use Rattle.sine.specs.Whole.{wholeWave, wholePointOf, wholeReading};
@@ -54,7 +54,7 @@ pub fn reading_in(wave: &[u32; 1025], u: f64) -> f64
 
 // At p points from the start of the wave, which has 4,096.
 fn point(wave: &[u32; 1025], p: f64) -> f64
-    requires { ⌜ T (within naught steps p) ⌝ }
+    requires { ⌜ T (within zero64 steps p) ⌝ }
     ensures { λ r. ⌜ r ≡ pointOf (now (wave .entry)) p ⌝ }
 {
     let i = whole_part(p);
@@ -66,7 +66,7 @@ fn point(wave: &[u32; 1025], p: f64) -> f64
 
 // From the bits: what is below 1 has none.
 fn whole_part(p: f64) -> u32
-    requires { ⌜ T (within naught steps p) ⌝ }
+    requires { ⌜ T (within zero64 steps p) ⌝ }
     ensures { λ r. ⌜ (r ≡ wholePart p) × (r ≤ 4096) ⌝ }
 {
     if p < 1.0 {
@@ -188,7 +188,7 @@ pub fn whole_reading(wave: &[f64], u: f64) -> f64
 
 fn whole_point(wave: &[f64], p: f64) -> f64
     requires { ⌜ length (now wave) ≡ 4097 ⌝ }
-    requires { ⌜ T (within naught steps p) ⌝ }
+    requires { ⌜ T (within zero64 steps p) ⌝ }
     ensures { λ r. ⌜ r ≡ wholePointOf (now (wave .entry)) p ⌝ }
 {
     let i = whole_part(p) as usize;

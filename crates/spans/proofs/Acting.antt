@@ -13,19 +13,19 @@ use Rattle.state.specs.declared.Settings.{Settings}
 use Rattle.state.specs.declared.State.{State}
 use Rattle.state.specs.State.{reducedOf, eventOf, actOf}
 use Rattle.spans.specs.declared.Place.{Place}
-use Rattle.spans.specs.Walk.{placeOf, standsAt, actFrom, beginsAt, reducedAt, begunFrom}
+use Rattle.spans.specs.Walk.{placeOf, isDueAt, actFrom, beginsAt, reducedAt, begunFrom}
 
-pub act-stop : (g : Settings) (s : List ℕ) (n k : ℕ) (p : Place) → standsAt s (p .next) n ≡ false → actFrom g s n k p ≡ p
+pub act-stop : (g : Settings) (s : List ℕ) (n k : ℕ) (p : Place) → isDueAt s (p .next) n ≡ false → actFrom g s n k p ≡ p
 unfolding actFrom
 act-stop g s n zero p f = refl
 act-stop g s n (suc k) p f = rw f refl
 
 -- a record that is at n exists
-pub is-there : (s : List ℕ) (n i : ℕ) → standsAt s i n ≡ true → i < countOf s
+pub is-there : (s : List ℕ) (n i : ℕ) → isDueAt s i n ≡ true → i < countOf s
 is-there s n i t = ltb-true _ _ (both (ltb i (countOf s)) (eqb (positionAt s i) n) t .0)
 
 module _ (g : Settings) (s : List ℕ) (n i : ℕ) (v : State) where
-  pub act-on : (p : Place) → standsAt s i n ≡ true → p ≡ placeOf (actOf g v (eventOf g (recordAt s i))) (i + 1) → actFrom g s n (countOf s - i) (placeOf v i) ≡ actFrom g s n (countOf s - p .next) p
+  pub act-on : (p : Place) → isDueAt s i n ≡ true → p ≡ placeOf (actOf g v (eventOf g (recordAt s i))) (i + 1) → actFrom g s n (countOf s - i) (placeOf v i) ≡ actFrom g s n (countOf s - p .next) p
   unfolding actFrom
   act-on p t e = let h = is-there s n i t in let d : countOf s - i ≡ suc (countOf s - (i + 1)) = omega arith in rw (e, d, t, add-one i) refl
 

@@ -22,7 +22,7 @@ use Rattle.state.specs.State.{reducedOf, eventOf, actOf, sampleOf, advanceOf}
 use Rattle.state.specs.Heart.{hasAt, actTo, begun, stateFrom, samplesFrom}
 use Rattle.state.proofs.Depends.{has-none, act-none}
 use Rattle.spans.specs.declared.Place.{Place}
-use Rattle.spans.specs.Walk.{placeOf, standsAt, actFrom, beginsAt, reducedAt, begunFrom, placeFrom, playedFrom}
+use Rattle.spans.specs.Walk.{placeOf, isDueAt, actFrom, beginsAt, reducedAt, begunFrom, placeFrom, playedFrom}
 
 -- from v the records at n have acted, and the next record is above n
 pub record Acts (g : Settings) (s : List ℕ) (n : ℕ) (v : State) (r : Place) : Type 0 where
@@ -90,7 +90,7 @@ module _ (g : Settings) (s : List ℕ) (o : Sorted s) (n i : ℕ) (c : Cut s n i
       ⊎-elim (λ l. none-before j l e)
       (λ g. let p : positionAt s i ≤ positionAt s j = sorted-le s o i j g (omega arith) in let q : n ≤ positionAt s i = c .highs i (omega arith) (omega arith) in f (omega arith) (omega arith)) (lt-or-ge j i)))
 
-  stands-agrees : standsAt s i n ≡ hasAt s n (countOf s)
+  stands-agrees : isDueAt s i n ≡ hasAt s n (countOf s)
   stands-agrees =
       ⊎-elim (λ h. rw (lt-ltb i (countOf s) h) (go h (eqb (positionAt s i) n) refl))
       (λ g. rw (le-ltb i (countOf s) g) (sym (has-not (λ h. omega arith)))) (lt-or-ge i (countOf s))

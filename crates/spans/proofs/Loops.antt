@@ -14,7 +14,7 @@ use Rattle.state.specs.declared.State.{State}
 use Rattle.spans.specs.declared.Place.{Place}
 use Rattle.spans.specs.declared.Walker.{Walker}
 use Rattle.spans.specs.Walk.{placeOf, begunFrom, placeFrom, playedFrom, Played}
-use Rattle.spans.specs.Inner.{Sounded, beginsIn, At, FirstAfter}
+use Rattle.spans.specs.Inner.{SpanPlayed, beginsIn, At, FirstAfter}
 use Rattle.spans.proofs.Offsets.{first-so, begins-so}
 use Rattle.spans.proofs.Turns.{turn-length, turn-stands, turn-heard}
 
@@ -32,7 +32,7 @@ module _ (g : Settings) (s : List ℕ) (n : ℕ) (p : Place) (before : List Floa
 
   -- a turn: the span up to e is begun at b, and its samples are ys, with the state u after them
   pub goes-on : (part : List Float) (at : Place) (i : ℕ) (b : Walker) (e : ℕ) (ys : List Float) (u : State) → Upto part at i → At s n (begunFrom g s (n + i) at) b → FirstAfter (beginsIn b n) i (length part) e
-      → Sounded g (b .state) (midOf i (e - i) part) ys u → Upto (putMid i (e - i) part ys) (placeOf u (b .next)) e
+      → SpanPlayed g (b .state) (midOf i (e - i) part) ys u → Upto (putMid i (e - i) part ys) (placeOf u (b .next)) e
   goes-on part at i b e ys u v h z x =
       let here : placeOf (b .state) (b .next) ≡ begunFrom g s (n + i) (placeFrom g s n p i) = h .place ∙ ap (begunFrom g s (n + i)) (v .place) in
       let follows : b .next ≡ begunFrom g s (n + i) (placeFrom g s n p i) .next = ap (λ (q : Place). q .next) here in

@@ -11,8 +11,8 @@ use Rattle.score.specs.Record.{countOf, positionAt}
 use Rattle.score.proofs.Codec.{both, either}
 use Rattle.score.proofs.Parted.{clash}
 use Rattle.spans.specs.declared.Walker.{Walker}
-use Rattle.spans.specs.Walk.{standsAt, beginsAt}
-use Rattle.spans.specs.Inner.{standsIn, isMark, beginsIn, Sees, FirstAfter}
+use Rattle.spans.specs.Walk.{isDueAt, beginsAt}
+use Rattle.spans.specs.Inner.{isDueIn, isBlockStart, beginsIn, Sees, FirstAfter}
 
 -- if `p || q` is false, p and q are
 pub neither : (p q : Bool) → (p || q) ≡ false → (p ≡ false) × (q ≡ false)
@@ -29,24 +29,24 @@ distance-is p n a h = go (eqb (p - n) a) refl
 
 -- ---- where record i is, as an offset from position n
 module _ (s : List ℕ) (i n : ℕ) where
-  pub passed : (leb (countOf s) i || ltb (positionAt s i) n) ≡ true → (m : ℕ) → false ≡ standsAt s i (n + m)
+  pub passed : (leb (countOf s) i || ltb (positionAt s i) n) ≡ true → (m : ℕ) → false ≡ isDueAt s i (n + m)
   passed e m = ⊎-elim (λ h. rw (le-ltb i (countOf s) (leb-true _ _ h)) refl) (λ h. let l : positionAt s i < n = ltb-true _ _ h in rw (ne-eqb (positionAt s i) (n + m) (λ z. omega arith)) (sym (and-false (ltb i (countOf s))))) (either (leb (countOf s) i) (ltb (positionAt s i) n) e)
 
-  pub ahead : (leb (countOf s) i || ltb (positionAt s i) n) ≡ false → (m : ℕ) → eqb (positionAt s i - n) m ≡ standsAt s i (n + m)
+  pub ahead : (leb (countOf s) i || ltb (positionAt s i) n) ≡ false → (m : ℕ) → eqb (positionAt s i - n) m ≡ isDueAt s i (n + m)
   ahead e m = let f = neither (leb (countOf s) i) (ltb (positionAt s i) n) e in rw (lt-ltb i (countOf s) (leb-false _ _ (f .0))) (distance-is (positionAt s i) n m (ltb-false _ _ (f .1)))
 
 -- what a walker has read is true of the score: its next record, and where a span begins
-pub stands-so : (s : List ℕ) (n m : ℕ) (w : Walker) (r t : Bool) → Sees s n w → r ≡ standsIn w m → r ≡ t → standsAt s (w .next) (n + m) ≡ t
-stands-so s n m w r t v e h = sym (v m) ∙ sym e ∙ h
+pub due-so : (s : List ℕ) (n m : ℕ) (w : Walker) (r t : Bool) → Sees s n w → r ≡ isDueIn w m → r ≡ t → isDueAt s (w .next) (n + m) ≡ t
+due-so s n m w r t v e h = sym (v m) ∙ sym e ∙ h
 
 pub begins-so : (s : List ℕ) (n : ℕ) (w : Walker) → Sees s n w → (m : ℕ) → beginsIn w n m ≡ beginsAt s (w .next) (n + m)
 begins-so s n w v m = rw (v m) refl
 
 -- ---- the end of a span
-pub block-to-end : (n a k : ℕ) → a < k → k - a < 64 - (n + a) % 64 → FirstAfter (isMark n) a k k
+pub block-to-end : (n a k : ℕ) → a < k → k - a < 64 - (n + a) % 64 → FirstAfter (isBlockStart n) a k k
 block-to-end n a k h l = record { after = h; within = omega arith; ends = λ x. eq-eqb ((n + k) % 64) 0 (omega arith); apart = λ m x y. ne-eqb ((n + m) % 64) 0 (λ e. omega arith) }
 
-pub block-to-next : (n a k t : ℕ) → t ≡ (n + a) % 64 → 64 - t ≤ k - a → FirstAfter (isMark n) a k (a + (64 - t))
+pub block-to-next : (n a k t : ℕ) → t ≡ (n + a) % 64 → 64 - t ≤ k - a → FirstAfter (isBlockStart n) a k (a + (64 - t))
 block-to-next n a k t q l = record { after = omega arith; within = omega arith; ends = λ x. eq-eqb ((n + (a + (64 - t))) % 64) 0 (omega arith); apart = λ m x y. ne-eqb ((n + m) % 64) 0 (λ e. omega arith) }
 
 -- equal tests have the same first offset
@@ -54,7 +54,7 @@ pub first-so : (test other : ℕ → Bool) (a k r : ℕ) → ((m : ℕ) → test
 first-so test other a k r e f = record { after = f .after; within = f .within; ends = λ x. sym (e r) ∙ f .ends x; apart = λ m x y. sym (e m) ∙ f .apart m x y }
 
 -- if the walker's next record comes before the end of the block, the span ends at the record, else with the block
-module _ (n a k e : ℕ) (w : Walker) (b : FirstAfter (isMark n) a k e) where
+module _ (n a k e : ℕ) (w : Walker) (b : FirstAfter (isBlockStart n) a k e) where
   pub end-record : (w .waits && ltb a (w .due) && ltb (w .due) e) ≡ true → FirstAfter (beginsIn w n) a k (w .due)
   end-record t =
       let u = both (w .waits && ltb a (w .due)) (ltb (w .due) e) t in
@@ -64,7 +64,7 @@ module _ (n a k e : ℕ) (w : Walker) (b : FirstAfter (isMark n) a k e) where
       record {
         after = x;
         within = omega (arith, b .within);
-        ends = λ z. rw (v .0, eq-eqb (w .due) (w .due) refl) (or-true (isMark n (w .due)));
+        ends = λ z. rw (v .0, eq-eqb (w .due) (w .due) refl) (or-true (isBlockStart n (w .due)));
         apart = λ m p q. rw (b .apart m p (omega arith), ne-eqb (w .due) m (λ z. omega arith)) (and-false (w .waits));
       }
 
@@ -74,10 +74,10 @@ module _ (n a k e : ℕ) (w : Walker) (b : FirstAfter (isMark n) a k e) where
         after = b .after;
         within = b .within;
         ends = λ x. rw (b .ends x) refl;
-        apart = λ m x y. rw (b .apart m x y) (go m x y (standsIn w m) refl);
+        apart = λ m x y. rw (b .apart m x y) (go m x y (isDueIn w m) refl);
       }
     where
-      go : (m : ℕ) → a < m → m < e → (t : Bool) → standsIn w m ≡ t → t ≡ false
+      go : (m : ℕ) → a < m → m < e → (t : Bool) → isDueIn w m ≡ t → t ≡ false
       go m x y false h = refl
       go m x y true h =
           let v = both (w .waits) (eqb (w .due) m) h in

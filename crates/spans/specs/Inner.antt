@@ -17,26 +17,26 @@ use Rattle.state.specs.declared.State.{State}
 use Rattle.state.specs.State.{sampleOf, advanceOf}
 use Rattle.spans.specs.declared.Place.{Place}
 use Rattle.spans.specs.declared.Walker.{Walker}
-use Rattle.spans.specs.Walk.{placeOf, standsAt}
+use Rattle.spans.specs.Walk.{placeOf, isDueAt}
 
 -- ---- a span: samples between which nothing is reduced and no record acts. 01, "Making sample n": "the sample is
 -- oscillator value * envelope level * velocity, left to right, and both advance"
 -- the state after k samples
-unfoldable pub advances : Settings → State → ℕ → State
-advances g v k = repeated (advanceOf g) v k
+unfoldable pub spanState : Settings → State → ℕ → State
+spanState g v k = repeated (advanceOf g) v k
 
 -- the first k samples
-unfoldable pub plain : Settings → State → ℕ → List Float
-plain g v k = listed (λ (i : ℕ). sampleOf g (advances g v i)) k
+unfoldable pub spanSamples : Settings → State → ℕ → List Float
+spanSamples g v k = listed (λ (i : ℕ). sampleOf g (spanState g v i)) k
 
 -- a lent table W gives the value of each waveform: true of the whole wave, and of an empty table
-abbrev pub Serves : List Float → Type 0
-Serves W = (w : Waveform) (step p : Float) → valueIn W w step p ≡ valueAt w step p
+abbrev pub IsWaveTable : List Float → Type 0
+IsWaveTable W = (w : Waveform) (step p : Float) → valueIn W w step p ≡ valueAt w step p
 
 -- a lent part is filled with the samples of a span, and r is the state after them
-pub record Sounded (g : Settings) (v : State) (before after : List Float) (r : State) : Type 0 where
-  pub samples : after ≡ plain g v (length before)
-  pub state : r ≡ advances g v (length before)
+pub record SpanPlayed (g : Settings) (v : State) (before after : List Float) (r : State) : Type 0 where
+  pub samples : after ≡ spanSamples g v (length before)
+  pub state : r ≡ spanState g v (length before)
 
 -- ---- a walk with the position of the next record read
 abbrev pub placeIn : Walker → Place
@@ -44,20 +44,20 @@ placeIn w = placeOf (w .state) (w .next)
 
 -- ---- offsets m in a part that begins at position n
 -- whether the next record is at offset m
-abbrev pub standsIn : Walker → ℕ → Bool
-standsIn w m = w .waits && eqb (w .due) m
+abbrev pub isDueIn : Walker → ℕ → Bool
+isDueIn w m = w .waits && eqb (w .due) m
 
 -- whether offset m is at a multiple of 64
-abbrev pub isMark : ℕ → ℕ → Bool
-isMark n m = eqb ((n + m) % 64) 0
+abbrev pub isBlockStart : ℕ → ℕ → Bool
+isBlockStart n m = eqb ((n + m) % 64) 0
 
 -- whether a span begins at offset m
 abbrev pub beginsIn : Walker → ℕ → ℕ → Bool
-beginsIn w n m = isMark n m || standsIn w m
+beginsIn w n m = isBlockStart n m || isDueIn w m
 
 -- what the walker has read of its next record agrees with the score
 abbrev pub Sees : List ℕ → ℕ → Walker → Type 0
-Sees s n w = (m : ℕ) → standsIn w m ≡ standsAt s (w .next) (n + m)
+Sees s n w = (m : ℕ) → isDueIn w m ≡ isDueAt s (w .next) (n + m)
 
 -- the walker is at place p, and what it has read agrees with the score
 pub record At (s : List ℕ) (n : ℕ) (p : Place) (w : Walker) : Type 0 where

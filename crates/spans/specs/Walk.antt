@@ -24,8 +24,8 @@ placeOf v i = record { state = v; next = i }
 
 -- ---- sample n is begun
 -- whether record i exists and has position n
-abbrev pub standsAt : List ℕ → ℕ → ℕ → Bool
-standsAt s i n = ltb i (countOf s) && eqb (positionAt s i) n
+abbrev pub isDueAt : List ℕ → ℕ → ℕ → Bool
+isDueAt s i n = ltb i (countOf s) && eqb (positionAt s i) n
 
 -- the next record acts
 abbrev pub actNext : Settings → List ℕ → Place → Place
@@ -34,11 +34,11 @@ actNext g s p = placeOf (actOf g (p .state) (eventOf g (recordAt s (p .next)))) 
 -- of the next k records the first ones act, as long as they are at n
 unfoldable pub actFrom : Settings → List ℕ → ℕ → ℕ → Place → Place
 actFrom g s n zero p = p
-actFrom g s n (suc k) p = cond (standsAt s (p .next) n) (actFrom g s n k (actNext g s p)) p
+actFrom g s n (suc k) p = cond (isDueAt s (p .next) n) (actFrom g s n k (actNext g s p)) p
 
 -- whether a span begins at n
 abbrev pub beginsAt : List ℕ → ℕ → ℕ → Bool
-beginsAt s i n = eqb (n % 64) 0 || standsAt s i n
+beginsAt s i n = eqb (n % 64) 0 || isDueAt s i n
 
 abbrev pub reducedAt : Place → Place
 reducedAt p = placeOf (reducedOf (p .state)) (p .next)

@@ -8,7 +8,7 @@ ghost use mathlib.Core.Bool.{cond};
 ghost use Prim.Native.Nat.{_+_, _%_, _<_};
 ghost use Rattle.state.specs.State.{reducedOf};
 ghost use Rattle.spans.specs.Walk.{begunFrom, Played};
-ghost use Rattle.spans.specs.Inner.{Serves, Sounded, placeIn, standsIn, isMark, beginsIn, Sees, At, FirstAfter};
+ghost use Rattle.spans.specs.Inner.{IsWaveTable, SpanPlayed, placeIn, isDueIn, isBlockStart, beginsIn, Sees, At, FirstAfter};
 use state::Settings;
 use state::State;
 use waveform::Waveform;
@@ -20,7 +20,7 @@ const BLOCK: u64 = 64;
 const LONG: usize = 1024;
 
 // The largest number of samples of a call of the library.
-const MOST: usize = 16777216;
+const MOST_SAMPLES: usize = 16777216;
 
 // The state before a sample is begun, and the index of the first record that has not acted.
 pub struct Place {
@@ -55,7 +55,7 @@ pub fn play(
         }
     }
     // Never true in the library. A lone call of `play_long` would be inlined, with the 32 KB of its wave on the stack.
-    if MOST < part.len() {
+    if MOST_SAMPLES < part.len() {
         return play_long(settings, score, place, position, part);
     }
     play_short(settings, score, place, position, part)
@@ -98,7 +98,7 @@ fn play_in(
     position: u64,
     part: &mut [f64],
 ) -> Place
-    requires { ⌜ Serves (now wave) ⌝ }
+    requires { ⌜ IsWaveTable (now wave) ⌝ }
     ensures { λ r. ⌜ Played settings (now (score .entry)) position place (now (part .entry)) (now (part .exit)) r ⌝ }
 {
     let mut at = walker_at(score, place, position);
@@ -106,7 +106,7 @@ fn play_in(
     while i < part.len() {
         let begun = begin(settings, score, at, position, i);
         let end = span_end(begun, position, i, part.len());
-        let state = sound(wave, settings, begun.state, &mut part[i..end]);
+        let state = play_span(wave, settings, begun.state, &mut part[i..end]);
         at = begun;
         at.state = state;
         i = end;
@@ -146,13 +146,13 @@ fn begin(settings: Settings, score: &[u8], walker: Walker, position: u64, offset
     requires { ⌜ Sees (now score) position walker ⌝ }
     ensures { λ r. ⌜ At (now (score .entry)) position (begunFrom settings (now (score .entry)) (position + offset) (placeIn walker)) r ⌝ }
 {
-    let state = settled(
+    let state = reduced_if(
         walker.state,
-        (into_block(position, offset) == 0) | stands_at(walker, offset),
+        (into_block(position, offset) == 0) | is_due(walker, offset),
     );
     let mut at = walker;
     at.state = state;
-    while stands_at(at, offset) {
+    while is_due(at, offset) {
         let event = state::event_of(settings, score::record_at(score, at.next));
         let state = state::act(settings, at.state, event);
         let next = at.next + 1;
@@ -161,7 +161,7 @@ fn begin(settings: Settings, score: &[u8], walker: Walker, position: u64, offset
     at
 }
 
-fn settled(state: State, begins: bool) -> State
+fn reduced_if(state: State, begins: bool) -> State
     ensures { λ r. ⌜ r ≡ cond begins (reducedOf state) state ⌝ }
 {
     if begins {
@@ -171,8 +171,8 @@ fn settled(state: State, begins: bool) -> State
 }
 
 // Whether the next record is at an offset.
-fn stands_at(walker: Walker, offset: usize) -> bool
-    ensures { λ r. ⌜ r ≡ standsIn walker offset ⌝ }
+fn is_due(walker: Walker, offset: usize) -> bool
+    ensures { λ r. ⌜ r ≡ isDueIn walker offset ⌝ }
 {
     walker.waits & (walker.due == offset)
 }
@@ -200,7 +200,7 @@ fn span_end(walker: Walker, position: u64, offset: usize, length: usize) -> usiz
 // The offset of the next multiple of 64, or of the end of the part.
 fn block_end(position: u64, offset: usize, length: usize) -> usize
     requires { ⌜ offset < length ⌝ }
-    ensures { λ r. ⌜ FirstAfter (isMark position) offset length r ⌝ }
+    ensures { λ r. ⌜ FirstAfter (isBlockStart position) offset length r ⌝ }
 {
     let room = length - offset;
     let left = (BLOCK - into_block(position, offset)) as usize;
@@ -211,9 +211,9 @@ fn block_end(position: u64, offset: usize, length: usize) -> usize
 }
 
 // One span: the waveform's inner loop fills the part, then each value is multiplied by the level and the velocity.
-fn sound(wave: &[f64], settings: Settings, state: State, part: &mut [f64]) -> State
-    requires { ⌜ Serves (now wave) ⌝ }
-    ensures { λ r. ⌜ Sounded settings state (now (part .entry)) (now (part .exit)) r ⌝ }
+fn play_span(wave: &[f64], settings: Settings, state: State, part: &mut [f64]) -> State
+    requires { ⌜ IsWaveTable (now wave) ⌝ }
+    ensures { λ r. ⌜ SpanPlayed settings state (now (part .entry)) (now (part .exit)) r ⌝ }
 {
     let waveform = settings.waveform;
     let adsr = settings.adsr;

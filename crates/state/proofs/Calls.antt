@@ -11,9 +11,9 @@ use Prim.Native.Nat.{ℕ}
 use lib.Ieee.{Float, binary32, binary64, ofBits}
 use lib.Ieee.Fits.{and-i}
 use borrow.Author.Tests.{le-leb}
-use Rattle.floats.specs.Range.{lit0, lit1}
-use Rattle.floats.specs.Double.{naught, one}
-use Rattle.floats.proofs.Literals.{lit0-is, lit1-is}
+use Rattle.floats.specs.Range.{zeroOf, oneOf}
+use Rattle.floats.specs.Double.{zero64, one}
+use Rattle.floats.proofs.Literals.{zeroOf-is, oneOf-is}
 use Rattle.domain.specs.Domain.{isMidi, highestPitch, isPitch}
 use Rattle.answers.specs.declared.Answer.the-variants.{Done}
 use Rattle.answers.specs.declared.Refusal.{Refusal}
@@ -21,7 +21,7 @@ use Rattle.answers.specs.declared.Refusal.the-variants.{Argument}
 use Rattle.answers.specs.Order.{unless}
 use Rattle.answers.proofs.Order.{none-refused}
 use Rattle.voice.specs.Keys.{pressedOf, liftedOf, isKeys}
-use Rattle.voice.specs.Voice.{isLoud, isVoice, isReleased, changedOr, offOr, struck, heardOf}
+use Rattle.voice.specs.Voice.{isLoud, isVoice, isReleased, changedOr, offOr, soundingOf, afterLiftOf}
 use Rattle.voice.specs.Voice as voice
 use Rattle.voice.specs.declared.VoiceState.{VoiceState}
 use Rattle.voice.specs.declared.Changed.{Changed}
@@ -41,7 +41,7 @@ use Rattle.state.specs.declared.Settings.{Settings}
 use Rattle.state.specs.declared.State.{State}
 use Rattle.state.specs.declared.Event.{Event}
 use Rattle.state.specs.declared.Event.the-variants as event
-use Rattle.state.specs.State.{concert, freshOf, liftedBy, actOf}
+use Rattle.state.specs.State.{concert, freshOf, afterNoteOff, actOf}
 use Rattle.state.specs.Calls.{Alike, voiceCall, envelopeCall, phaseThen}
 use Rattle.state.proofs.Limits.{is-true, Kept, EventIn}
 
@@ -64,16 +64,16 @@ same-top : highestPitch binary64 ≡ highestPitch binary32
 unfolding ofBits
 same-top = refl
 
-same-naught : naught ≡ lit0 binary32
-same-naught = lit0-is binary64 ∙ sym (lit0-is binary32)
+same-zero : zero64 ≡ zeroOf binary32
+same-zero = zeroOf-is binary64 ∙ sym (zeroOf-is binary32)
 
-same-one : one ≡ lit1 binary32
-same-one = lit1-is binary64 ∙ sym (lit1-is binary32)
+same-one : one ≡ oneOf binary32
+same-one = oneOf-is binary64 ∙ sym (oneOf-is binary32)
 
 -- ---- the events
 module _ (g : Settings) (v : State) (w : VoiceState) (b : EnvelopeBlock) (a : Alike v w b) where
   -- a key is lifted, and `keys` are left: block c is b, released if the voice is
-  left-alike : (keys : Keys) (off : NoteOff) (c : EnvelopeBlock) → c .envelope ≡ cond (isReleased off) (releasedOf (b .envelope)) (b .envelope) → Alike (liftedBy v keys off) (heardOf w keys off) c
+  left-alike : (keys : Keys) (off : NoteOff) (c : EnvelopeBlock) → c .envelope ≡ cond (isReleased off) (releasedOf (b .envelope)) (b .envelope) → Alike (afterNoteOff v keys off) (afterLiftOf w keys off) c
   left-alike keys Released c e = record { keys = refl; frequency = a .frequency; velocity = a .velocity; envelope = ap releasedOf (a .envelope) ∙ sym e }
   left-alike keys (FellBack note velocity) c e = record { keys = refl; frequency = refl; velocity = refl; envelope = a .envelope ∙ sym e }
   left-alike keys NoChange c e = record { keys = refl; frequency = a .frequency; velocity = a .velocity; envelope = a .envelope ∙ sym e }
@@ -84,22 +84,22 @@ module _ (g : Settings) (v : State) (w : VoiceState) (b : EnvelopeBlock) (a : Al
   off-block false d = refl
 
   -- voice and state lift the same keys
-  lift-is : (note : ℕ) → actOf g v (event.Lift note) ≡ liftedBy v (liftedOf (w .keys) note .keys) (liftedOf (w .keys) note .off)
+  lift-is : (note : ℕ) → actOf g v (event.Lift note) ≡ afterNoteOff v (liftedOf (w .keys) note .keys) (liftedOf (w .keys) note .off)
   unfolding actOf
-  lift-is note = ap (λ (keys : Keys). liftedBy v (liftedOf keys note .keys) (liftedOf keys note .off)) (a .keys)
+  lift-is note = ap (λ (keys : Keys). afterNoteOff v (liftedOf keys note .keys) (liftedOf keys note .off)) (a .keys)
 
   lift-alike : (note : ℕ) → voiceCall w (event.Lift note) .answer ≡ Done 0 → envelopeCall w b (event.Lift note) .answer ≡ Done 0
       → Alike (actOf g v (event.Lift note)) (voiceCall w (event.Lift note) .voice) (envelopeCall w b (event.Lift note) .block)
   lift-alike note d f =
       let l = liftedOf (w .keys) note in
-      let o = off-left (unless (isVoice w && isMidi note) Argument) (isReleased (l .off)) w (heardOf w (l .keys) (l .off)) d in
+      let o = off-left (unless (isVoice w && isMidi note) Argument) (isReleased (l .off)) w (afterLiftOf w (l .keys) (l .off)) d in
       rw (lift-is note, o .0) (left-alike (l .keys) (l .off) (envelopeCall w b (event.Lift note) .block) (off-block (voice.noteOffOf w note .released) f ∙ rw (o .1) refl))
 
   -- if both calls are done, they leave what the event does
   pub calls-act : (e : Event) → voiceCall w e .answer ≡ Done 0 → envelopeCall w b e .answer ≡ Done 0 → Alike (actOf g v e) (voiceCall w e .voice) (envelopeCall w b e .block)
   unfolding actOf
   calls-act (event.Strike note velocity) d f =
-      let after = struck (pressedOf (w .keys) note velocity) note velocity in
+      let after = soundingOf (pressedOf (w .keys) note velocity) note velocity in
       let left = voice-left (unless (isVoice w && isMidi note && isMidi velocity) Argument) w after d in
       record {
         keys = rw (a .keys, left) refl;
@@ -108,15 +108,15 @@ module _ (g : Settings) (v : State) (w : VoiceState) (b : EnvelopeBlock) (a : Al
         envelope = rw (a .envelope, block-left b (triggeredOf (b .envelope)) f) refl;
       }
   calls-act (event.Lift note) d f = lift-alike note d f
-  calls-act event.Reset d f = let left = voice-left (unless (isVoice w) Argument) w voice.newOf d in record { keys = rw left refl; frequency = rw left same-pitch; velocity = rw left same-naught; envelope = rw (block-left b stages.freshOf f) refl }
+  calls-act event.Reset d f = let left = voice-left (unless (isVoice w) Argument) w voice.newOf d in record { keys = rw left refl; frequency = rw left same-pitch; velocity = rw left same-zero; envelope = rw (block-left b stages.freshOf f) refl }
 
   -- the envelope is released exactly if the voice's note_off returned true
   pub released-decides : (note : ℕ) → voice.noteOffOf w note .answer ≡ Done 0 → actOf g v (event.Lift note) .envelope ≡ cond (voice.noteOffOf w note .released) (releasedOf (v .envelope)) (v .envelope)
   released-decides note d =
       let l = liftedOf (w .keys) note in
-      rw (lift-is note, off-left (unless (isVoice w && isMidi note) Argument) (isReleased (l .off)) w (heardOf w (l .keys) (l .off)) d .1) (go (l .keys) (l .off))
+      rw (lift-is note, off-left (unless (isVoice w && isMidi note) Argument) (isReleased (l .off)) w (afterLiftOf w (l .keys) (l .off)) d .1) (go (l .keys) (l .off))
     where
-      go : (keys : Keys) (off : NoteOff) → liftedBy v keys off .envelope ≡ cond (isReleased off) (releasedOf (v .envelope)) (v .envelope)
+      go : (keys : Keys) (off : NoteOff) → afterNoteOff v keys off .envelope ≡ cond (isReleased off) (releasedOf (v .envelope)) (v .envelope)
       go keys Released = refl
       go keys (FellBack note velocity) = refl
       go keys NoChange = refl
@@ -127,7 +127,7 @@ unfolding actOf
 phase-then g v (event.Strike note velocity) = refl
 phase-then g v (event.Lift note) = go (liftedOf (v .keys) note .keys) (liftedOf (v .keys) note .off)
   where
-    go : (keys : Keys) (off : NoteOff) → liftedBy v keys off .phase ≡ v .phase
+    go : (keys : Keys) (off : NoteOff) → afterNoteOff v keys off .phase ≡ v .phase
     go keys Released = refl
     go keys (FellBack note velocity) = refl
     go keys NoChange = refl
@@ -135,7 +135,7 @@ phase-then g v event.Reset = refl
 
 -- a fresh state, a new voice and a new block
 pub fresh-alike : (acted : ℕ) (attack decay sustain release : Float) → Alike (freshOf acted) voice.newOf (envelope.newOf attack decay sustain release)
-fresh-alike acted attack decay sustain release = record { keys = refl; frequency = same-pitch; velocity = same-naught; envelope = refl }
+fresh-alike acted attack decay sustain release = record { keys = refl; frequency = same-pitch; velocity = same-zero; envelope = refl }
 
 -- ---- both calls are done
 module _ (P : Float → Type 0) (v : State) (k : Kept P v) (w : VoiceState) (b : EnvelopeBlock) (a : Alike v w b) where
@@ -144,8 +144,8 @@ module _ (P : Float → Type 0) (v : State) (k : Kept P v) (w : VoiceState) (b :
   voice-in =
       is-true (isVoice w)
       (and-i (isKeys (w .keys) && isLoud (w .velocity)) (isPitch binary32 (w .frequency))
-      (and-i (isKeys (w .keys)) (isLoud (w .velocity)) (rw (a .keys) at (k .keys-in)) (rw (a .velocity, same-naught, same-one) at (k .velocity-in)))
-      (rw (a .frequency, same-naught, same-top) at (k .pitch-in)))
+      (and-i (isKeys (w .keys)) (isLoud (w .velocity)) (rw (a .keys) at (k .keys-in)) (rw (a .velocity, same-zero, same-one) at (k .velocity-in)))
+      (rw (a .frequency, same-zero, same-top) at (k .pitch-in)))
 
   block-in : isEnvelope (b .envelope) ≡ true
   block-in = is-true (isEnvelope (b .envelope)) (rw (a .envelope) at (k .envelope-in))

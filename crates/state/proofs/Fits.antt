@@ -7,7 +7,7 @@ use lib.Dec.{T}
 use lib.Ieee.{Float, binary32, binary64, rem, lt, fits}
 use lib.Ieee.Fits.{cond-fits, add-fits, div-fits, rem-fits, fits-widens}
 use lib.Ieee.Bits.{ofBits-fits}
-use Rattle.floats.specs.Double.{_⊕_, naught, one}
+use Rattle.floats.specs.Double.{_⊕_, zero64, one}
 use Rattle.pitch.specs.Pitch.{frequencyOf}
 use Rattle.pitch.proofs.Rules.{frequency-fits}
 use Rattle.voice.specs.Keys.{liftedOf}
@@ -23,7 +23,7 @@ use Rattle.state.specs.declared.Settings.{Settings}
 use Rattle.state.specs.declared.State.{State}
 use Rattle.state.specs.declared.Event.{Event}
 use Rattle.state.specs.declared.Event.the-variants as event
-use Rattle.state.specs.State.{freshOf, reducedOf, liftedBy, actOf, paceOf, advanceOf}
+use Rattle.state.specs.State.{freshOf, reducedOf, afterNoteOff, actOf, phaseStepOf, advanceOf}
 use Rattle.state.specs.Heart.{stateFrom}
 use Rattle.state.proofs.Lasting.{every-state}
 
@@ -43,12 +43,12 @@ loudness-fits v = fits-widens (velocityOf v) (div-fits binary32 _ _)
 
 reduce-fits : (p : Float) → T (fits binary64 p) → T (fits binary64 (reduceOf p))
 unfolding reduceOf
-reduce-fits p h = let r = rem binary64 p tau in cond-fits binary64 (lt r naught) (r ⊕ tau) r (add-fits binary64 r tau) (rem-fits binary64 p tau h)
+reduce-fits p h = let r = rem binary64 p tau in cond-fits binary64 (lt r zero64) (r ⊕ tau) r (add-fits binary64 r tau) (rem-fits binary64 p tau h)
 
 clamp-fits : (k : Adsr) → T (fits binary64 (k .sustain)) → T (fits binary64 (clampedOf k .sustain))
 unfolding clampedOf
 clamp-fits k w =
-    cond-fits binary64 (lt (k .sustain) naught) naught (cond (lt one (k .sustain)) one (k .sustain)) (ofBits-fits binary64 0)
+    cond-fits binary64 (lt (k .sustain) zero64) zero64 (cond (lt one (k .sustain)) one (k .sustain)) (ofBits-fits binary64 0)
     (cond-fits binary64 (lt one (k .sustain)) one (k .sustain) (ofBits-fits binary64 0x3ff0_0000_0000_0000) w)
 
 -- ---- the steps
@@ -58,7 +58,7 @@ fresh-fits acted = record { phase-fits = ofBits-fits binary64 0; frequency-fits 
 reduced-fits : (v : State) → Fitting v → Fitting (reducedOf v)
 reduced-fits v f = record { phase-fits = reduce-fits (v .phase .0) (f .phase-fits); frequency-fits = f .frequency-fits; velocity-fits = f .velocity-fits; envelope-held = f .envelope-held }
 
-lifted-fits : (v : State) (k : Keys) (off : NoteOff) → Fitting v → Fitting (liftedBy v k off)
+lifted-fits : (v : State) (k : Keys) (off : NoteOff) → Fitting v → Fitting (afterNoteOff v k off)
 lifted-fits v k Released f = record { phase-fits = f .phase-fits; frequency-fits = f .frequency-fits; velocity-fits = f .velocity-fits; envelope-held = released-holds (v .envelope) (f .envelope-held) }
 lifted-fits v k (FellBack n l) f = record { phase-fits = f .phase-fits; frequency-fits = pitch-fits n; velocity-fits = loudness-fits l; envelope-held = f .envelope-held }
 lifted-fits v k NoChange f = record { phase-fits = f .phase-fits; frequency-fits = f .frequency-fits; velocity-fits = f .velocity-fits; envelope-held = f .envelope-held }
@@ -73,7 +73,7 @@ advance-fits : (g : Settings) → T (fits binary64 (g .adsr .sustain)) → (v : 
 unfolding advanceOf
 advance-fits g w v f =
     record {
-      phase-fits = add-fits binary64 (v .phase .0) (paceOf g v);
+      phase-fits = add-fits binary64 (v .phase .0) (phaseStepOf g v);
       frequency-fits = f .frequency-fits;
       velocity-fits = f .velocity-fits;
       envelope-held = step-holds (clampedOf (g .adsr)) (sampleTimeOf (g .rate)) (v .envelope) (clamp-fits (g .adsr) w) (f .envelope-held);

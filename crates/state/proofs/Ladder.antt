@@ -18,8 +18,8 @@ use lib.Ieee.Scale.{finite}
 use lib.Ieee.Positive.{positive}
 use Rattle.runs.specs.Runs.{run}
 use Rattle.floats.specs.Range.{ge0, nonneg}
-use Rattle.floats.specs.Double.{_⊕_, _⊗_, _⊘_, naught}
-use Rattle.floats.proofs.Literals.{lit0-is}
+use Rattle.floats.specs.Double.{_⊕_, _⊗_, _⊘_, zero64}
+use Rattle.floats.proofs.Literals.{zeroOf-is}
 use Rattle.floats.proofs.Order.{fle-trans, fle-refl, lt-not-le, not-lt-le, by-contra, ge0→le, nonneg→finite, under}
 use Rattle.floats.proofs.Rounds.{ge0-round}
 use Rattle.floats.proofs.Monotone.{add-mono, mul-mono, div-mono}
@@ -73,9 +73,9 @@ tau-on : (j : ℕ) → T (le tau (ladder j))
 unfolding run phaseFrom
 tau-on j = fle-trans tau ten (ladder j) (unfold ofBits in unfold le in tt) (rungs-rise 0 j (omega arith))
 
-pub naught-on : (j : ℕ) → T (le naught (ladder j))
+pub zero-on : (j : ℕ) → T (le zero64 (ladder j))
 unfolding run phaseFrom
-naught-on j = fle-trans naught ten (ladder j) (unfold ofBits in unfold le in tt) (rungs-rise 0 j (omega arith))
+zero-on j = fle-trans zero64 ten (ladder j) (unfold ofBits in unfold le in tt) (rungs-rise 0 j (omega arith))
 
 -- ---- a reduction
 tau-nonneg : T (nonneg tau)
@@ -94,7 +94,7 @@ module _ (p : Float) (h : T (nonneg p)) where
 
   reduced-is : reduceOf p ≡ rest
   unfolding reduceOf
-  reduced-is = rw (no (lt rest naught) (λ (t : T (lt rest naught)). lt-not-le rest naught t (rw (lit0-is binary64) (ge0→le rest rest-ge0)))) refl
+  reduced-is = rw (no (lt rest zero64) (λ (t : T (lt rest zero64)). lt-not-le rest zero64 t (rw (zeroOf-is binary64) (ge0→le rest rest-ge0)))) refl
     where
       no : (b : Bool) → (T b → ⊥) → b ≡ false
       no true n = absurd (n tt)
@@ -131,7 +131,7 @@ rate-positive rate h =
 
 module _ (frequency : Float) (rate : ℕ) (f : T (isPitch binary64 frequency)) (r : T (isRate rate)) where
   frequency-le : T (le frequency (highestPitch binary64))
-  frequency-le = and-r (lt naught frequency) (le frequency (highestPitch binary64)) f
+  frequency-le = and-r (lt zero64 frequency) (le frequency (highestPitch binary64)) f
 
   ratio-le : T (le (frequency ⊘ ofInt binary64 (pos rate)) (highestPitch binary64 ⊘ slow))
   ratio-le = div-mono binary64 frequency (highestPitch binary64) (ofInt binary64 (pos rate)) slow (pitch-nonneg frequency f) (unfold ofBits in tt) (rate-positive rate r) (unfold ofBits in tt) frequency-le (rate-slow rate r)

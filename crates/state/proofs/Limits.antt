@@ -13,9 +13,9 @@ use lib.ListN.{length}
 use lib.Ieee.{Float, nan, inf, fin, binary32, binary64, ofBits, lt, le, isNan}
 use lib.Ieee.Fits.{and-i, and-l, and-r}
 use lib.Ieee.Scale.{finite}
-use Rattle.floats.specs.Range.{nought, nonneg, within, lit0, lit1}
-use Rattle.floats.specs.Double.{naught, one}
-use Rattle.floats.proofs.Literals.{lit0-is, lit1-is}
+use Rattle.floats.specs.Range.{plusZero, nonneg, within, zeroOf, oneOf}
+use Rattle.floats.specs.Double.{zero64, one}
+use Rattle.floats.proofs.Literals.{zeroOf-is, oneOf-is}
 use Rattle.floats.proofs.Order.{lt-le, le→ge0, nonneg→finite, under}
 use Rattle.pitch.specs.Pitch.{frequencyOf}
 use Rattle.pitch.proofs.Rules.{frequency-in}
@@ -35,13 +35,13 @@ use Rattle.score.specs.declared.Kind.{Kind}
 use Rattle.score.specs.declared.Kind.the-variants.{On, Off, Reset}
 use Rattle.score.specs.declared.Verdict.the-variants.{Accepted}
 use Rattle.score.specs.Record.{countOf, byteAt, recordAt}
-use Rattle.score.specs.Score.{mostOf, verdictOf}
+use Rattle.score.specs.Score.{fieldLimit, verdictOf}
 use Rattle.score.proofs.Verdicts.{accepted-all}
 use Rattle.state.specs.declared.Settings.{Settings}
 use Rattle.state.specs.declared.State.{State}
 use Rattle.state.specs.declared.Event.{Event}
 use Rattle.state.specs.declared.Event.the-variants as event
-use Rattle.state.specs.State.{freshOf, eventFor, eventOf, liftedBy, actOf}
+use Rattle.state.specs.State.{freshOf, eventFor, eventOf, afterNoteOff, actOf}
 use Rattle.domain.specs.Domain.{thousand, isRadians, highestPitch, isPitch}
 use Rattle.state.specs.Limits.{inLimits, mostActed, isState}
 
@@ -57,7 +57,7 @@ pub record Kept (P : Float → Type 0) (v : State) : Type 0 where
   pub phase-in : P (v .phase .0)
   pub envelope-in : T (isEnvelope (v .envelope))
   pub pitch-in : T (isPitch binary64 (v .frequency))
-  pub velocity-in : T (within naught one (v .velocity))
+  pub velocity-in : T (within zero64 one (v .velocity))
   pub keys-in : T (isKeys (v .keys))
 
 -- a phase within its limits
@@ -78,7 +78,7 @@ module _ (v : State) where
   pitched = isPitch binary64 (v .frequency)
 
   abbrev loud : Bool
-  loud = within naught one (v .velocity)
+  loud = within zero64 one (v .velocity)
 
   abbrev keyed : Bool
   keyed = isKeys (v .keys)
@@ -134,17 +134,17 @@ no-nan (inf s) h = tt
 no-nan (fin s m e) h = tt
 
 -- 0 ≤ x, with the two forms of 0
-from-literal : (x : Float) → T (le naught x) → T (le nought x)
-from-literal x h = rw lit0-is at h
+from-literal : (x : Float) → T (le zero64 x) → T (le plusZero x)
+from-literal x h = rw zeroOf-is at h
 
 pub phase-nonneg : (x : Float) → PhaseIn x → T (nonneg x)
-phase-nonneg x h = under x thousand (le→ge0 x (from-literal x (and-l (le naught x) (lt x thousand) h))) (unfold ofBits in tt) (lt-le x thousand (and-r (le naught x) (lt x thousand) h))
+phase-nonneg x h = under x thousand (le→ge0 x (from-literal x (and-l (le zero64 x) (lt x thousand) h))) (unfold ofBits in tt) (lt-le x thousand (and-r (le zero64 x) (lt x thousand) h))
 
 pub pitch-nonneg : (x : Float) → T (isPitch binary64 x) → T (nonneg x)
-pitch-nonneg x h = under x (highestPitch binary64) (le→ge0 x (from-literal x (lt-le naught x (and-l (lt naught x) (le x (highestPitch binary64)) h)))) (unfold ofBits in tt) (and-r (lt naught x) (le x (highestPitch binary64)) h)
+pitch-nonneg x h = under x (highestPitch binary64) (le→ge0 x (from-literal x (lt-le zero64 x (and-l (lt zero64 x) (le x (highestPitch binary64)) h)))) (unfold ofBits in tt) (and-r (lt zero64 x) (le x (highestPitch binary64)) h)
 
-loud-nonneg : (x : Float) → T (within naught one x) → T (nonneg x)
-loud-nonneg x h = under x one (le→ge0 x (from-literal x (and-l (le naught x) (le x one) h))) (unfold ofBits in tt) (and-r (le naught x) (le x one) h)
+loud-nonneg : (x : Float) → T (within zero64 one x) → T (nonneg x)
+loud-nonneg x h = under x one (le→ge0 x (from-literal x (and-l (le zero64 x) (le x one) h))) (unfold ofBits in tt) (and-r (le zero64 x) (le x one) h)
 
 pub kept-finite : (P : Float → Type 0) (v : State) → (P (v .phase .0) → T (nonneg (v .phase .0))) → Kept P v → AllFinite v
 kept-finite P v f k =
@@ -159,7 +159,7 @@ pub in-finite : (v : State) → inLimits v ≡ true → AllFinite v
 in-finite v e = kept-finite PhaseIn v (phase-nonneg (v .phase .0)) (in-kept v e)
 
 -- ---- the fresh state
-module _ (P : Float → Type 0) (p : P naught) where
+module _ (P : Float → Type 0) (p : P zero64) where
   pub fresh-keeps : (acted : ℕ) → Kept P (freshOf acted)
   fresh-keeps acted =
       record {
@@ -170,11 +170,11 @@ module _ (P : Float → Type 0) (p : P naught) where
         keys-in = holds-limits Silent false [] tt (omega arith) (unfold AllRanged in tt);
       }
 
-naught-phase : PhaseIn naught
-naught-phase = unfold ofBits in unfold lt in unfold le in tt
+zero-phase : PhaseIn zero64
+zero-phase = unfold ofBits in unfold lt in unfold le in tt
 
 pub fresh-in : (acted : ℕ) → inLimits (freshOf acted) ≡ true
-fresh-in acted = kept-in (freshOf acted) (fresh-keeps PhaseIn naught-phase acted)
+fresh-in acted = kept-in (freshOf acted) (fresh-keeps PhaseIn zero-phase acted)
 
 pub fresh-is-state : isState (freshOf 0) ≡ true
 fresh-is-state = in-state (freshOf 0) (fresh-in 0) (omega arith)
@@ -183,11 +183,11 @@ fresh-is-state = in-state (freshOf 0) (fresh-in 0) (omega arith)
 pitch-in-limits : (n : ℕ) → n ≤ 127 → T (isPitch binary64 (frequencyOf n))
 pitch-in-limits n h = frequency-in n (omega arith)
 
-loudness-in : (v : ℕ) → v ≤ 127 → T (within naught one (velocityOf v))
+loudness-in : (v : ℕ) → v ≤ 127 → T (within zero64 one (velocityOf v))
 loudness-in v h = go (loudness.velocity-in v h)
   where
-    go : T (within (lit0 binary32) (lit1 binary32) (velocityOf v)) → T (within naught one (velocityOf v))
-    go t = rw (lit0-is binary64, lit1-is binary64) (rw (lit0-is binary32, lit1-is binary32) at t)
+    go : T (within (zeroOf binary32) (oneOf binary32) (velocityOf v)) → T (within zero64 one (velocityOf v))
+    go t = rw (zeroOf-is binary64, oneOf-is binary64) (rw (zeroOf-is binary32, oneOf-is binary32) at t)
 
 -- ---- events
 -- the events that may occur: note and velocity up to 127
@@ -201,7 +201,7 @@ event-in On n v hn hv = (hn, hv)
 event-in Off n v hn hv = hn
 event-in Reset n v hn hv = tt
 
-most-in : (b : ℕ) → mostOf b ≤ 127
+most-in : (b : ℕ) → fieldLimit b ≤ 127
 most-in b = go (eqb b 3)
   where
     go : (t : Bool) → cond t 0 127 ≤ 127
@@ -220,8 +220,8 @@ accepted-events g s m a i h =
     event-in (recordAt s i .kind) (byteAt s i 7) (byteAt s i 8) (omega (arith, r .note-right, most-in (byteAt s i 6))) (omega (arith, r .velocity-right, most-in (byteAt s i 6)))
 
 -- an event keeps the limits, and a property of the phase that is true of 0
-module _ (g : Settings) (P : Float → Type 0) (p : P naught) (v : State) (k : Kept P v) where
-  lift-keeps : (l : Keys) (off : NoteOff) → T (isKeys l) → BackRanged off → Kept P (liftedBy v l off)
+module _ (g : Settings) (P : Float → Type 0) (p : P zero64) (v : State) (k : Kept P v) where
+  lift-keeps : (l : Keys) (off : NoteOff) → T (isKeys l) → BackRanged off → Kept P (afterNoteOff v l off)
   lift-keeps l Released h b = record { phase-in = k .phase-in; envelope-in = released-keeps (v .envelope) (k .envelope-in); pitch-in = k .pitch-in; velocity-in = k .velocity-in; keys-in = h }
   lift-keeps l (FellBack n w) h b = record { phase-in = k .phase-in; envelope-in = k .envelope-in; pitch-in = pitch-in-limits n (b .0); velocity-in = loudness-in w (b .1); keys-in = h }
   lift-keeps l NoChange h b = record { phase-in = k .phase-in; envelope-in = k .envelope-in; pitch-in = k .pitch-in; velocity-in = k .velocity-in; keys-in = h }
@@ -241,4 +241,4 @@ module _ (g : Settings) (P : Float → Type 0) (p : P naught) (v : State) (k : K
 
 -- an event keeps the limits of a state
 pub act-in : (g : Settings) (v : State) (e : Event) → EventIn e → inLimits v ≡ true → inLimits (actOf g v e) ≡ true
-act-in g v e h i = kept-in (actOf g v e) (act-keeps g PhaseIn naught-phase v (in-kept v i) e h)
+act-in g v e h i = kept-in (actOf g v e) (act-keeps g PhaseIn zero-phase v (in-kept v i) e h)

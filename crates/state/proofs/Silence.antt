@@ -14,9 +14,9 @@ use lib.Ieee.Fits.{and-i, and-l, and-r, mul-fits, round-fits}
 use lib.Ieee.Scale.{finite}
 use lib.Ieee.Positive.{num, den, den-pos}
 use Rattle.floats.specs.Range.{within}
-use Rattle.floats.specs.Double.{_⊗_, naught, one, four}
+use Rattle.floats.specs.Double.{_⊗_, zero64, one, four}
 use Rattle.floats.proofs.Held.{zero-value}
-use Rattle.floats.proofs.Literals.{lit0-is}
+use Rattle.floats.proofs.Literals.{zeroOf-is}
 use Rattle.floats.proofs.Monotone.{mul-mono}
 use Rattle.floats.proofs.Ranges.{mul-ge0}
 use Rattle.floats.proofs.Order.{signed, fle-trans, fle-refl, ge0→le}
@@ -31,7 +31,7 @@ use Rattle.waveform.specs.Filled.{valueAt}
 use Rattle.waveform.proofs.Values.{value-fits, value-at-finite, scaled-finite}
 use Rattle.state.specs.declared.Settings.{Settings}
 use Rattle.state.specs.declared.State.{State}
-use Rattle.state.specs.State.{paceOf, steppedOf, sampleOf, struckOf}
+use Rattle.state.specs.State.{phaseStepOf, nextEnvelopeOf, sampleOf, struckOf}
 use Rattle.state.specs.Settings.{settingsOk}
 use Rattle.state.specs.Limits.{inLimits}
 use Rattle.state.proofs.Limits.{from-true, Kept, PhaseIn, in-kept, phase-nonneg}
@@ -40,14 +40,14 @@ use Rattle.state.proofs.Through.{rate-in, adsr-in}
 
 -- +0 or -0
 abbrev pub Silent : Float → Type 0
-Silent x = (x ≡ naught) ⊎ (x ≡ neg naught)
+Silent x = (x ≡ zero64) ⊎ (x ≡ neg zero64)
 
 -- a finite number times 0
-pub times-naught : (x : Float) → T (finite x) → Silent (x ⊗ naught)
-times-naught x k = go (unlike (signed x) false) (mul-is binary64 x naught k (unfold ofBits in tt) ∙ rw (naught-is .0, naught-is .1, naught-is .2) refl)
+pub times-zero : (x : Float) → T (finite x) → Silent (x ⊗ zero64)
+times-zero x k = go (unlike (signed x) false) (mul-is binary64 x zero64 k (unfold ofBits in tt) ∙ rw (zero64-is .0, zero64-is .1, zero64-is .2) refl)
   where
-    naught-is : (num naught ≡ 0) × (den naught ≡ 1) × (signed naught ≡ false)
-    naught-is = unfold ofBits in (refl, refl, refl)
+    zero64-is : (num zero64 ≡ 0) × (den zero64 ≡ 1) × (signed zero64 ≡ false)
+    zero64-is = unfold ofBits in (refl, refl, refl)
 
     zero : (s : Bool) → round binary64 s (num x * 0) (den x * 1) ≡ fin s 0 (pos 0)
     zero s =
@@ -57,7 +57,7 @@ times-naught x k = go (unlike (signed x) false) (mul-is binary64 x naught k (unf
         room : 0 < den x * 1
         room = rw (nat.mul-one (den x)) (den-pos x)
 
-    go : (s : Bool) → x ⊗ naught ≡ round binary64 s (num x * 0) (den x * 1) → Silent (x ⊗ naught)
+    go : (s : Bool) → x ⊗ zero64 ≡ round binary64 s (num x * 0) (den x * 1) → Silent (x ⊗ zero64)
     go true e = inr (e ∙ zero true ∙ (unfold ofBits in unfold neg in refl))
     go false e = inl (e ∙ zero false ∙ (unfold ofBits in refl))
 
@@ -66,14 +66,14 @@ module _ (g : Settings) (ok : settingsOk g ≡ true) (w : T (fits binary64 (g .a
   kept = in-kept v l
 
   abbrev dt : Float
-  dt = paceOf g v ⊗ invTau
+  dt = phaseStepOf g v ⊗ invTau
 
-  dt-in : T (within naught four dt)
+  dt-in : T (within zero64 four dt)
   dt-in =
-      let pace = paceOf g v in
+      let pace = phaseStepOf g v in
       let n = pace-nonneg (v .frequency) (g .rate) (kept .pitch-in) (rate-in g ok w) in
-      and-i (le naught dt) (le dt four)
-      (rw (lit0-is binary64) (ge0→le dt (mul-ge0 binary64 pace invTau n (unfold ofBits in tt))))
+      and-i (le zero64 dt) (le dt four)
+      (rw (zeroOf-is binary64) (ge0→le dt (mul-ge0 binary64 pace invTau n (unfold ofBits in tt))))
       (fle-trans dt (ten ⊗ invTau) four
       (mul-mono binary64 pace ten invTau invTau n (unfold ofBits in tt) (unfold ofBits in tt) (unfold ofBits in tt) (pace-le (v .frequency) (g .rate) (kept .pitch-in) (rate-in g ok w)) (fle-refl invTau (unfold ofBits in tt)))
       (unfold ofBits in unfold mul in unfold le in tt))
@@ -81,30 +81,30 @@ module _ (g : Settings) (ok : settingsOk g ≡ true) (w : T (fits binary64 (g .a
   shape-ok : T (isWaveform (g .waveform))
   shape-ok = and-r (isRate (g .rate)) (isWaveform (g .waveform)) (and-l (isRate (g .rate) && isWaveform (g .waveform)) (isAdsr (g .adsr)) (from-true (settingsOk g) ok))
 
-  level-in : T (within naught one (steppedOf g v .level))
+  level-in : T (within zero64 one (nextEnvelopeOf g v .level))
   unfolding isEnvelope
   level-in =
-      let e = steppedOf g v in
-      let level = within naught one (e .level) in
-      let release = within naught one (e .«release_level») in
-      and-l level release (and-l (level && release) (within naught eleven (e .«stage_time»)) (step-keeps (g .adsr) (g .rate) (v .envelope) (adsr-in g ok w) w (rate-in g ok w) (kept .envelope-in)))
+      let e = nextEnvelopeOf g v in
+      let level = within zero64 one (e .level) in
+      let release = within zero64 one (e .«release_level») in
+      and-l level release (and-l (level && release) (within zero64 eleven (e .«stage_time»)) (step-keeps (g .adsr) (g .rate) (v .envelope) (adsr-in g ok w) w (rate-in g ok w) (kept .envelope-in)))
 
   -- the oscillator's value times the level
   abbrev loudness : Float
-  loudness = valueAt (g .waveform) (paceOf g v) (v .phase .0) ⊗ steppedOf g v .level
+  loudness = valueAt (g .waveform) (phaseStepOf g v) (v .phase .0) ⊗ nextEnvelopeOf g v .level
 
   loudness-finite : T (finite loudness)
-  loudness-finite = scaled-finite _ _ (value-fits (g .waveform) _ dt) (value-at-finite (g .waveform) (paceOf g v) (v .phase .0) shape-ok p (phase-nonneg (v .phase .0) (kept .phase-in)) dt-in) level-in
+  loudness-finite = scaled-finite _ _ (value-fits (g .waveform) _ dt) (value-at-finite (g .waveform) (phaseStepOf g v) (v .phase .0) shape-ok p (phase-nonneg (v .phase .0) (kept .phase-in)) dt-in) level-in
 
   pub sample-finite : T (finite (sampleOf g v))
   unfolding sampleOf
   sample-finite = scaled-finite loudness (v .velocity) (mul-fits binary64 _ _) loudness-finite (kept .velocity-in)
 
-  pub plays-silent : v .velocity ≡ naught → Silent (sampleOf g v)
+  pub plays-silent : v .velocity ≡ zero64 → Silent (sampleOf g v)
   unfolding sampleOf
-  plays-silent e = rw e (times-naught loudness loudness-finite)
+  plays-silent e = rw e (times-zero loudness loudness-finite)
 
 -- a key struck with velocity 0
-pub struck-with-none : (g : Settings) (v : State) (note : ℕ) → struckOf g v note 0 .velocity ≡ naught
+pub struck-with-none : (g : Settings) (v : State) (note : ℕ) → struckOf g v note 0 .velocity ≡ zero64
 unfolding velocityOf
 struck-with-none g v note = unfold ofBits in unfold ofInt in unfold round in unfold div in refl

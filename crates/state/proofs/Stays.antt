@@ -17,8 +17,8 @@ use lib.Ieee.{Float, binary64, ofBits, add, lt, le, fits}
 use lib.Ieee.Fits.{and-i, and-r}
 use Rattle.runs.specs.Runs.{run}
 use Rattle.floats.specs.Range.{nonneg}
-use Rattle.floats.specs.Double.{_⊕_, naught}
-use Rattle.floats.proofs.Literals.{lit0-is}
+use Rattle.floats.specs.Double.{_⊕_, zero64}
+use Rattle.floats.proofs.Literals.{zeroOf-is}
 use Rattle.floats.proofs.Order.{fle-trans, lt-le, ge0→le, nonneg→ge0, nonneg→finite, under}
 use Rattle.floats.proofs.Monotone.{add-mono}
 use Rattle.floats.proofs.Ranges.{add-ge0}
@@ -36,7 +36,7 @@ use Rattle.domain.specs.Domain.{thousand}
 use Rattle.state.specs.Limits.{inLimits}
 use Rattle.state.specs.Heart.{begun, stateFrom}
 use Rattle.state.proofs.Limits.{Kept, PhaseIn, AllFinite, weaken, in-kept, kept-in, kept-finite, phase-nonneg, fresh-in}
-use Rattle.state.proofs.Ladder.{ladder, rung-below, naught-on, reduced-on, reduced-nonneg, next-rung, next-nonneg}
+use Rattle.state.proofs.Ladder.{ladder, rung-below, zero-on, reduced-on, reduced-nonneg, next-rung, next-nonneg}
 use Rattle.state.proofs.Through.{Carried, reduced-keeps, run-keeps, run-begins}
 
 -- ---- the range of the phase
@@ -56,7 +56,7 @@ pub record Before (m : ℕ) (x : Float) : Type 0 where
 
 on-phase : (j : ℕ) (x : Float) → j ≤ 64 → On j x → PhaseIn x
 on-phase j x h o =
-    and-i (le naught x) (lt x thousand) (rw (lit0-is binary64) (ge0→le x (nonneg→ge0 x (o .not-negative)))) (rung-below j x h (nonneg→finite x (o .not-negative)) (o .not-above))
+    and-i (le zero64 x) (lt x thousand) (rw (zeroOf-is binary64) (ge0→le x (nonneg→ge0 x (o .not-negative)))) (rung-below j x h (nonneg→finite x (o .not-negative)) (o .not-above))
 
 reduced-at : (j : ℕ) (x : Float) → PhaseIn x → On j (reduceOf x)
 reduced-at j x t = record { not-negative = reduced-nonneg x (phase-nonneg x t); not-above = reduced-on x (phase-nonneg x t) j }
@@ -65,7 +65,7 @@ reduced-at j x t = record { not-negative = reduced-nonneg x (phase-nonneg x t); 
 climbs : Carried Before Since
 climbs =
     record {
-      zeroed = λ m. record { not-negative = unfold ofBits in tt; not-above = naught-on (m % 64) };
+      zeroed = λ m. record { not-negative = unfold ofBits in tt; not-above = zero-on (m % 64) };
       reduced = λ m x b. reduced-at (m % 64) x (b .phase);
       left = λ m x e b. record { not-negative = phase-nonneg x (b .phase); not-above = b .climbed (eqb-false (m % 64) 0 e) };
       grown = λ m x step s t o. after m x step s t o;
@@ -95,7 +95,7 @@ abbrev pub Anywhere : ℕ → Float → Type 0
 Anywhere m x = Far x
 
 phase-far : (x : Float) → PhaseIn x → Far x
-phase-far x t = record { not-negative = phase-nonneg x t; not-far = fle-trans x thousand far (lt-le x thousand (and-r (le naught x) (lt x thousand) t)) (unfold ofBits in unfold le in tt) }
+phase-far x t = record { not-negative = phase-nonneg x t; not-far = fle-trans x thousand far (lt-le x thousand (and-r (le zero64 x) (lt x thousand) t)) (unfold ofBits in unfold le in tt) }
 
 drifts : Carried Anywhere Anywhere
 drifts =
@@ -130,8 +130,8 @@ module _ (g : Settings) (ok : settingsOk g ≡ true) (w : T (fits binary64 (g .a
         kept-in u (weaken (Since (n + k)) PhaseIn u (on-phase ((n + k) % 64) (u .phase .0) (omega arith)) (run-begins Before Since climbs g ok w s m a n v start k))
 
   -- from the start of a section
-  pub mark-kept : (mark : ℕ) (v : State) → inLimits v ≡ true → (k : ℕ) → inLimits (stateFrom g s (mark * 4096) v k) ≡ true
-  mark-kept mark v l k = limits-kept (mark * 4096) (omega arith) v l k
+  pub section-kept : (sectionSize : ℕ) (v : State) → inLimits v ≡ true → (k : ℕ) → inLimits (stateFrom g s (sectionSize * 4096) v k) ≡ true
+  section-kept sectionSize v l k = limits-kept (sectionSize * 4096) (omega arith) v l k
 
   -- from the fresh state
   pub fresh-kept : (k : ℕ) → inLimits (stateFrom g s 0 (freshOf 0) k) ≡ true

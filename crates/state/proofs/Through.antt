@@ -10,7 +10,7 @@ use lib.Dec.{T, eqb}
 use lib.Ieee.{Float, binary64, le, fits}
 use lib.Ieee.Fits.{and-l, and-r}
 use Rattle.floats.specs.Range.{nonneg}
-use Rattle.floats.specs.Double.{_⊕_, naught}
+use Rattle.floats.specs.Double.{_⊕_, zero64}
 use Rattle.domain.specs.Domain.{isRate}
 use Rattle.envelope.specs.Limits.{ten, isAdsr}
 use Rattle.envelope.proofs.Keeps.{step-keeps}
@@ -21,7 +21,7 @@ use Rattle.score.specs.Score.{verdictOf}
 use Rattle.state.specs.declared.Settings.{Settings}
 use Rattle.state.specs.declared.State.{State}
 use Rattle.state.specs.Settings.{settingsOk}
-use Rattle.state.specs.State.{reducedOf, eventOf, paceOf, advanceOf}
+use Rattle.state.specs.State.{reducedOf, eventOf, phaseStepOf, advanceOf}
 use Rattle.state.specs.Heart.{begun, stateFrom}
 use Rattle.state.proofs.Limits.{from-true, Kept, weaken, accepted-events, act-keeps}
 use Rattle.state.proofs.Lasting.{Lasting, state-lasts, sample-lasts}
@@ -46,7 +46,7 @@ module _ (g : Settings) (ok : settingsOk g ≡ true) (w : T (fits binary64 (g .a
   unfolding advanceOf
   advance-keeps P Q v f k =
       record {
-        phase-in = f (paceOf g v) (pace-nonneg (v .frequency) (g .rate) (k .pitch-in) rate-in) (pace-le (v .frequency) (g .rate) (k .pitch-in) rate-in) (k .phase-in);
+        phase-in = f (phaseStepOf g v) (pace-nonneg (v .frequency) (g .rate) (k .pitch-in) rate-in) (pace-le (v .frequency) (g .rate) (k .pitch-in) rate-in) (k .phase-in);
         envelope-in = step-keeps (g .adsr) (g .rate) (v .envelope) adsr-in w rate-in (k .envelope-in);
         pitch-in = k .pitch-in;
         velocity-in = k .velocity-in;
@@ -56,7 +56,7 @@ module _ (g : Settings) (ok : settingsOk g ≡ true) (w : T (fits binary64 (g .a
 -- ---- consecutive samples
 -- P before sample m is begun, Q after that
 pub record Carried (P Q : ℕ → Float → Type 0) : Type 0 where
-  pub zeroed : (m : ℕ) → Q m naught
+  pub zeroed : (m : ℕ) → Q m zero64
   pub reduced : (m : ℕ) (x : Float) → P m x → Q m (reduceOf x)
   pub left : (m : ℕ) (x : Float) → eqb (m % 64) 0 ≡ false → P m x → Q m x
   pub grown : (m : ℕ) (x step : Float) → T (nonneg step) → T (le step ten) → Q m x → P (suc m) (x ⊕ step)

@@ -6,7 +6,7 @@
 -- numbers. Definitions only.
 use mathlib.Core.Bool.{cond}
 use mathlib.Core.Path.{_≡_}
-use Rattle.floats.specs.Double.{naught}
+use Rattle.floats.specs.Double.{zero64}
 use Rattle.answers.specs.declared.Answer.the-variants.{Done}
 use Rattle.voice.specs.Voice as voice
 use Rattle.voice.specs.declared.VoiceState.{VoiceState}
@@ -43,4 +43,4 @@ envelopeCall w b event.Reset = envelope.resetOf b
 abbrev pub phaseThen : Radians → Event → Radians
 phaseThen p (event.Strike note velocity) = p
 phaseThen p (event.Lift note) = p
-phaseThen p event.Reset = radians naught
+phaseThen p event.Reset = radians zero64

@@ -11,7 +11,7 @@ use Prim.Native.Nat.{ℕ}
 use lib.Dec.{leb}
 use lib.Ieee.{binary64}
 use Rattle.floats.specs.Range.{within}
-use Rattle.floats.specs.Double.{naught, one}
+use Rattle.floats.specs.Double.{zero64, one}
 use Rattle.domain.specs.Domain.{isRadians, isPitch}
 use Rattle.envelope.specs.Limits.{isEnvelope}
 use Rattle.voice.specs.Keys.{isKeys}
@@ -19,7 +19,7 @@ use Rattle.state.specs.declared.State.{State}
 
 -- all fields but the number of records acted are within their limits
 unfoldable pub inLimits : State → Bool
-inLimits v = isRadians (v .phase .0) && isEnvelope (v .envelope) && isPitch binary64 (v .frequency) && within naught one (v .velocity) && isKeys (v .keys)
+inLimits v = isRadians (v .phase .0) && isEnvelope (v .envelope) && isPitch binary64 (v .frequency) && within zero64 one (v .velocity) && isKeys (v .keys)
 
 -- 2^48 - 1
 abbrev pub mostActed : ℕ

@@ -7,7 +7,7 @@ use mathlib.Core.Bool.{Bool, true, cond}
 use Prim.Native.Nat.{ℕ, _+_}
 use lib.Dec.{ltb}
 use lib.Ieee.{Float, binary64, ofBits}
-use Rattle.floats.specs.Double.{_⊕_, _⊗_, naught}
+use Rattle.floats.specs.Double.{_⊕_, _⊗_, zero64}
 use Rattle.pitch.specs.Pitch.{frequencyOf}
 use Rattle.voice.specs.Keys.{freshKeys, pressedOf, liftedOf}
 use Rattle.voice.specs.Voice.{velocityOf}
@@ -38,7 +38,7 @@ counted acted = cond (ltb acted 18446744073709551615) (acted + 1) acted
 
 -- the fresh state, with the number of records acted
 abbrev pub freshOf : ℕ → State
-freshOf acted = record { phase = radians naught; envelope = envelope.freshOf; frequency = concert; velocity = naught; keys = freshKeys; acted = acted }
+freshOf acted = record { phase = radians zero64; envelope = envelope.freshOf; frequency = concert; velocity = zero64; keys = freshKeys; acted = acted }
 
 -- ---- the state with some fields changed. Who adds a field to `State` adds it to these definitions, to `freshOf`, to
 -- `withActed` of ButActed.antt and to `stateOf` of the crate `shelf`, which name all fields
@@ -49,12 +49,12 @@ abbrev pub withEnvelope : State → Envelope → State
 withEnvelope v e = record { phase = v .phase; envelope = e; frequency = v .frequency; velocity = v .velocity; keys = v .keys; acted = v .acted }
 
 -- the note sounds, with this velocity
-abbrev pub soundedOf : State → ℕ → ℕ → State
-soundedOf v note velocity = record { phase = v .phase; envelope = v .envelope; frequency = frequencyOf note; velocity = velocityOf velocity; keys = v .keys; acted = v .acted }
+abbrev pub withNote : State → ℕ → ℕ → State
+withNote v note velocity = record { phase = v .phase; envelope = v .envelope; frequency = frequencyOf note; velocity = velocityOf velocity; keys = v .keys; acted = v .acted }
 
 -- these keys are held, and one more record has acted
-abbrev pub heldOf : State → Keys → State
-heldOf v keys = record { phase = v .phase; envelope = v .envelope; frequency = v .frequency; velocity = v .velocity; keys = keys; acted = counted (v .acted) }
+abbrev pub withKeys : State → Keys → State
+withKeys v keys = record { phase = v .phase; envelope = v .envelope; frequency = v .frequency; velocity = v .velocity; keys = keys; acted = counted (v .acted) }
 
 -- ---- reduce
 abbrev pub reducedOf : State → State
@@ -78,31 +78,31 @@ triggers g v = true
 -- the key is struck: its note sounds with this velocity
 abbrev pub struckOf : Settings → State → ℕ → ℕ → State
 struckOf g v note velocity =
-    withEnvelope (soundedOf (heldOf v (pressedOf (v .keys) note velocity)) note velocity) (cond (triggers g v) (triggeredOf (v .envelope)) (v .envelope))
+    withEnvelope (withNote (withKeys v (pressedOf (v .keys) note velocity)) note velocity) (cond (triggers g v) (triggeredOf (v .envelope)) (v .envelope))
 
 -- a key is lifted, and these keys are left: voice and envelope are released, or a held note sounds, or nothing else
 -- changes
-abbrev pub liftedBy : State → Keys → NoteOff → State
-liftedBy v keys Released = withEnvelope (heldOf v keys) (releasedOf (v .envelope))
-liftedBy v keys (FellBack note velocity) = soundedOf (heldOf v keys) note velocity
-liftedBy v keys NoChange = heldOf v keys
+abbrev pub afterNoteOff : State → Keys → NoteOff → State
+afterNoteOff v keys Released = withEnvelope (withKeys v keys) (releasedOf (v .envelope))
+afterNoteOff v keys (FellBack note velocity) = withNote (withKeys v keys) note velocity
+afterNoteOff v keys NoChange = withKeys v keys
 
 unfoldable pub actOf : Settings → State → Event → State
 actOf g v (event.Strike note velocity) = struckOf g v note velocity
-actOf g v (event.Lift note) = let l = liftedOf (v .keys) note in liftedBy v (l .keys) (l .off)
+actOf g v (event.Lift note) = let l = liftedOf (v .keys) note in afterNoteOff v (l .keys) (l .off)
 actOf g v event.Reset = freshOf (counted (v .acted))
 
 -- ---- the sample, and the advance
 -- the envelope after the next sample; its level is the sample's
-abbrev pub steppedOf : Settings → State → Envelope
-steppedOf g v = stepOf (clampedOf (g .adsr)) (sampleTimeOf (g .rate)) (v .envelope)
+abbrev pub nextEnvelopeOf : Settings → State → Envelope
+nextEnvelopeOf g v = stepOf (clampedOf (g .adsr)) (sampleTimeOf (g .rate)) (v .envelope)
 
 -- the phase's growth, in radians a sample
-abbrev pub paceOf : Settings → State → Float
-paceOf g v = incrementOf (v .frequency) (g .rate)
+abbrev pub phaseStepOf : Settings → State → Float
+phaseStepOf g v = incrementOf (v .frequency) (g .rate)
 
 unfoldable pub sampleOf : Settings → State → Float
-sampleOf g v = valueAt (g .waveform) (paceOf g v) (v .phase .0) ⊗ steppedOf g v .level ⊗ v .velocity
+sampleOf g v = valueAt (g .waveform) (phaseStepOf g v) (v .phase .0) ⊗ nextEnvelopeOf g v .level ⊗ v .velocity
 
 unfoldable pub advanceOf : Settings → State → State
-advanceOf g v = withEnvelope (withPhase v (v .phase .0 ⊕ paceOf g v)) (steppedOf g v)
+advanceOf g v = withEnvelope (withPhase v (v .phase .0 ⊕ phaseStepOf g v)) (nextEnvelopeOf g v)

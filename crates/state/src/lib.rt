@@ -5,7 +5,7 @@ ghost use mathlib.Core.Path.{_≡_};
 ghost use Rattle.voice.specs.Keys.{liftedOf};
 ghost use Rattle.state.specs.Limits.{inLimits, isState};
 ghost use Rattle.state.specs.Settings.{settingsOk};
-ghost use Rattle.state.specs.State.{counted, freshOf, soundedOf, heldOf, reducedOf, eventOf, actOf, struckOf, liftedBy, steppedOf, sampleOf, advanceOf};
+ghost use Rattle.state.specs.State.{counted, freshOf, withNote, withKeys, reducedOf, eventOf, actOf, struckOf, afterNoteOff, nextEnvelopeOf, sampleOf, advanceOf};
 use envelope::Adsr;
 use envelope::Envelope;
 use score::Kind;
@@ -63,7 +63,7 @@ pub fn is_state(state: State) -> bool
 pub fn fresh() -> State
     ensures { λ r. ⌜ r ≡ freshOf 0 ⌝ }
 {
-    at_rest(0)
+    fresh_after(0)
 }
 
 // The phase modulo TAU, from 0 to TAU. TAU itself is reached if the remainder is negative and too small to change TAU.
@@ -95,7 +95,7 @@ pub fn act(settings: Settings, state: State, event: Event) -> State
     match event {
         Event::Strike(note, velocity) => strike(settings, state, note, velocity),
         Event::Lift(note) => lift(state, note),
-        Event::Reset => at_rest(one_more(state.acted)),
+        Event::Reset => fresh_after(one_more(state.acted)),
     }
 }
 
@@ -107,7 +107,7 @@ pub fn sample_of(settings: Settings, state: State) -> f64
     let waveform = settings.waveform;
     let phase = state.phase;
     let value = waveform::wave_at(waveform, phase, step);
-    value * stepped(settings, state).level * state.velocity
+    value * next_envelope(settings, state).level * state.velocity
 }
 
 // Oscillator and envelope advance by one sample.
@@ -116,7 +116,7 @@ pub fn advance(settings: Settings, state: State) -> State
 {
     let step = waveform::increment(state.frequency, settings.rate);
     let phase = Radians(state.phase.0 + step.0);
-    let envelope = stepped(settings, state);
+    let envelope = next_envelope(settings, state);
     let mut next = state;
     next.phase = phase;
     next.envelope = envelope;
@@ -139,7 +139,7 @@ fn in_limits(state: State) -> bool
         & keys::is_keys(keys)
 }
 
-fn at_rest(acted: u64) -> State
+fn fresh_after(acted: u64) -> State
     ensures { λ r. ⌜ r ≡ freshOf acted ⌝ }
 {
     State {
@@ -157,39 +157,39 @@ fn strike(settings: Settings, state: State, note: u8, velocity: u8) -> State
 {
     let keys = keys::pressed(state.keys, note, velocity);
     let envelope = envelope::triggered(state.envelope);
-    let mut next = sounded(held(state, keys), note, velocity);
+    let mut next = with_note(with_keys(state, keys), note, velocity);
     next.envelope = envelope;
     next
 }
 
 fn lift(state: State, note: u8) -> State
-    ensures { λ r. ⌜ r ≡ liftedBy state (liftedOf (state .keys) note .keys) (liftedOf (state .keys) note .off) ⌝ }
+    ensures { λ r. ⌜ r ≡ afterNoteOff state (liftedOf (state .keys) note .keys) (liftedOf (state .keys) note .off) ⌝ }
 {
     let after = keys::lifted(state.keys, note);
     let keys = after.keys;
     let off = after.off;
-    left(state, keys, off)
+    after_note_off(state, keys, off)
 }
 
 // The state after a key is lifted: `keys` are left, and `off` is what the lift does to the sound.
-fn left(state: State, keys: Keys, off: NoteOff) -> State
-    ensures { λ r. ⌜ r ≡ liftedBy state keys off ⌝ }
+fn after_note_off(state: State, keys: Keys, off: NoteOff) -> State
+    ensures { λ r. ⌜ r ≡ afterNoteOff state keys off ⌝ }
 {
-    let mut next = held(state, keys);
+    let mut next = with_keys(state, keys);
     match off {
         NoteOff::Released => {
             let envelope = envelope::released(state.envelope);
             next.envelope = envelope;
             next
         }
-        NoteOff::FellBack(note, velocity) => sounded(next, note, velocity),
+        NoteOff::FellBack(note, velocity) => with_note(next, note, velocity),
         NoteOff::NoChange => next,
     }
 }
 
 // The note sounds, with this velocity.
-fn sounded(state: State, note: u8, velocity: u8) -> State
-    ensures { λ r. ⌜ r ≡ soundedOf state note velocity ⌝ }
+fn with_note(state: State, note: u8, velocity: u8) -> State
+    ensures { λ r. ⌜ r ≡ withNote state note velocity ⌝ }
 {
     let mut next = state;
     next.frequency = pitch::frequency_of_f64(note);
@@ -198,8 +198,8 @@ fn sounded(state: State, note: u8, velocity: u8) -> State
 }
 
 // These keys are held, and one more record has acted.
-fn held(state: State, keys: Keys) -> State
-    ensures { λ r. ⌜ r ≡ heldOf state keys ⌝ }
+fn with_keys(state: State, keys: Keys) -> State
+    ensures { λ r. ⌜ r ≡ withKeys state keys ⌝ }
 {
     let mut next = state;
     next.keys = keys;
@@ -208,8 +208,8 @@ fn held(state: State, keys: Keys) -> State
 }
 
 // The envelope after the next sample.
-fn stepped(settings: Settings, state: State) -> Envelope
-    ensures { λ r. ⌜ r ≡ steppedOf settings state ⌝ }
+fn next_envelope(settings: Settings, state: State) -> Envelope
+    ensures { λ r. ⌜ r ≡ nextEnvelopeOf settings state ⌝ }
 {
     let adsr = settings.adsr;
     envelope::step(

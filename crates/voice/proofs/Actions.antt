@@ -8,7 +8,7 @@ use lib.Dec.{T, ltb, leb, eqb, le→leb}
 use borrow.Author.Tests.{ltb-true}
 use lib.ListN.{length, length-append}
 use lib.Ieee.Fits.{and-i, and-r}
-use Rattle.voice.specs.Keys.{Pair, heldOf, keysOf, pushed, others, lastOf, isSounding, fallBackTo, pressedOf, withoutOf, liftedOf, isSound, isKeys}
+use Rattle.voice.specs.Keys.{Pair, heldOf, keysOf, pushed, others, lastOf, isSounding, fallBackTo, pressedOf, withoutOf, liftedOf, isGateRight, isKeys}
 use Rattle.voice.specs.declared.keys.ActiveNote.{ActiveNote}
 use Rattle.voice.specs.declared.keys.ActiveNote.the-variants.{Silent, Note}
 use Rattle.voice.specs.declared.keys.NoteOff.{NoteOff}
@@ -99,7 +99,7 @@ pub record LiftKept (l : AfterLift) : Type 0 where
   pub back : BackRanged (l .off)
 
 -- a note of keys within the limits sounds only with the gate up
-gate-up : (a : ActiveNote) (g : Bool) (n : ℕ) → T (isSound a g) → isSounding a n ≡ true → T g
+gate-up : (a : ActiveNote) (g : Bool) (n : ℕ) → T (isGateRight a g) → isSounding a n ≡ true → T g
 gate-up Silent g n s e = absurd (false≢true e)
 gate-up (Note m) g n s e = and-r (leb m 127) g s
 

@@ -16,7 +16,7 @@ use Rattle.domain.specs.Domain.{isMidi, isPitch}
 use Rattle.pitch.specs.Pitch.{frequencyOf}
 use Rattle.pitch.proofs.Rules.{frequency-in}
 use Rattle.voice.specs.Keys.{pressedOf, liftedOf, atMost, isKeys}
-use Rattle.voice.specs.Voice.{isLoud, isVoice, isReleased, struck, heardOf, offOr, newOf, noteOnOf, noteOffOf, resetOf}
+use Rattle.voice.specs.Voice.{isLoud, isVoice, isReleased, soundingOf, afterLiftOf, offOr, newOf, noteOnOf, noteOffOf, resetOf}
 use Rattle.voice.specs.declared.keys.Keys.{Keys}
 use Rattle.voice.specs.declared.keys.NoteOff.{NoteOff}
 use Rattle.voice.specs.declared.keys.NoteOff.the-variants.{Released, FellBack, NoChange}
@@ -49,13 +49,13 @@ pitched : (n : ℕ) → n ≤ 127 → T (isPitch binary32 (frequencyOf n))
 unfolding ofBits
 pitched n h = frequency-in n (omega arith)
 
-struck-in : (k : Keys) (n v : ℕ) → T (isKeys k) → n ≤ 127 → v ≤ 127 → T (isVoice (struck k n v))
-struck-in k n v t hn hv = voice-i (struck k n v) t (velocity-in v hv) (pitched n hn)
+struck-in : (k : Keys) (n v : ℕ) → T (isKeys k) → n ≤ 127 → v ≤ 127 → T (isVoice (soundingOf k n v))
+struck-in k n v t hn hv = voice-i (soundingOf k n v) t (velocity-in v hv) (pitched n hn)
 
-heard-in : (s : VoiceState) (k : Keys) (o : NoteOff) → T (isVoice s) → T (isKeys k) → BackRanged o → T (isVoice (heardOf s k o))
-heard-in s k Released t h b = voice-i (heardOf s k Released) h (voice-loud s t) (voice-pitched s t)
+heard-in : (s : VoiceState) (k : Keys) (o : NoteOff) → T (isVoice s) → T (isKeys k) → BackRanged o → T (isVoice (afterLiftOf s k o))
+heard-in s k Released t h b = voice-i (afterLiftOf s k Released) h (voice-loud s t) (voice-pitched s t)
 heard-in s k (FellBack n v) t h b = struck-in k n v h (b .0) (b .1)
-heard-in s k NoChange t h b = voice-i (heardOf s k NoChange) h (voice-loud s t) (voice-pitched s t)
+heard-in s k NoChange t h b = voice-i (afterLiftOf s k NoChange) h (voice-loud s t) (voice-pitched s t)
 
 pub new-in : T (isVoice newOf)
 unfolding isVoice isKeys atMost ofBits le lt
@@ -114,8 +114,8 @@ pub stays : (cs : List Call) → T (isVoice (run newOf cs))
 stays cs = run-keeps newOf cs new-in
 
 -- ---- what a release and a reset leave
-released-same : (ok : Bool) (s : VoiceState) (k : Keys) (o : NoteOff) → offOr (unless ok Argument) (isReleased o) s (heardOf s k o) .released ≡ true
-    → (offOr (unless ok Argument) (isReleased o) s (heardOf s k o) .voice .velocity ≡ s .velocity) × (offOr (unless ok Argument) (isReleased o) s (heardOf s k o) .voice .frequency ≡ s .frequency)
+released-same : (ok : Bool) (s : VoiceState) (k : Keys) (o : NoteOff) → offOr (unless ok Argument) (isReleased o) s (afterLiftOf s k o) .released ≡ true
+    → (offOr (unless ok Argument) (isReleased o) s (afterLiftOf s k o) .voice .velocity ≡ s .velocity) × (offOr (unless ok Argument) (isReleased o) s (afterLiftOf s k o) .voice .frequency ≡ s .frequency)
 released-same true s k Released e = (refl, refl)
 released-same true s k (FellBack n v) e = absurd (false≢true e)
 released-same true s k NoChange e = (refl, refl)

@@ -9,7 +9,7 @@ use lib.Dec.{T, leb, leb→le, le→leb}
 use lib.ListN.{length, take, drop, getD, replicate, length-take, length-drop, length-map, take-append-drop}
 use lib.Seq.{take-at, drop-at, getD-drop, length-take-le}
 use lib.Ieee.Fits.{and-i, and-l, and-r}
-use Rattle.voice.specs.Keys.{Pair, noteOf, velocityIn, pairs, heldOf, padded, keysOf, atMost, isFilled, isSound, isKeys}
+use Rattle.voice.specs.Keys.{Pair, noteOf, velocityIn, pairs, heldOf, padded, keysOf, atMost, isFilled, isGateRight, isKeys}
 use Rattle.voice.specs.declared.keys.ActiveNote.{ActiveNote}
 use Rattle.voice.specs.declared.keys.Keys.{Keys}
 use Rattle.voice.proofs.Pairs.{pairs-length, pairs-most, pairs-notes, pairs-velocities, pairs-again}
@@ -26,7 +26,7 @@ AllRanged (p ∷ ps) = Ranged p × AllRanged ps
 -- ---- the parts of the test
 module _ (k : Keys) (t : T (isKeys k)) where
   abbrev sounding : Bool
-  sounding = isSound (k .active) (k .gate)
+  sounding = isGateRight (k .active) (k .gate)
 
   abbrev counted : Bool
   counted = leb (k .count) 16
@@ -37,7 +37,7 @@ module _ (k : Keys) (t : T (isKeys k)) where
   abbrev velocities-filled : Bool
   velocities-filled = isFilled (k .count) (k .velocities)
 
-  pub keys-sound : T (isSound (k .active) (k .gate))
+  pub keys-sound : T (isGateRight (k .active) (k .gate))
   unfolding isKeys
   keys-sound = and-l sounding counted (and-l (sounding && counted) notes-filled (and-l (sounding && counted && notes-filled) velocities-filled t))
 
@@ -118,14 +118,14 @@ padded-filled xs c h t =
     let z = replicate {A = ℕ} (16 - length xs) 0 in
     rw (take-at xs z c h, drop-at xs z c h) (and-i (atMost 127 xs) (atMost 0 z) t (at-most-zeros (16 - length xs)))
 
-pub holds-limits : (a : ActiveNote) (g : Bool) (ps : List Pair) → T (isSound a g) → length ps ≤ 16 → AllRanged ps → T (isKeys (keysOf a g ps))
+pub holds-limits : (a : ActiveNote) (g : Bool) (ps : List Pair) → T (isGateRight a g) → length ps ≤ 16 → AllRanged ps → T (isKeys (keysOf a g ps))
 unfolding isKeys
 holds-limits a g ps s l r =
     let c = length ps in
     let fn = isFilled c (padded (map noteOf ps)) in
     let fv = isFilled c (padded (map velocityIn ps)) in
-    and-i (isSound a g && leb c 16 && fn) fv
-    (and-i (isSound a g && leb c 16) fn (and-i (isSound a g) (leb c 16) s (le→leb c 16 l)) (padded-filled (map noteOf ps) c (length-map ps noteOf) (notes-at-most ps r)))
+    and-i (isGateRight a g && leb c 16 && fn) fv
+    (and-i (isGateRight a g && leb c 16) fn (and-i (isGateRight a g) (leb c 16) s (le→leb c 16 l)) (padded-filled (map noteOf ps) c (length-map ps noteOf) (notes-at-most ps r)))
     (padded-filled (map velocityIn ps) c (length-map ps velocityIn) (velocities-at-most ps r))
 
 -- ---- from keys to list and back

@@ -101,9 +101,9 @@ unfoldable pub liftedOf : Keys → ℕ → AfterLift
 liftedOf keys n = cond (isSounding (keys .active) n) (fallBackOf (withoutOf keys n)) (record { keys = withoutOf keys n; off = NoChange })
 
 -- ---- the limits
-abbrev pub isSound : ActiveNote → Bool → Bool
-isSound Silent gate = not gate
-isSound (Note n) gate = leb n 127 && gate
+abbrev pub isGateRight : ActiveNote → Bool → Bool
+isGateRight Silent gate = not gate
+isGateRight (Note n) gate = leb n 127 && gate
 
 unfoldable pub atMost : ℕ → List ℕ → Bool
 atMost m [] = true
@@ -114,4 +114,4 @@ abbrev pub isFilled : ℕ → List ℕ → Bool
 isFilled c xs = atMost 127 (take c xs) && atMost 0 (drop c xs)
 
 unfoldable pub isKeys : Keys → Bool
-isKeys keys = isSound (keys .active) (keys .gate) && leb (keys .count) 16 && isFilled (keys .count) (keys .notes) && isFilled (keys .count) (keys .velocities)
+isKeys keys = isGateRight (keys .active) (keys .gate) && leb (keys .count) 16 && isFilled (keys .count) (keys .notes) && isFilled (keys .count) (keys .velocities)

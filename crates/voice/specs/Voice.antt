@@ -13,7 +13,7 @@ use Prim.Native.Nat.{ℕ}
 use lib.IntN.{pos}
 use lib.ListN.{length}
 use lib.Ieee.{Float, binary32, ofBits, ofInt, div}
-use Rattle.floats.specs.Range.{lit0, lit1, within}
+use Rattle.floats.specs.Range.{zeroOf, oneOf, within}
 use Rattle.domain.specs.Domain.{isMidi, isPitch}
 use Rattle.pitch.specs.Pitch.{frequencyOf}
 use Rattle.answers.specs.declared.Answer.the-variants.{Done, Refused}
@@ -42,7 +42,7 @@ concert = ofBits binary32 0x43dc_0000
 
 -- ---- the limits
 abbrev pub isLoud : Float → Bool
-isLoud x = within (lit0 binary32) (lit1 binary32) x
+isLoud x = within (zeroOf binary32) (oneOf binary32) x
 
 unfoldable pub isVoice : VoiceState → Bool
 isVoice s = isKeys (s .keys) && isLoud (s .velocity) && isPitch binary32 (s .frequency)
@@ -63,14 +63,14 @@ countOr refusals n = firstOf refusals (λ (why : Refusal). record { answer = Ref
 
 -- ---- what sounds
 -- the keys, and note n sounds with velocity v
-abbrev pub struck : Keys → ℕ → ℕ → VoiceState
-struck keys n v = record { keys = keys; velocity = velocityOf v; frequency = frequencyOf n }
+abbrev pub soundingOf : Keys → ℕ → ℕ → VoiceState
+soundingOf keys n v = record { keys = keys; velocity = velocityOf v; frequency = frequencyOf n }
 
 -- after a key is lifted: only a fall back to another note changes velocity and frequency
-abbrev pub heardOf : VoiceState → Keys → NoteOff → VoiceState
-heardOf s keys Released = record { keys = keys; velocity = s .velocity; frequency = s .frequency }
-heardOf s keys (FellBack n v) = struck keys n v
-heardOf s keys NoChange = record { keys = keys; velocity = s .velocity; frequency = s .frequency }
+abbrev pub afterLiftOf : VoiceState → Keys → NoteOff → VoiceState
+afterLiftOf s keys Released = record { keys = keys; velocity = s .velocity; frequency = s .frequency }
+afterLiftOf s keys (FellBack n v) = soundingOf keys n v
+afterLiftOf s keys NoChange = record { keys = keys; velocity = s .velocity; frequency = s .frequency }
 
 abbrev pub isReleased : NoteOff → Bool
 isReleased Released = true
@@ -83,15 +83,15 @@ isNote (Note n) = true
 
 -- ---- the calls
 abbrev pub newOf : VoiceState
-newOf = record { keys = freshKeys; velocity = lit0 binary32; frequency = concert }
+newOf = record { keys = freshKeys; velocity = zeroOf binary32; frequency = concert }
 
 abbrev pub noteOnOf : VoiceState → ℕ → ℕ → Changed
-noteOnOf s n v = changedOr (unless (isVoice s && isMidi n && isMidi v) Argument) s (struck (pressedOf (s .keys) n v) n v)
+noteOnOf s n v = changedOr (unless (isVoice s && isMidi n && isMidi v) Argument) s (soundingOf (pressedOf (s .keys) n v) n v)
 
 abbrev pub noteOffOf : VoiceState → ℕ → Off
 noteOffOf s n =
     let lift = liftedOf (s .keys) n in
-    offOr (unless (isVoice s && isMidi n) Argument) (isReleased (lift .off)) s (heardOf s (lift .keys) (lift .off))
+    offOr (unless (isVoice s && isMidi n) Argument) (isReleased (lift .off)) s (afterLiftOf s (lift .keys) (lift .off))
 
 abbrev pub resetOf : VoiceState → Changed
 resetOf s = changedOr (unless (isVoice s) Argument) s newOf

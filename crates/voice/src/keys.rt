@@ -4,7 +4,7 @@
 ghost use mathlib.Core.Path.{_≡_};
 ghost use Prim.Native.Nat.{_≤_, _<_};
 ghost use lib.ListN.{length, take};
-ghost use Rattle.voice.specs.Keys.{pairs, heldOf, padded, keysOf, freshKeys, pressedOf, withoutOf, isSounding, fallBackOf, liftedOf, isSound, isFilled, isKeys};
+ghost use Rattle.voice.specs.Keys.{pairs, heldOf, padded, keysOf, freshKeys, pressedOf, withoutOf, isSounding, fallBackOf, liftedOf, isGateRight, isFilled, isKeys};
 ghost use Rattle.voice.specs.Inner.{closedUp};
 
 // The note that sounds, if one does.
@@ -60,7 +60,7 @@ pub fn pressed(keys: Keys, note: u8, velocity: u8) -> Keys
         velocities[count] = velocity;
         count += 1;
     }
-    holding(ActiveNote::Note(note), true, notes, velocities, count)
+    keys_of(ActiveNote::Note(note), true, notes, velocities, count)
 }
 
 // A key goes up: every held pair of its note is dropped. If that note sounded, the last held key sounds next, or none.
@@ -85,7 +85,7 @@ pub fn is_keys(keys: Keys) -> bool
     let notes = keys.notes;
     let velocities = keys.velocities;
     let count = keys.count;
-    is_sound(keys) & (count <= 16) & is_filled(notes, count) & is_filled(velocities, count)
+    is_gate_right(keys) & (count <= 16) & is_filled(notes, count) & is_filled(velocities, count)
 }
 
 // How many keys are held: `count`, but at most 16, the room of the arrays.
@@ -118,7 +118,7 @@ fn without(keys: Keys, note: u8) -> Keys
             i += 1;
         }
     }
-    holding(active, gate, notes, velocities, count)
+    keys_of(active, gate, notes, velocities, count)
 }
 
 // The byte at `at` is dropped, those after it up to `last` move one place down, and the byte at `last` does not change.
@@ -134,7 +134,7 @@ fn close_up(bytes: &mut [u8; 16], at: usize, last: usize)
 }
 
 // The keys with the first `count` pairs held; the other places are set to 0.
-fn holding(
+fn keys_of(
     active: ActiveNote,
     gate: bool,
     notes: [u8; 16],
@@ -217,8 +217,8 @@ fn fallen_back(keys: Keys) -> AfterLift
 }
 
 // A note from 0 to 127 with the gate up, or none with the gate down.
-fn is_sound(keys: Keys) -> bool
-    ensures { λ r. ⌜ r ≡ isSound (keys .active) (keys .gate) ⌝ }
+fn is_gate_right(keys: Keys) -> bool
+    ensures { λ r. ⌜ r ≡ isGateRight (keys .active) (keys .gate) ⌝ }
 {
     let active = keys.active;
     let gate = keys.gate;

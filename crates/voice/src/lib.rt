@@ -4,7 +4,7 @@
 ghost use mathlib.Core.Path.{_≡_};
 ghost use Rattle.answers.specs.Order.{unless};
 ghost use Rattle.answers.specs.declared.Refusal.the-variants.{Argument};
-ghost use Rattle.voice.specs.Voice.{velocityOf, isVoice, struck, heardOf, isReleased, isNote, changedOr, offOr, activeOr, countOr};
+ghost use Rattle.voice.specs.Voice.{velocityOf, isVoice, soundingOf, afterLiftOf, isReleased, isNote, changedOr, offOr, activeOr, countOr};
 ghost use Rattle.voice.specs.Voice.{newOf, noteOnOf, noteOffOf, resetOf, isActiveOf, heldNoteCountOf};
 use answers::Answer;
 use answers::Refusal;
@@ -86,7 +86,7 @@ impl VoiceState {
             is_voice(self) & domain::is_midi(note),
             is_released(lift),
             self,
-            heard(self, lift),
+            after_lift(self, lift),
         )
     }
 
@@ -162,8 +162,8 @@ fn is_released(lift: AfterLift) -> bool
 }
 
 // The state after a key is lifted: only a fall back to another note changes velocity and frequency.
-fn heard(voice: VoiceState, lift: AfterLift) -> VoiceState
-    ensures { λ r. ⌜ r ≡ heardOf voice (lift .keys) (lift .off) ⌝ }
+fn after_lift(voice: VoiceState, lift: AfterLift) -> VoiceState
+    ensures { λ r. ⌜ r ≡ afterLiftOf voice (lift .keys) (lift .off) ⌝ }
 {
     let keys = lift.keys;
     let off = lift.off;

@@ -11,9 +11,9 @@ use lib.Ieee.Fits.{and-i, and-r}
 use lib.Ieee.Order.{round-mono}
 use lib.Ieee.Scale.{finite}
 use lib.Ieee.Positive.{positive}
-use Rattle.floats.specs.Range.{nought, nonneg, within}
-use Rattle.floats.specs.Double.{_⊗_, _⊘_, naught, one, four}
-use Rattle.floats.proofs.Literals.{lit0-is}
+use Rattle.floats.specs.Range.{plusZero, nonneg, within}
+use Rattle.floats.specs.Double.{_⊗_, _⊘_, zero64, one, four}
+use Rattle.floats.proofs.Literals.{zeroOf-is}
 use Rattle.floats.proofs.Order.{fle-trans, fle-refl, ge0→le, nonneg→ge0, nonneg→finite, under, lt-not-le}
 use Rattle.floats.proofs.Monotone.{mul-mono, div-mono}
 use Rattle.floats.proofs.Ranges.{mul-ge0, div-ge0, rem-ge0, rem-le, within-nonneg, ge0-positive}
@@ -34,19 +34,19 @@ pub inv-nonneg : T (nonneg invTau)
 inv-nonneg = unfold ofBits in tt
 
 -- 0 ≤ x, by the literal
-from-naught : (x : Float) → T (le nought x) → T (le naught x)
-from-naught x h = rw (lit0-is binary64) h
+from-zero : (x : Float) → T (le plusZero x) → T (le zero64 x)
+from-zero x h = rw (zeroOf-is binary64) h
 
 -- ---- the normalised phase
 module _ (p : Float) (w : T (fits binary64 p)) (h : T (nonneg p)) where
   pub rem-nonneg : T (nonneg (rem binary64 p tau))
   rem-nonneg = under (rem binary64 p tau) tau (rem-ge0 binary64 p tau h tau-positive) (nonneg→finite tau tau-nonneg) (rem-le binary64 p tau tau-fits h tau-positive)
 
-  pub normal-in : T (within naught one (normalOf p))
+  pub normal-in : T (within zero64 one (normalOf p))
   normal-in =
       let r = rem binary64 p tau in
-      and-i (le naught (normalOf p)) (le (normalOf p) one)
-      (from-naught (normalOf p) (ge0→le (normalOf p) (mul-ge0 binary64 r invTau rem-nonneg inv-nonneg)))
+      and-i (le zero64 (normalOf p)) (le (normalOf p) one)
+      (from-zero (normalOf p) (ge0→le (normalOf p) (mul-ge0 binary64 r invTau rem-nonneg inv-nonneg)))
       (fle-trans (normalOf p) (tau ⊗ invTau) one (mul-mono binary64 r tau invTau invTau rem-nonneg tau-nonneg inv-nonneg inv-nonneg (rem-le binary64 p tau tau-fits h tau-positive) (fle-refl invTau (nonneg→finite invTau inv-nonneg)))
       (unfold ofBits in unfold mul in unfold le in tt))
 
@@ -55,8 +55,8 @@ module _ (p : Float) (w : T (fits binary64 p)) (h : T (nonneg p)) where
   unfolding reduceOf
   reduce-is = rw (not-below (rem binary64 p tau) rem-nonneg) refl
     where
-      not-below : (x : Float) → T (nonneg x) → lt x naught ≡ false
-      not-below x k = by-no (lt x naught) (λ (t : T (lt x naught)). lt-not-le x naught t (from-naught x (ge0→le x (nonneg→ge0 x k))))
+      not-below : (x : Float) → T (nonneg x) → lt x zero64 ≡ false
+      not-below x k = by-no (lt x zero64) (λ (t : T (lt x zero64)). lt-not-le x zero64 t (from-zero x (ge0→le x (nonneg→ge0 x k))))
         where
           by-no : (b : Bool) → (T b → ⊥) → b ≡ false
           by-no true n = absurd (n tt)
@@ -83,16 +83,16 @@ rate-le rate h = rw (whole) (round-mono binary64 8000 1 rate 1 (lit< tt) (lit< t
     whole : lowestRate ≡ round binary64 false 8000 1
     whole = unfold ofBits in unfold round in refl
 
-module _ (frequency : Float) (rate : ℕ) (f : T (within naught highest frequency)) (r : 8000 ≤ rate) (k : T (finite (ofInt binary64 (pos rate)))) where
+module _ (frequency : Float) (rate : ℕ) (f : T (within zero64 highest frequency)) (r : 8000 ≤ rate) (k : T (finite (ofInt binary64 (pos rate)))) where
   rate-positive : T (positive (ofInt binary64 (pos rate)))
   rate-positive = ge0-positive lowestRate (ofInt binary64 (pos rate)) (unfold ofBits in tt) (rate-le rate r) k
 
   frequency-nonneg : T (nonneg frequency)
-  frequency-nonneg = within-nonneg highest frequency (unfold ofBits in tt) (subst (λ (z : Float). T (within z highest frequency)) (lit0-is binary64) f)
+  frequency-nonneg = within-nonneg highest frequency (unfold ofBits in tt) (subst (λ (z : Float). T (within z highest frequency)) (zeroOf-is binary64) f)
 
   -- frequency / rate is at most 2.5, and so the rest at most 2.5 * TAU and 2.5 * TAU * INV_TAU
   ratio-le : T (le (frequency ⊘ ofInt binary64 (pos rate)) (highest ⊘ lowestRate))
-  ratio-le = div-mono binary64 frequency highest (ofInt binary64 (pos rate)) lowestRate frequency-nonneg (unfold ofBits in tt) rate-positive (unfold ofBits in tt) (and-r (le naught frequency) (le frequency highest) f) (rate-le rate r)
+  ratio-le = div-mono binary64 frequency highest (ofInt binary64 (pos rate)) lowestRate frequency-nonneg (unfold ofBits in tt) rate-positive (unfold ofBits in tt) (and-r (le zero64 frequency) (le frequency highest) f) (rate-le rate r)
 
   ratio-nonneg : T (nonneg (frequency ⊘ ofInt binary64 (pos rate)))
   ratio-nonneg = under (frequency ⊘ ofInt binary64 (pos rate)) (highest ⊘ lowestRate) (div-ge0 binary64 frequency (ofInt binary64 (pos rate)) frequency-nonneg rate-positive) (unfold ofBits in unfold div in tt) ratio-le
@@ -105,11 +105,11 @@ module _ (frequency : Float) (rate : ℕ) (f : T (within naught highest frequenc
   unfolding incrementOf
   increment-nonneg = under (incrementOf frequency rate) (highest ⊘ lowestRate ⊗ tau) (mul-ge0 binary64 (frequency ⊘ ofInt binary64 (pos rate)) tau ratio-nonneg tau-nonneg) (unfold ofBits in unfold div in unfold mul in tt) increment-le
 
-  pub step-in : T (within naught four (incrementOf frequency rate ⊗ invTau))
+  pub step-in : T (within zero64 four (incrementOf frequency rate ⊗ invTau))
   step-in =
       let i = incrementOf frequency rate in
-      and-i (le naught (i ⊗ invTau)) (le (i ⊗ invTau) four)
-      (from-naught (i ⊗ invTau) (ge0→le (i ⊗ invTau) (mul-ge0 binary64 i invTau increment-nonneg inv-nonneg)))
+      and-i (le zero64 (i ⊗ invTau)) (le (i ⊗ invTau) four)
+      (from-zero (i ⊗ invTau) (ge0→le (i ⊗ invTau) (mul-ge0 binary64 i invTau increment-nonneg inv-nonneg)))
       (fle-trans (i ⊗ invTau) (highest ⊘ lowestRate ⊗ tau ⊗ invTau) four
       (mul-mono binary64 i (highest ⊘ lowestRate ⊗ tau) invTau invTau increment-nonneg (unfold ofBits in unfold div in unfold mul in tt) inv-nonneg inv-nonneg increment-le (fle-refl invTau (nonneg→finite invTau inv-nonneg)))
       (unfold ofBits in unfold div in unfold mul in unfold le in tt))

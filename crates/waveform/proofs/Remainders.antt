@@ -12,8 +12,8 @@ use lib.Ieee.Fits.{and-l, and-r}
 use lib.Ieee.Scale.{finite}
 use lib.Ieee.Positive.{num, den, positive}
 use Rattle.floats.specs.Range.{nonneg}
-use Rattle.floats.specs.Double.{_⊖_, _⊘_, naught}
-use Rattle.floats.proofs.Literals.{lit0-is}
+use Rattle.floats.specs.Double.{_⊖_, _⊘_, zero64}
+use Rattle.floats.proofs.Literals.{zeroOf-is}
 use Rattle.floats.proofs.Order.{le→ge0, le→cross, cross→le, under, lt-le, lt-not-le, not-lt-le, finite-not-nan, between-finite, nonneg→finite, positive-nonneg}
 use Rattle.floats.proofs.Ranges.{ge0-positive}
 use Rattle.floats.proofs.Pattern.{fieldsOf}
@@ -98,12 +98,12 @@ module _ (x : Float) (w : T (fits binary64 x)) (h : T (le tau x)) (l : T (lt x f
           whole y h = omega arith
 
 -- ---- the tests that the code makes
-module _ (x : Float) (t : (le naught x && lt x far) ≡ true) where
+module _ (x : Float) (t : (le zero64 x && lt x far) ≡ true) where
   below-far : T (lt x far)
-  below-far = and-r (le naught x) (lt x far) (subst T (sym t) tt)
+  below-far = and-r (le zero64 x) (lt x far) (subst T (sym t) tt)
 
   phase-nonneg : T (nonneg x)
-  phase-nonneg = under x far (le→ge0 x (rw lit0-is at (and-l (le naught x) (lt x far) (subst T (sym t) tt)))) (nonneg→finite far far-nonneg) (lt-le x far below-far)
+  phase-nonneg = under x far (le→ge0 x (rw zeroOf-is at (and-l (le zero64 x) (lt x far) (subst T (sym t) tt)))) (nonneg→finite far far-nonneg) (lt-le x far below-far)
 
   -- a phase below TAU
   pub below-tau : T (fits binary64 x) → lt x tau ≡ true → x ≡ rem binary64 x tau

@@ -9,9 +9,9 @@ use lib.Ieee.{Float, nan, binary64, ofBits, add, le, fits}
 use lib.Ieee.Fits.{and-i, and-l, and-r, cond-fits, add-fits, sub-fits, mul-fits, div-fits}
 use lib.Ieee.Scale.{finite}
 use Rattle.runs.proofs.Laws.{repeated-keeps}
-use Rattle.floats.specs.Range.{nought, unity, nonneg, within}
-use Rattle.floats.specs.Double.{_⊕_, _⊖_, _⊗_, naught, one, four}
-use Rattle.floats.proofs.Literals.{lit0-is, lit1-is}
+use Rattle.floats.specs.Range.{plusZero, plusOne, nonneg, within}
+use Rattle.floats.specs.Double.{_⊕_, _⊖_, _⊗_, zero64, one, four}
+use Rattle.floats.proofs.Literals.{zeroOf-is, oneOf-is}
 use Rattle.floats.proofs.Order.{fle-trans, under, between-finite, not-le-le}
 use Rattle.floats.proofs.Monotone.{add-mono}
 use Rattle.floats.proofs.Ranges.{add-ge0, within-nonneg}
@@ -33,11 +33,11 @@ point-fits : (p : Float) → T (fits binary64 (pointOf quarter p))
 unfolding pointOf
 point-fits p =
     let i = wholePart p in
-    cond-fits binary64 (eqb i 4096) (betweenOf quarter 0 naught) (betweenOf quarter i (p ⊖ float (pos i))) (div-fits binary64 _ scale) (div-fits binary64 _ scale)
+    cond-fits binary64 (eqb i 4096) (betweenOf quarter 0 zero64) (betweenOf quarter i (p ⊖ float (pos i))) (div-fits binary64 _ scale) (div-fits binary64 _ scale)
 
 reading-fits : (u : Float) → T (fits binary64 (readingOf u))
 unfolding readingIn
-reading-fits u = cond-fits binary64 (within naught one u) (pointOf quarter (u ⊗ steps)) naught (point-fits (u ⊗ steps)) (unfold ofBits in unfold fits in tt)
+reading-fits u = cond-fits binary64 (within zero64 one u) (pointOf quarter (u ⊗ steps)) zero64 (point-fits (u ⊗ steps)) (unfold ofBits in unfold fits in tt)
 
 pub value-fits : (w : Waveform) (phase dt : Float) → T (fits binary64 (valueOf w phase dt))
 unfolding valueOf squareOf sawOf triangleOf pulseOf
@@ -57,12 +57,12 @@ value-finite Triangle phase dt s h = triangle-finite phase dt h
 value-finite (Pulse duty) phase dt s h = pulse-finite phase dt h duty s
 
 -- and so it is at any phase in radians that is not negative
-pub value-at-finite : (w : Waveform) (step p : Float) → T (isWaveform w) → T (fits binary64 p) → T (nonneg p) → T (within naught four (step ⊗ invTau)) → T (finite (valueAt w step p))
+pub value-at-finite : (w : Waveform) (step p : Float) → T (isWaveform w) → T (fits binary64 p) → T (nonneg p) → T (within zero64 four (step ⊗ invTau)) → T (finite (valueAt w step p))
 value-at-finite w step p c f n d =
     let u = normalOf p in
     let dt = step ⊗ invTau in
     value-finite w u dt c
-    (record { t-fits = mul-fits binary64 _ invTau; dt-fits = mul-fits binary64 step invTau; in-range = and-i (within naught one u) (within naught four dt) (normal-in p f n) d })
+    (record { t-fits = mul-fits binary64 _ invTau; dt-fits = mul-fits binary64 step invTau; in-range = and-i (within zero64 one u) (within zero64 four dt) (normal-in p f n) d })
 
 -- ---- the phase of a long block
 -- 2^60, and 16: a step is below the last
@@ -93,30 +93,30 @@ module _ (step p : Float) (s : T (nonneg step)) (l : T (le step sixteen)) (h : N
 
 -- ---- samples
 -- x * t for t from 0 to 1
-pub scaled-finite : (x t : Float) → T (fits binary64 x) → T (finite x) → T (within naught one t) → T (finite (x ⊗ t))
-scaled-finite x t w k h = go (le nought x) refl
+pub scaled-finite : (x t : Float) → T (fits binary64 x) → T (finite x) → T (within zero64 one t) → T (finite (x ⊗ t))
+scaled-finite x t w k h = go (le plusZero x) refl
   where
-    inside : T (within nought unity t)
+    inside : T (within plusZero plusOne t)
     inside = subst T (within-is t) h
       where
-        within-is : (t : Float) → within naught one t ≡ within nought unity t
-        within-is t = rw (lit0-is binary64, lit1-is binary64) refl
+        within-is : (t : Float) → within zero64 one t ≡ within plusZero plusOne t
+        within-is t = rw (zeroOf-is binary64, oneOf-is binary64) refl
 
     t-nonneg : T (nonneg t)
-    t-nonneg = within-nonneg unity t tt inside
+    t-nonneg = within-nonneg plusOne t tt inside
 
-    t-le : T (le t unity)
-    t-le = and-r (le nought t) (le t unity) inside
+    t-le : T (le t plusOne)
+    t-le = and-r (le plusZero t) (le t plusOne) inside
 
-    go : (b : Bool) → le nought x ≡ b → T (finite (x ⊗ t))
+    go : (b : Bool) → le plusZero x ≡ b → T (finite (x ⊗ t))
     go true e =
         let r = scale-up-in binary64 x t w k t-nonneg t-le (subst T (sym e) tt) in
-        between-finite nought (x ⊗ t) x tt k (and-l (le nought (x ⊗ t)) (le (x ⊗ t) x) r) (and-r (le nought (x ⊗ t)) (le (x ⊗ t) x) r)
+        between-finite plusZero (x ⊗ t) x tt k (and-l (le plusZero (x ⊗ t)) (le (x ⊗ t) x) r) (and-r (le plusZero (x ⊗ t)) (le (x ⊗ t) x) r)
     go false e =
-        let r = scale-down-in binary64 x t w k t-nonneg t-le (not-le-le nought x tt k (subst (λ (b : Bool). T (not b)) (sym e) tt)) in
-        between-finite x (x ⊗ t) nought k tt (and-l (le x (x ⊗ t)) (le (x ⊗ t) nought) r) (and-r (le x (x ⊗ t)) (le (x ⊗ t) nought) r)
+        let r = scale-down-in binary64 x t w k t-nonneg t-le (not-le-le plusZero x tt k (subst (λ (b : Bool). T (not b)) (sym e) tt)) in
+        between-finite x (x ⊗ t) plusZero k tt (and-l (le x (x ⊗ t)) (le (x ⊗ t) plusZero) r) (and-r (le x (x ⊗ t)) (le (x ⊗ t) plusZero) r)
 
-module _ (w : Waveform) (step scale p : Float) (c : T (isWaveform w)) (s : T (nonneg step)) (l : T (le step sixteen)) (d : T (within naught four (step ⊗ invTau))) (t : T (within naught one scale)) (h : Near p) where
+module _ (w : Waveform) (step scale p : Float) (c : T (isWaveform w)) (s : T (nonneg step)) (l : T (le step sixteen)) (d : T (within zero64 four (step ⊗ invTau))) (t : T (within zero64 one scale)) (h : Near p) where
   pub samples-finite : (i n : ℕ) → i < n → T (finite (getD (samplesFrom w step scale p n) i nan))
   samples-finite i n lt =
       let q = phaseFrom step p i in

@@ -5,16 +5,16 @@ use Rattle.envelope.specs.Stages.{releasedOf}
 use Rattle.envelope.proofs.released.Statement.{statement}
 use Rattle.envelope.proofs.released.Tie as tie
 
-rests-requires : tie.Need-rests-requires
-rests-requires c κs = search needs
+is-idle-requires : tie.Need-is-idle-requires
+is-idle-requires c κs = search needs
 
 returns : tie.Need-returns
 unfolding releasedOf
-returns c = rw (← c .before .rests .ensures, c .if1 .taken) refl
+returns c = rw (← c .before .is-idle .ensures, c .if1 .taken) refl
 
 returns-2 : tie.Need-returns-2
 unfolding releasedOf
-returns-2 c = rw (← c .before .rests .ensures, c .if1 .left) refl
+returns-2 c = rw (← c .before .is-idle .ensures, c .if1 .left) refl
 
 pub released-spec : {M : Type 1} → statement M
-released-spec = tie.close (tie.spec rests-requires returns returns-2)
+released-spec = tie.close (tie.spec is-idle-requires returns returns-2)

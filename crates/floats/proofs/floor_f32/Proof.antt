@@ -7,7 +7,7 @@ use native.Mathlib.Omega.{arith}
 use lib.Dec.{T}
 use lib.Ieee.{binary32, fits}
 use Rattle.floats.proofs.Floors.{from-whole, from-whole-neg, casts}
-use Rattle.floats.proofs.Tests.{no-nan, floor-nan, returns-large, returns-zero, returns-small, returns-middle, nought-is, minus-one-is}
+use Rattle.floats.proofs.Tests.{no-nan, floor-nan, returns-large, returns-zero, returns-small, returns-middle, plusZero-is, minus-one-is}
 use Rattle.floats.proofs.floor_f32.Statement.{statement}
 use Rattle.floats.proofs.floor_f32.Tie as tie
 
@@ -35,7 +35,7 @@ returns-4 c =
 returns-5 : tie.Need-returns-5
 returns-5 c =
     let start = c .before .before .before .before .before in
-    nought-is binary32 ∙ returns-small binary32 (start .args .x) (held start) false (c .if5 .left) (c .before .before .if3 .left) (c .before .if4 .taken)
+    plusZero-is binary32 ∙ returns-small binary32 (start .args .x) (held start) false (c .if5 .left) (c .before .before .if3 .left) (c .before .if4 .taken)
 
 add-digits : tie.Need-add-digits
 add-digits c = search needs

@@ -30,12 +30,12 @@ fract-requires c κs =
 blep-requires-2 : tie.Need-blep-requires-2
 blep-requires-2 c κs = search needs
 
-step-requires : tie.Need-step-requires
-step-requires c κs = search needs
+naive-pulse-requires : tie.Need-naive-pulse-requires
+naive-pulse-requires c κs = search needs
 
 returns-2 : tie.Need-returns-2
 unfolding pulseOf
-returns-2 c = rw (c .step .ensures, c .before .blep2 .ensures, c .before .before .fract .ensures, c .before .before .before .blep .ensures) refl
+returns-2 c = rw (c .naive-pulse .ensures, c .before .blep2 .ensures, c .before .before .fract .ensures, c .before .before .before .blep .ensures) refl
 
 pub pulse-spec : {M : Type 1} → statement M
-pulse-spec = tie.close (tie.spec pulse-requires returns blep-requires fract-requires blep-requires-2 step-requires returns-2)
+pulse-spec = tie.close (tie.spec pulse-requires returns blep-requires fract-requires blep-requires-2 naive-pulse-requires returns-2)

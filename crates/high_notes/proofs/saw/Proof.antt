@@ -5,15 +5,15 @@ use Rattle.polyblep.specs.Polyblep.{sawOf}
 use Rattle.high_notes.proofs.saw.Statement.{statement}
 use Rattle.high_notes.proofs.saw.Tie as tie
 
-climb-requires : tie.Need-climb-requires
-climb-requires c κs = search needs
+naive-saw-requires : tie.Need-naive-saw-requires
+naive-saw-requires c κs = search needs
 
 blep-requires : tie.Need-blep-requires
 blep-requires c κs = search needs
 
 returns : tie.Need-returns
 unfolding sawOf
-returns c = rw (c .blep .ensures, c .before .climb .ensures) refl
+returns c = rw (c .blep .ensures, c .before .naive-saw .ensures) refl
 
 pub saw-spec : {M : Type 1} → statement M
-saw-spec = tie.close (tie.spec climb-requires blep-requires returns)
+saw-spec = tie.close (tie.spec naive-saw-requires blep-requires returns)

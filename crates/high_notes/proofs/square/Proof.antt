@@ -15,12 +15,12 @@ fract-requires c κs = half-low (c .before .args .u) (c .before .pre)
 blep-requires-2 : tie.Need-blep-requires-2
 blep-requires-2 c κs = search needs
 
-step-requires : tie.Need-step-requires
-step-requires c κs = search needs
+naive-pulse-requires : tie.Need-naive-pulse-requires
+naive-pulse-requires c κs = search needs
 
 returns : tie.Need-returns
 unfolding squareOf
-returns c = rw (c .step .ensures, c .before .blep2 .ensures, c .before .before .fract .ensures, c .before .before .before .blep .ensures) refl
+returns c = rw (c .naive-pulse .ensures, c .before .blep2 .ensures, c .before .before .fract .ensures, c .before .before .before .blep .ensures) refl
 
 pub square-spec : {M : Type 1} → statement M
-square-spec = tie.close (tie.spec blep-requires fract-requires blep-requires-2 step-requires returns)
+square-spec = tie.close (tie.spec blep-requires fract-requires blep-requires-2 naive-pulse-requires returns)

@@ -15,12 +15,12 @@ fract-requires c κs = half-low (c .before .args .u) (c .before .pre)
 blamp-requires-2 : tie.Need-blamp-requires-2
 blamp-requires-2 c κs = search needs
 
-ramp-requires : tie.Need-ramp-requires
-ramp-requires c κs = search needs
+naive-triangle-requires : tie.Need-naive-triangle-requires
+naive-triangle-requires c κs = search needs
 
 returns : tie.Need-returns
 unfolding triangleOf
-returns c = rw (c .ramp .ensures, c .before .blamp2 .ensures, c .before .before .fract .ensures, c .before .before .before .blamp .ensures) refl
+returns c = rw (c .naive-triangle .ensures, c .before .blamp2 .ensures, c .before .before .fract .ensures, c .before .before .before .blamp .ensures) refl
 
 pub triangle-spec : {M : Type 1} → statement M
-triangle-spec = tie.close (tie.spec blamp-requires fract-requires blamp-requires-2 ramp-requires returns)
+triangle-spec = tie.close (tie.spec blamp-requires fract-requires blamp-requires-2 naive-triangle-requires returns)

@@ -17,8 +17,8 @@ enum-told-2 c = search needs
 enum-told-3 : tie.Need-enum-told-3
 enum-told-3 c = search needs
 
-climb-requires : tie.Need-climb-requires
-climb-requires c κs = search needs
+naive-saw-requires : tie.Need-naive-saw-requires
+naive-saw-requires c κs = search needs
 
 enum-told-4 : tie.Need-enum-told-4
 enum-told-4 c = search needs
@@ -39,7 +39,7 @@ returns-2 : tie.Need-returns-2
 returns-2 c = rw (c .enum-told2 .given .1) (unfold ofBits in unfold neg in refl)
 
 returns-3 : tie.Need-returns-3
-returns-3 c = rw (c .before .enum-told3 .given .1, c .climb .ensures, c .before .before .before .fraction-of .ensures) refl
+returns-3 c = rw (c .before .enum-told3 .given .1, c .naive-saw .ensures, c .before .before .before .fraction-of .ensures) refl
 
 returns-4 : tie.Need-returns-4
 returns-4 c = rw (c .before .enum-told4 .given .1, c .rise .ensures, c .before .before .before .fraction-of .ensures) refl
@@ -55,7 +55,7 @@ line-at-spec =
     enum-told
     enum-told-2
     enum-told-3
-    climb-requires
+    naive-saw-requires
     enum-told-4
     rise-requires
     enum-told-5

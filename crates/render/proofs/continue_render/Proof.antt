@@ -7,8 +7,8 @@ use borrow.Author.Needs.{needs}
 use Rattle.render.proofs.continue_render.Statement.{statement}
 use Rattle.render.proofs.continue_render.Tie as tie
 
-is-stretch-requires : tie.Need-is-stretch-requires
-is-stretch-requires c κs = search needs
+part-fits-requires : tie.Need-part-fits-requires
+part-fits-requires c κs = search needs
 
 judged-requires : tie.Need-judged-requires
 judged-requires c κs = search needs
@@ -19,15 +19,15 @@ enum-known-answer c = search needs
 enum-told : tie.Need-enum-told
 enum-told c = search needs
 
-go-on-requires : tie.Need-go-on-requires
-go-on-requires c κs =
+continue-from-requires : tie.Need-continue-from-requires
+continue-from-requires c κs =
     let told = c .before in
     passed-sorted _ _ _ (done-none _ _ _ (sym (told .before .before .judged .ensures) ∙ told .enum-told .given .1))
 
 returns : tie.Need-returns
 returns c =
     let x = c .before .before .before in
-    continue-refused _ _ _ _ _ _ _ (sym (rw (x .before .is-stretch .ensures) at (x .judged .ensures)) ∙ c .before .answer .given .1)
+    continue-refused _ _ _ _ _ _ _ (sym (rw (x .before .part-fits .ensures) at (x .judged .ensures)) ∙ c .before .answer .given .1)
 
 same-length : tie.Need-same-length
 same-length c = search needs
@@ -37,17 +37,17 @@ returns-2 c =
     let made = c .before .before in
     let told = made .before .before in
     let x = told .before .before in
-    made .go-on .ensures ∙ continue-goes _ _ _ _ _ _ _ (sym (rw (x .before .is-stretch .ensures) at (x .judged .ensures)) ∙ told .enum-told .given .1)
+    made .continue-from .ensures ∙ continue-goes _ _ _ _ _ _ _ (sym (rw (x .before .part-fits .ensures) at (x .judged .ensures)) ∙ told .enum-told .given .1)
 
 pub continue-render-spec : {M : Type 1} → statement M
 continue-render-spec =
     tie.close
     (tie.spec
-    is-stretch-requires
+    part-fits-requires
     judged-requires
     enum-known-answer
     enum-told
-    go-on-requires
+    continue-from-requires
     returns
     same-length
     returns-2)

@@ -5,8 +5,8 @@ use borrow.Author.Needs.{needs}
 use Rattle.render.proofs.render.Statement.{statement}
 use Rattle.render.proofs.render.Tie as tie
 
-is-room-requires : tie.Need-is-room-requires
-is-room-requires c κs = search needs
+sizes-fit-requires : tie.Need-sizes-fit-requires
+sizes-fit-requires c κs = search needs
 
 judged-requires : tie.Need-judged-requires
 judged-requires c κs = search needs
@@ -29,7 +29,7 @@ play-on-requires c κs = search needs
 returns : tie.Need-returns
 returns c =
     let x = c .before .before .before .before in
-    let e = sym (rw (x .before .is-room .ensures) at (x .judged .ensures)) ∙ c .before .before .answer .given .1 in
+    let e = sym (rw (x .before .sizes-fit .ensures) at (x .judged .ensures)) ∙ c .before .before .answer .given .1 in
     rw (c .fresh .ensures) (render-refused _ _ _ _ _ e)
 
 same-length : tie.Need-same-length
@@ -43,14 +43,14 @@ returns-2 c =
     let made = c .before .before .before .before .before in
     let begun = made .before .before .before in
     let x = begun .before .before .before .before in
-    let e = sym (rw (x .before .is-room .ensures) at (x .judged .ensures)) ∙ begun .before .before .answer2 .given .1 in
+    let e = sym (rw (x .before .sizes-fit .ensures) at (x .judged .ensures)) ∙ begun .before .before .answer2 .given .1 in
     render-done _ _ _ _ _ e _ _ _ (rw (begun .fresh2 .ensures) at (made .play-on .ensures))
 
 pub render-spec : {M : Type 1} → statement M
 render-spec =
     tie.close
     (tie.spec
-    is-room-requires
+    sizes-fit-requires
     judged-requires
     enum-known-answer
     fresh-requires

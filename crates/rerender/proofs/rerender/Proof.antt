@@ -1,16 +1,16 @@
 -- `rerender::rerender` meets its contract. Assumes nothing.
 use mathlib.Core.Path.{sym, _∙_}
 use Rattle.score.proofs.Cuts.{accepted-sorted}
-use Rattle.rerender.proofs.Cases.{plan-there, answer-checked, checks-refuse, nothing-run, mark-run}
+use Rattle.rerender.proofs.Cases.{plan-there, answer-checked, checks-refuse, nothing-run, section-run}
 use borrow.Author.Needs.{needs}
 use Rattle.rerender.proofs.rerender.Statement.{statement}
 use Rattle.rerender.proofs.rerender.Tie as tie
 
-is-room-requires : tie.Need-is-room-requires
-is-room-requires c κs = search needs
+sizes-fit-requires : tie.Need-sizes-fit-requires
+sizes-fit-requires c κs = search needs
 
-new-scored-requires : tie.Need-new-scored-requires
-new-scored-requires c κs = search needs
+judged-new-requires : tie.Need-judged-new-requires
+judged-new-requires c κs = search needs
 
 judged-requires : tie.Need-judged-requires
 judged-requires c κs = search needs
@@ -21,7 +21,7 @@ enum-known-checked c = search needs
 returns : tie.Need-returns
 returns c =
     let x = c .before .before .before in
-    checks-refuse _ _ _ _ _ _ (sym (rw (x .before .new-scored .ensures, x .before .before .is-room .ensures) at (x .judged .ensures)) ∙ c .before .checked .given .1)
+    checks-refuse _ _ _ _ _ _ (sym (rw (x .before .judged-new .ensures, x .before .before .sizes-fit .ensures) at (x .judged .ensures)) ∙ c .before .checked .given .1)
 
 enum-told : tie.Need-enum-told
 enum-told c = search needs
@@ -35,12 +35,12 @@ enum-told-2 c = search needs
 enum-known-plan : tie.Need-enum-known-plan
 enum-known-plan c = search needs
 
-run-from-requires : tie.Need-run-from-requires
-run-from-requires c κs =
+rerender-from-requires : tie.Need-rerender-from-requires
+rerender-from-requires c κs =
     let made = c .before .before .before .before .before in
     let told = made .before in
     let x = told .before .before in
-    let k = answer-checked _ _ _ _ _ _ (sym (rw (x .before .new-scored .ensures, x .before .before .is-room .ensures) at (x .judged .ensures)) ∙ told .enum-told .given .1) in
+    let k = answer-checked _ _ _ _ _ _ (sym (rw (x .before .judged-new .ensures, x .before .before .sizes-fit .ensures) at (x .judged .ensures)) ∙ told .enum-told .given .1) in
     (accepted-sorted _ _ (k .new-accepted), (k .room .fits, plan-there _ _ _ _ (sym (made .planned .ensures) ∙ c .before .before .before .plan .given .1)))
 
 returns-2 : tie.Need-returns-2
@@ -48,7 +48,7 @@ returns-2 c =
     let made = c .before .before in
     let told = made .before in
     let x = told .before .before in
-    nothing-run _ _ _ _ _ _ (sym (rw (x .before .new-scored .ensures, x .before .before .is-room .ensures) at (x .judged .ensures)) ∙ told .enum-told .given .1) (sym (made .planned .ensures) ∙ c .enum-told2 .given .1)
+    nothing-run _ _ _ _ _ _ (sym (rw (x .before .judged-new .ensures, x .before .before .sizes-fit .ensures) at (x .judged .ensures)) ∙ told .enum-told .given .1) (sym (made .planned .ensures) ∙ c .enum-told2 .given .1)
 
 same-length : tie.Need-same-length
 same-length c = search needs
@@ -62,15 +62,15 @@ returns-3 c =
     let made = run .before .before .before .before .before .before in
     let told = made .before in
     let x = told .before .before in
-    run .run-from .ensures
-    ∙ mark-run _ _ _ _ _ _ (sym (rw (x .before .new-scored .ensures, x .before .before .is-room .ensures) at (x .judged .ensures)) ∙ told .enum-told .given .1) _ (sym (made .planned .ensures) ∙ run .before .before .before .before .plan .given .1)
+    run .rerender-from .ensures
+    ∙ section-run _ _ _ _ _ _ (sym (rw (x .before .judged-new .ensures, x .before .before .sizes-fit .ensures) at (x .judged .ensures)) ∙ told .enum-told .given .1) _ (sym (made .planned .ensures) ∙ run .before .before .before .before .plan .given .1)
 
 pub rerender-spec : {M : Type 1} → statement M
 rerender-spec =
     tie.close
     (tie.spec
-    is-room-requires
-    new-scored-requires
+    sizes-fit-requires
+    judged-new-requires
     judged-requires
     enum-known-checked
     returns
@@ -78,7 +78,7 @@ rerender-spec =
     planned-requires
     enum-told-2
     enum-known-plan
-    run-from-requires
+    rerender-from-requires
     returns-2
     same-length
     same-length-2

@@ -33,9 +33,9 @@ loop-holds c = (omega arith, simp (eq-eqb _ _ (c .before .if1 .left), le-leb _ _
 word-at-requires : tie.Need-word-at-requires Inv-loop μ-loop
 word-at-requires c κs = search needs
 
-judge-after-requires : tie.Need-judge-after-requires Inv-loop μ-loop
+judge-in-order-requires : tie.Need-judge-in-order-requires Inv-loop μ-loop
 unfolding positionAt
-judge-after-requires c κs = (omega arith, rw (c .word-at .ensures) (sym (c .before .before .loop .inv .2)))
+judge-in-order-requires c κs = (omega arith, rw (c .word-at .ensures) (sym (c .before .before .loop .inv .2)))
 
 enum-known-verdict : tie.Need-enum-known-verdict Inv-loop μ-loop
 enum-known-verdict c = search needs
@@ -43,7 +43,7 @@ enum-known-verdict c = search needs
 returns-3 : tie.Need-returns-3 Inv-loop μ-loop
 returns-3 c =
     let at = c .before .before .before .before .before .before in
-    sym (at .loop .inv .1 ∙ judge-stop _ _ (at .loop .i) (omega arith) _ (sym (c .before .before .before .judge-after .ensures) ∙ c .before .verdict .given .1))
+    sym (at .loop .inv .1 ∙ judge-stop _ _ (at .loop .i) (omega arith) _ (sym (c .before .before .before .judge-in-order .ensures) ∙ c .before .verdict .given .1))
 
 enum-told : tie.Need-enum-told Inv-loop μ-loop
 enum-told c = search needs
@@ -59,7 +59,7 @@ unfolding positionAt
 loop-again c =
     let made = c .before .before in
     let at = made .before .before .before in
-    (omega arith, at .loop .inv .1 ∙ judge-on _ _ (at .loop .i) (omega arith) _ (sym (made .judge-after .ensures) ∙ c .enum-told .given .1), rw (made .before .word-at .ensures) (order-next _ (at .loop .i)))
+    (omega arith, at .loop .inv .1 ∙ judge-on _ _ (at .loop .i) (omega arith) _ (sym (made .judge-in-order .ensures) ∙ c .enum-told .given .1), rw (made .before .word-at .ensures) (order-next _ (at .loop .i)))
 
 returns-4 : tie.Need-returns-4 Inv-loop μ-loop
 returns-4 c = sym (c .before .loop .inv .1 ∙ judge-end _ _ (c .before .loop .i) (omega arith))
@@ -74,7 +74,7 @@ judge-spec =
     returns-2
     loop-holds
     word-at-requires
-    judge-after-requires
+    judge-in-order-requires
     enum-known-verdict
     returns-3
     enum-told

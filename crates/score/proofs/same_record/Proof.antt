@@ -13,11 +13,11 @@ mark-at-requires c κs = search needs
 mark-at-requires-2 : tie.Need-mark-at-requires-2
 mark-at-requires-2 c κs = search needs
 
-rest-at-requires : tie.Need-rest-at-requires
-rest-at-requires c κs = search needs
+body-at-requires : tie.Need-body-at-requires
+body-at-requires c κs = search needs
 
-rest-at-requires-2 : tie.Need-rest-at-requires-2
-rest-at-requires-2 c κs = search needs
+body-at-requires-2 : tie.Need-body-at-requires-2
+body-at-requires-2 c κs = search needs
 
 returns : tie.Need-returns
 returns c =
@@ -26,8 +26,8 @@ returns c =
     let a = known .before .before .args in
     let x : (j : ℕ) → byteAt (a .s .now) (a .i) j < 256 = λ j. omega (arith, known .before .shared-slice-known .given (a .i * 10 + j)) in
     let y : (j : ℕ) → byteAt (a .t .now) (a .i) j < 256 = λ j. omega (arith, known .shared-slice-known2 .given (a .i * 10 + j)) in
-    rw (mark .before .mark-at .ensures, mark .mark-at2 .ensures, c .before .rest-at .ensures, c .rest-at2 .ensures)
+    rw (mark .before .mark-at .ensures, mark .mark-at2 .ensures, c .before .body-at .ensures, c .body-at2 .ensures)
     (same-by-words (a .s .now) (a .t .now) (a .i) x y)
 
 pub same-record-spec : {M : Type 1} → statement M
-same-record-spec = tie.close (tie.spec mark-at-requires mark-at-requires-2 rest-at-requires rest-at-requires-2 returns)
+same-record-spec = tie.close (tie.spec mark-at-requires mark-at-requires-2 body-at-requires body-at-requires-2 returns)

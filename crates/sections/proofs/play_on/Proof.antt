@@ -17,8 +17,8 @@ entries-requires c κs = search needs
 returns-2 : tie.Need-returns-2
 returns-2 c = past-the-end _ _ _ _ _ _ (c .before .before .if1 .left ∙ c .before .before .before .words-for .ensures) (rw (c .before .entries .ensures) at (c .if2 .taken))
 
-from-mark-requires : tie.Need-from-mark-requires
-from-mark-requires c κs = (c .before .before .before .before .if1 .left ∙ c .before .before .before .before .before .words-for .ensures, rw (c .before .before .before .entries .ensures) at (c .before .before .if2 .left))
+play-sections-requires : tie.Need-play-sections-requires
+play-sections-requires c κs = (c .before .before .before .before .if1 .left ∙ c .before .before .before .before .before .words-for .ensures, rw (c .before .before .before .entries .ensures) at (c .before .before .if2 .left))
 
 same-length : tie.Need-same-length
 same-length c = search needs
@@ -29,7 +29,7 @@ same-length-2 c = search needs
 returns-3 : tie.Need-returns-3
 returns-3 c =
     let x = c .before .before .before .before .before .before .before in
-    c .before .before .before .before .from-mark .ensures ∙ fit _ _ _ _ _ _ (x .before .before .if1 .left ∙ x .before .before .before .words-for .ensures)
+    c .before .before .before .before .play-sections .ensures ∙ fit _ _ _ _ _ _ (x .before .before .if1 .left ∙ x .before .before .before .words-for .ensures)
 
 pub play-on-spec : {M : Type 1} → statement M
 play-on-spec =
@@ -39,7 +39,7 @@ play-on-spec =
     returns
     entries-requires
     returns-2
-    from-mark-requires
+    play-sections-requires
     same-length
     same-length-2
     returns-3)

@@ -9,7 +9,7 @@ use Rattle.spans.specs.declared.Place.{Place}
 use Rattle.spans.specs.Walk.{actFrom}
 use Rattle.spans.specs.Inner.{placeIn, Sees}
 use Rattle.spans.proofs.Acting.{act-on, act-stop, is-there, begun-by}
-use Rattle.spans.proofs.Offsets.{stands-so}
+use Rattle.spans.proofs.Offsets.{due-so}
 use Rattle.spans.proofs.begin.Statement.{statement}
 use Rattle.spans.proofs.begin.Tie as tie
 
@@ -23,17 +23,17 @@ abbrev μ-loop : tie.MeasureT-loop
 into-block-requires : tie.Need-into-block-requires Inv-loop μ-loop
 into-block-requires c κs = search needs
 
-stands-at-requires : tie.Need-stands-at-requires Inv-loop μ-loop
-stands-at-requires c κs = search needs
+is-due-requires : tie.Need-is-due-requires Inv-loop μ-loop
+is-due-requires c κs = search needs
 
-settled-requires : tie.Need-settled-requires Inv-loop μ-loop
-settled-requires c κs = search needs
+reduced-if-requires : tie.Need-reduced-if-requires Inv-loop μ-loop
+reduced-if-requires c κs = search needs
 
 loop-holds : tie.Need-loop-holds Inv-loop μ-loop
 loop-holds c = (c .before .before .before .before .pre, refl)
 
-stands-at-requires-2 : tie.Need-stands-at-requires-2 Inv-loop μ-loop
-stands-at-requires-2 c κs = search needs
+is-due-requires-2 : tie.Need-is-due-requires-2 Inv-loop μ-loop
+is-due-requires-2 c κs = search needs
 
 record-at-requires : tie.Need-record-at-requires Inv-loop μ-loop
 record-at-requires c κs = search needs
@@ -50,7 +50,7 @@ add-next c =
     let at = test .before .before in
     let start = at .before .before .before .before .before in
     let a = start .args in
-    let h = is-there (a .score .now) _ _ (stands-so (a .score .now) (a .position) (a .offset) (at .loop .at) _ _ (at .loop .inv .0) (test .before .stands-at2 .ensures) (test .if1 .taken)) in
+    let h = is-there (a .score .now) _ _ (due-so (a .score .now) (a .position) (a .offset) (at .loop .at) _ _ (at .loop .inv .0) (test .before .is-due2 .ensures) (test .if1 .taken)) in
     let good = start .good .1 .0 in
     omega (arith, h)
 
@@ -62,7 +62,7 @@ loop-less c =
     let test = c .before .before .before .before .before in
     let at = test .before .before in
     let a = at .before .before .before .before .before .args in
-    let h = is-there (a .score .now) _ _ (stands-so (a .score .now) (a .position) (a .offset) (at .loop .at) _ _ (at .loop .inv .0) (test .before .stands-at2 .ensures) (test .if1 .taken)) in
+    let h = is-there (a .score .now) _ _ (due-so (a .score .now) (a .position) (a .offset) (at .loop .at) _ _ (at .loop .inv .0) (test .before .is-due2 .ensures) (test .if1 .taken)) in
     let q = ap (λ (p : Place). p .next) (c .walker-at .ensures .place) in
     omega arith
 
@@ -73,7 +73,7 @@ loop-again c =
     let a = at .before .before .before .before .before .args in (
       c .walker-at .ensures .sees,
       at .loop .inv .1 ∙ act-on (a .settings) (a .score .now) (a .position + a .offset) (at .loop .at .next) (at .loop .at .state) (placeIn (c .walker-at .result))
-          (stands-so (a .score .now) (a .position) (a .offset) (at .loop .at) _ _ (at .loop .inv .0) (test .before .stands-at2 .ensures) (test .if1 .taken))
+          (due-so (a .score .now) (a .position) (a .offset) (at .loop .at) _ _ (at .loop .inv .0) (test .before .is-due2 .ensures) (test .if1 .taken))
           (c .walker-at .ensures .place ∙ rw (c .before .before .act .ensures, c .before .before .before .event-of .ensures, c .before .before .before .before .record-at .ensures) refl),
     )
 
@@ -83,11 +83,11 @@ returns c =
     let made = at .before in
     let start = made .before .before .before .before in
     let a = start .args in
-    let f = stands-so (a .score .now) (a .position) (a .offset) (at .loop .at) _ _ (at .loop .inv .0) (c .before .stands-at2 .ensures) (c .if1 .left) in
+    let f = due-so (a .score .now) (a .position) (a .offset) (at .loop .at) _ _ (at .loop .inv .0) (c .before .is-due2 .ensures) (c .if1 .left) in
     record {
       place =
           sym (act-stop (a .settings) (a .score .now) (a .position + a .offset) _ (placeIn (at .loop .at)) f) ∙ sym (at .loop .inv .1)
-          ∙ rw (made .settled .ensures, made .before .before .into-block .ensures, made .before .stands-at .ensures, start .pre (a .offset)) (begun-by (a .settings) (a .score .now) (a .position + a .offset) (a .walker .next) (a .walker .state));
+          ∙ rw (made .reduced-if .ensures, made .before .before .into-block .ensures, made .before .is-due .ensures, start .pre (a .offset)) (begun-by (a .settings) (a .score .now) (a .position + a .offset) (a .walker .next) (a .walker .state));
       sees = at .loop .inv .0;
     }
 
@@ -98,10 +98,10 @@ begin-spec =
     Inv-loop
     μ-loop
     into-block-requires
-    stands-at-requires
-    settled-requires
+    is-due-requires
+    reduced-if-requires
     loop-holds
-    stands-at-requires-2
+    is-due-requires-2
     record-at-requires
     event-of-requires
     act-requires

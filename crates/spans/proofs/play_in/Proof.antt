@@ -27,20 +27,20 @@ begin-requires c κs = c .before .loop .inv .1
 span-end-requires : tie.Need-span-end-requires Inv-loop μ-loop
 span-end-requires c κs = search needs
 
-mul-sound : tie.Need-mul-sound Inv-loop μ-loop
-mul-sound c = let good = c .before .before .before .before .before .before .before .before .good in search needs
+mul-play-span : tie.Need-mul-play-span Inv-loop μ-loop
+mul-play-span c = let good = c .before .before .before .before .before .before .before .before .good in search needs
 
-sub-sound : tie.Need-sub-sound Inv-loop μ-loop
-sub-sound c = omega (arith, c .span-end .ensures .after)
+sub-play-span : tie.Need-sub-play-span Inv-loop μ-loop
+sub-play-span c = omega (arith, c .span-end .ensures .after)
 
-part-sound-start : tie.Need-part-sound-start Inv-loop μ-loop
-part-sound-start c = omega (arith, c .span-end .ensures .after)
+part-play-span-start : tie.Need-part-play-span-start Inv-loop μ-loop
+part-play-span-start c = omega (arith, c .span-end .ensures .after)
 
-part-sound-end : tie.Need-part-sound-end Inv-loop μ-loop
-part-sound-end c = c .span-end .ensures .within
+part-play-span-end : tie.Need-part-play-span-end Inv-loop μ-loop
+part-play-span-end c = c .span-end .ensures .within
 
-sound-requires : tie.Need-sound-requires Inv-loop μ-loop
-sound-requires c κs = c .before .before .before .before .before .before .before .before .before .pre
+play-span-requires : tie.Need-play-span-requires Inv-loop μ-loop
+play-span-requires c κs = c .before .before .before .before .before .before .before .before .before .pre
 
 loop-less : tie.Need-loop-less Inv-loop μ-loop
 loop-less c = omega arith
@@ -49,7 +49,7 @@ loop-again : tie.Need-loop-again Inv-loop μ-loop
 loop-again c =
     let turn = c .before .before .before .before in
     let at = turn .before .before .before in
-    (goes-on _ _ _ _ _ _ _ _ _ _ _ _ (at .loop .inv .0) (turn .before .begin .ensures) (turn .span-end .ensures) (c .before .before .sound .ensures), turn .before .begin .ensures .sees)
+    (goes-on _ _ _ _ _ _ _ _ _ _ _ _ (at .loop .inv .0) (turn .before .begin .ensures) (turn .span-end .ensures) (c .before .before .play-span .ensures), turn .before .begin .ensures .sees)
 
 same-length : tie.Need-same-length Inv-loop μ-loop
 same-length c = c .before .before .loop .inv .0 .size
@@ -67,11 +67,11 @@ play-in-spec =
     loop-holds
     begin-requires
     span-end-requires
-    mul-sound
-    sub-sound
-    part-sound-start
-    part-sound-end
-    sound-requires
+    mul-play-span
+    sub-play-span
+    part-play-span-start
+    part-play-span-end
+    play-span-requires
     loop-less
     loop-again
     same-length

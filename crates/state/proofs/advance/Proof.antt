@@ -8,12 +8,12 @@ use Rattle.state.proofs.advance.Tie as tie
 increment-requires : tie.Need-increment-requires
 increment-requires c κs = search needs
 
-stepped-requires : tie.Need-stepped-requires
-stepped-requires c κs = search needs
+next-envelope-requires : tie.Need-next-envelope-requires
+next-envelope-requires c κs = search needs
 
 returns : tie.Need-returns
 unfolding advanceOf
-returns c = rw (c .stepped .ensures, c .before .before .before .increment .ensures) refl
+returns c = rw (c .next-envelope .ensures, c .before .before .before .increment .ensures) refl
 
 pub advance-spec : {M : Type 1} → statement M
-advance-spec = tie.close (tie.spec increment-requires stepped-requires returns)
+advance-spec = tie.close (tie.spec increment-requires next-envelope-requires returns)

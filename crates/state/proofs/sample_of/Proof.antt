@@ -11,12 +11,12 @@ increment-requires c κs = search needs
 wave-at-requires : tie.Need-wave-at-requires
 wave-at-requires c κs = search needs
 
-stepped-requires : tie.Need-stepped-requires
-stepped-requires c κs = search needs
+next-envelope-requires : tie.Need-next-envelope-requires
+next-envelope-requires c κs = search needs
 
 returns : tie.Need-returns
 unfolding sampleOf
-returns c = rw (c .before .before .stepped .ensures, c .before .before .before .wave-at .ensures, c .before .before .before .before .before .increment .ensures) refl
+returns c = rw (c .before .before .next-envelope .ensures, c .before .before .before .wave-at .ensures, c .before .before .before .before .before .increment .ensures) refl
 
 pub sample-of-spec : {M : Type 1} → statement M
-sample-of-spec = tie.close (tie.spec increment-requires wave-at-requires stepped-requires returns)
+sample-of-spec = tie.close (tie.spec increment-requires wave-at-requires next-envelope-requires returns)

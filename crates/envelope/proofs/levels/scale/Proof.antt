@@ -20,13 +20,13 @@ abbrev μ-loop : tie.MeasureT-loop
 loop-holds : tie.Need-loop-holds Inv-loop μ-loop
 loop-holds c = reached-none _ _ _ _ _
 
-moves-requires : tie.Need-moves-requires Inv-loop μ-loop
-moves-requires c κs = search needs
+is-moving-requires : tie.Need-is-moving-requires Inv-loop μ-loop
+is-moving-requires c κs = search needs
 
-hold-requires : tie.Need-hold-requires Inv-loop μ-loop
-hold-requires c κs =
+scale-steady-requires : tie.Need-scale-steady-requires Inv-loop μ-loop
+scale-steady-requires c κs =
     let tested = c .before .before in
-    (sym (tested .moves .ensures) ∙ not-true _ (c .before .if1 .taken), tested .before .loop-test .taken)
+    (sym (tested .is-moving .ensures) ∙ not-true _ (c .before .if1 .taken), tested .before .loop-test .taken)
 
 same-length : tie.Need-same-length Inv-loop μ-loop
 same-length c = search needs
@@ -35,24 +35,24 @@ returns : tie.Need-returns Inv-loop μ-loop
 returns c =
     let at = c .before .before .before .before .before .before .before in
     let a = at .before .before .args in
-    c .before .before .hold .ensures (a .start) (a .part .now) (at .loop .inv)
+    c .before .before .scale-steady .ensures (a .start) (a .part .now) (at .loop .inv)
 
-run-on-requires : tie.Need-run-on-requires Inv-loop μ-loop
-run-on-requires c κs = search needs
+scale-stage-requires : tie.Need-scale-stage-requires Inv-loop μ-loop
+scale-stage-requires c κs = search needs
 
 same-length-2 : tie.Need-same-length-2 Inv-loop μ-loop
 same-length-2 c =
     let ran = c .before .before .before .before in
     let at = ran .before .before .before .before .before in
     let a = at .before .before .args in
-    ran .run-on .ensures .1 (a .start) (a .part .now) (at .loop .inv) .long
+    ran .scale-stage .ensures .1 (a .start) (a .part .now) (at .loop .inv) .long
 
 returns-2 : tie.Need-returns-2 Inv-loop μ-loop
 returns-2 c =
     let ran = c .before .before .before .before in
     let at = ran .before .before .before .before .before in
     let a = at .before .before .args in
-    scaled-all (a .adsr) (a .sample-time) (a .start) (a .velocity) (a .part .now) _ _ _ (c .before .if2 .taken) (ran .run-on .ensures .1 (a .start) (a .part .now) (at .loop .inv))
+    scaled-all (a .adsr) (a .sample-time) (a .start) (a .velocity) (a .part .now) _ _ _ (c .before .if2 .taken) (ran .scale-stage .ensures .1 (a .start) (a .part .now) (at .loop .inv))
 
 step-requires : tie.Need-step-requires Inv-loop μ-loop
 step-requires c κs = search needs
@@ -77,16 +77,16 @@ loop-less c =
     let ran = c .before .before .before .before .before .before in
     let at = ran .before .before .before .before .before in
     let a = at .before .before .args in
-    let r = ran .run-on .ensures .1 (a .start) (a .part .now) (at .loop .inv) in
-    let more : ran .run-on .result .count < length (a .part .now) = rw (r .long) at (c .before .before .before .if2 .left) in
-    omega (arith, ran .run-on .ensures .0, more)
+    let r = ran .scale-stage .ensures .1 (a .start) (a .part .now) (at .loop .inv) in
+    let more : ran .scale-stage .result .count < length (a .part .now) = rw (r .long) at (c .before .before .before .if2 .left) in
+    omega (arith, ran .scale-stage .ensures .0, more)
 
 loop-again : tie.Need-loop-again Inv-loop μ-loop
 loop-again c =
     let ran = c .before .before .before .before .before .before in
     let at = ran .before .before .before .before .before in
     let a = at .before .before .args in
-    reached-more (a .adsr) (a .sample-time) (a .start) (a .velocity) (a .part .now) _ (ran .run-on .result .envelope) _ _ (ran .run-on .result .count) (c .before .before .before .if2 .left) (c .before .before .step .ensures) refl (ran .run-on .ensures .1 (a .start) (a .part .now) (at .loop .inv))
+    reached-more (a .adsr) (a .sample-time) (a .start) (a .velocity) (a .part .now) _ (ran .scale-stage .result .envelope) _ _ (ran .scale-stage .result .count) (c .before .before .before .if2 .left) (c .before .before .step .ensures) refl (ran .scale-stage .ensures .1 (a .start) (a .part .now) (at .loop .inv))
 
 same-length-3 : tie.Need-same-length-3 Inv-loop μ-loop
 same-length-3 c = c .before .loop .inv .long
@@ -104,11 +104,11 @@ scale-spec =
     Inv-loop
     μ-loop
     loop-holds
-    moves-requires
-    hold-requires
+    is-moving-requires
+    scale-steady-requires
     same-length
     returns
-    run-on-requires
+    scale-stage-requires
     same-length-2
     returns-2
     step-requires

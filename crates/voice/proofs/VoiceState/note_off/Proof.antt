@@ -16,14 +16,14 @@ is-midi-requires c κs = search needs
 is-released-requires : tie.Need-is-released-requires
 is-released-requires c κs = search needs
 
-heard-requires : tie.Need-heard-requires
-heard-requires c κs = search needs
+after-lift-requires : tie.Need-after-lift-requires
+after-lift-requires c κs = search needs
 
 off-if-requires : tie.Need-off-if-requires
 off-if-requires c κs = search needs
 
 returns : tie.Need-returns
-returns c = rw (c .off-if .ensures, c .before .heard .ensures, c .before .before .is-released .ensures, c .before .before .before .is-midi .ensures, c .before .before .before .before .is-voice .ensures, c .before .before .before .before .before .lifted .ensures) refl
+returns c = rw (c .off-if .ensures, c .before .after-lift .ensures, c .before .before .is-released .ensures, c .before .before .before .is-midi .ensures, c .before .before .before .before .is-voice .ensures, c .before .before .before .before .before .lifted .ensures) refl
 
 pub note-off-spec : {M : Type 1} → statement M
 note-off-spec =
@@ -33,6 +33,6 @@ note-off-spec =
     is-voice-requires
     is-midi-requires
     is-released-requires
-    heard-requires
+    after-lift-requires
     off-if-requires
     returns)

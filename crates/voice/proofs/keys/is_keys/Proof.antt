@@ -5,8 +5,8 @@ use Rattle.voice.specs.Keys.{isKeys}
 use Rattle.voice.proofs.keys.is_keys.Statement.{statement}
 use Rattle.voice.proofs.keys.is_keys.Tie as tie
 
-is-sound-requires : tie.Need-is-sound-requires
-is-sound-requires c κs = search needs
+is-gate-right-requires : tie.Need-is-gate-right-requires
+is-gate-right-requires c κs = search needs
 
 is-filled-requires : tie.Need-is-filled-requires
 is-filled-requires c κs = search needs
@@ -16,8 +16,8 @@ is-filled-requires-2 c κs = search needs
 
 returns : tie.Need-returns
 unfolding isKeys
-returns c = rw (c .before .before .is-sound .ensures, c .before .is-filled .ensures, c .is-filled2 .ensures) refl
+returns c = rw (c .before .before .is-gate-right .ensures, c .before .is-filled .ensures, c .is-filled2 .ensures) refl
 
 pub is-keys-spec : {M : Type 1} → statement M
 is-keys-spec =
-    tie.close (tie.spec is-sound-requires is-filled-requires is-filled-requires-2 returns)
+    tie.close (tie.spec is-gate-right-requires is-filled-requires is-filled-requires-2 returns)

@@ -37,12 +37,12 @@ stored c =
     (λ w. (omega arith, rw (w .1, w .2, w .3, e) (pushed-stays (k .notes) (k .velocities) n v (k .count) (a .note) (a .velocity) (omega arith))))
     (c .if1 .came)
 
-holding-requires : tie.Need-holding-requires
-holding-requires c κs = stored c .0
+keys-of-requires : tie.Need-keys-of-requires
+keys-of-requires c κs = stored c .0
 
 returns : tie.Need-returns
 unfolding pressedOf
-returns c = rw (c .holding .ensures, stored (c .before) .1) refl
+returns c = rw (c .keys-of .ensures, stored (c .before) .1) refl
 
 pub pressed-spec : {M : Type 1} → statement M
 pressed-spec =
@@ -52,5 +52,5 @@ pressed-spec =
     array-write-notes
     array-write-velocities
     add-count
-    holding-requires
+    keys-of-requires
     returns)

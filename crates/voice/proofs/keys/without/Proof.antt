@@ -65,8 +65,8 @@ loop-again-2 c =
     let k = c .before .before .before .before .before .before .args in
     walk-keeps (k .note) (k .keys .notes) (k .keys .velocities) (c .before .before .before .held-count .result) (l .notes) (l .velocities) (l .count) (l .i) (l .inv) (omega arith) (c .if1 .left)
 
-holding-requires : tie.Need-holding-requires Inv-loop μ-loop
-holding-requires c κs = c .before .loop .inv .few
+keys-of-requires : tie.Need-keys-of-requires Inv-loop μ-loop
+keys-of-requires c κs = c .before .loop .inv .few
 
 returns : tie.Need-returns Inv-loop μ-loop
 unfolding withoutOf
@@ -76,7 +76,7 @@ returns c =
     let n : length (k .keys .notes) ≡ 16 = search needs in
     let v : length (k .keys .velocities) ≡ 16 = search needs in
     let ends = walk-ends (k .note) (k .keys .notes) (k .keys .velocities) (c .before .before .before .held-count .result) (l .notes) (l .velocities) (l .count) (l .i) (l .inv) (omega arith) in
-    rw (c .holding .ensures, sym ends, c .before .before .before .held-count .ensures, first-cut (k .keys .notes) (k .keys .velocities) n v (k .keys .count)) refl
+    rw (c .keys-of .ensures, sym ends, c .before .before .before .held-count .ensures, first-cut (k .keys .notes) (k .keys .velocities) n v (k .keys .count)) refl
 
 pub without-spec : {M : Type 1} → statement M
 without-spec =
@@ -95,5 +95,5 @@ without-spec =
     add-i
     loop-less-2
     loop-again-2
-    holding-requires
+    keys-of-requires
     returns)

@@ -1,3 +1,0 @@
-pub mod Version
-pub mod Packed
-pub mod Desk

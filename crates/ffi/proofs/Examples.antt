@@ -1,0 +1,29 @@
+-- The desk by worked examples: words, and which of code, duty, phase and dt is judged. Computed. Assumes nothing.
+use mathlib.Core.Path.{_≡_, refl}
+use mathlib.Core.List.{[], _∷_, map}
+use lib.Ieee.{Float, binary64, ofBits, le, lt, eq}
+use Rattle.answers.specs.declared.Answer.the-variants.{Done, Refused}
+use Rattle.answers.specs.declared.Refusal.the-variants.{Score, NewScore, Setting, Argument}
+use Rattle.answers.specs.declared.ScoreFault.the-variants.{Kind, Order}
+use Rattle.floats.specs.Double.{zero64}
+use Rattle.ffi.specs.Packed.{packedOf}
+use Rattle.ffi.specs.Ffi.{shapeOf, singleOf}
+
+-- done with count 0, done with count 4,096; position of record 1 below that of record 0; the new score's record 3 has a
+-- wrong kind; 6
+pub words : map packedOf (Done 0 ∷ Done 4096 ∷ Refused (Score (Order 1)) ∷ Refused (NewScore (Kind 3)) ∷ Refused Setting ∷ []) ≡ 0 ∷ 0x1000_0000_0000 ∷ 0x105 ∷ 0x313 ∷ 6 ∷ []
+unfolding packedOf
+words = refl
+
+abbrev nan : Float
+nan = ofBits binary64 0x7ff8_0000_0000_0000
+
+abbrev five : Float
+five = ofBits binary64 0x4014_0000_0000_0000
+
+-- code 9 with a NaN phase is 6; a pulse with a NaN duty is 6; a sine with a NaN duty is done; a sine with a dt of 5 is
+-- 9
+pub judged : (singleOf 9 nan zero64 zero64 .answer ∷ singleOf 4 zero64 zero64 nan .answer ∷ singleOf 0 zero64 zero64 nan .answer ∷ singleOf 0 zero64 five zero64 .answer ∷ [])
+    ≡ Refused Setting ∷ Refused Setting ∷ Done 0 ∷ Refused Argument ∷ []
+unfolding shapeOf ofBits le lt eq
+judged = refl

@@ -1,0 +1,258 @@
+// What C sees: the calls of the crates below, on numbers and slices, each with its answer in one word. 01 asks for the
+// check of a score and for single samples; render, re-render, continuing call, fresh state and listing go beyond 01. A
+// slice is a pointer and a length in C; include/gavberin.h declares every function here, with the caller's duties,
+// which no function here can test. Left out: the ported calls of phase, voice, envelope, oscillator and LFO, and the
+// end state of a render.
+ghost use mathlib.Core.Path.{_≡_};
+ghost use Rattle.sections.specs.Outcome.{leaves};
+ghost use Rattle.ffi.specs.Packed.{packedOf};
+ghost use Rattle.ffi.specs.Version.{version};
+ghost use Rattle.ffi.specs.Ffi.{fills, continues, shapeOf, asks, choiceOf, checkOf, singleOf, renderFor, rerenderFor, continueIn, continueFor, freshFor, listFor};
+use answers::Answer;
+use answers::Refusal;
+use answers::Value;
+use envelope::Adsr;
+use shelf::ENTRY_WORDS;
+use state::Settings;
+use waveform::Waveform;
+
+// GAV_VERSION of the header.
+const VERSION: u32 = 1;
+
+// The waveform of a code; unknown where the code is above 4.
+pub enum Shape {
+    Known(Waveform),
+    Unknown,
+}
+
+// The settings that a host asks for; unknown where their code is above 4.
+pub enum Choice {
+    Known(Settings),
+    Unknown,
+}
+
+// The version of the calls' arguments and of a state's number of words, which a host must be written for.
+#[no_mangle]
+pub extern "C" fn gav_version() -> u32
+    ensures { λ r. ⌜ r ≡ version ⌝ }
+{
+    VERSION
+}
+
+// What a score is refused for, or 0.
+#[no_mangle]
+pub extern "C" fn gav_check_score(score: &[u8]) -> u64
+    ensures { λ r. ⌜ r ≡ checkOf (now (score .entry)) ⌝ }
+{
+    packed(score::check(score))
+}
+
+// One sample of a waveform; +0 where it is refused.
+#[no_mangle]
+pub extern "C" fn gav_sample(code: u32, phase: f64, dt: f64, duty: f64) -> f64
+    ensures { λ r. ⌜ r ≡ singleOf code phase dt duty .value ⌝ }
+{
+    let single = single(code, phase, dt, duty);
+    single.value
+}
+
+// The answer to `gav_sample` with these arguments.
+#[no_mangle]
+pub extern "C" fn gav_sample_says(code: u32, phase: f64, dt: f64, duty: f64) -> u64
+    ensures { λ r. ⌜ r ≡ packedOf (singleOf code phase dt duty .answer) ⌝ }
+{
+    let single = single(code, phase, dt, duty);
+    let answer = single.answer;
+    packed(answer)
+}
+
+// Every sample of the output and every entry of the shelf, from sample zero.
+#[no_mangle]
+pub extern "C" fn gav_render(
+    rate: u32,
+    code: u32,
+    duty: f64,
+    attack: f64,
+    decay: f64,
+    sustain: f64,
+    release: f64,
+    score: &[u8],
+    out: &mut [f64],
+    shelf: &mut [u64],
+) -> u64
+    ensures { λ r. ⌜ leaves r (now (out .exit)) (now (shelf .exit)) ≡ renderFor (choiceOf (asks rate code duty attack decay sustain release)) (now (score .entry)) (now (out .entry)) (now (shelf .entry)) ⌝ }
+{
+    let choice = choice_of(rate, code, duty, attack, decay, sustain, release);
+    let Choice::Known(settings) = choice else {
+        return packed(Answer::Refused(Refusal::Setting));
+    };
+    let rendered = render::render(settings, score, out, shelf);
+    let answer = rendered.answer;
+    packed(answer)
+}
+
+// The samples and entries from the start of the section that holds the first changed position, as the new score gives
+// them.
+#[no_mangle]
+pub extern "C" fn gav_rerender(
+    rate: u32,
+    code: u32,
+    duty: f64,
+    attack: f64,
+    decay: f64,
+    sustain: f64,
+    release: f64,
+    old: &[u8],
+    new: &[u8],
+    out: &mut [f64],
+    shelf: &mut [u64],
+) -> u64
+    ensures { λ r. ⌜ leaves r (now (out .exit)) (now (shelf .exit)) ≡ rerenderFor (choiceOf (asks rate code duty attack decay sustain release)) (now (old .entry)) (now (new .entry)) (now (out .entry)) (now (shelf .entry)) ⌝ }
+{
+    let choice = choice_of(rate, code, duty, attack, decay, sustain, release);
+    let Choice::Known(settings) = choice else {
+        return packed(Answer::Refused(Refusal::Setting));
+    };
+    packed(rerender::rerender(settings, old, new, out, shelf))
+}
+
+// The next part of the output, from the state in twelve words; when done, the words are those of the state after the
+// part.
+#[no_mangle]
+pub extern "C" fn gav_continue(
+    rate: u32,
+    code: u32,
+    duty: f64,
+    attack: f64,
+    decay: f64,
+    sustain: f64,
+    release: f64,
+    score: &[u8],
+    state: &mut [u64],
+    position: u64,
+    part: &mut [f64],
+) -> u64
+    ensures { λ r. ⌜ continues r (now (part .exit)) (now (state .exit)) ≡ continueFor (choiceOf (asks rate code duty attack decay sustain release)) (now (score .entry)) (now (state .entry)) position (now (part .entry)) ⌝ }
+{
+    let choice = choice_of(rate, code, duty, attack, decay, sustain, release);
+    let Choice::Known(settings) = choice else {
+        return packed(Answer::Refused(Refusal::Setting));
+    };
+    continue_in(settings, score, state, position, part)
+}
+
+// The state before sample zero, in twelve words.
+#[no_mangle]
+pub extern "C" fn gav_fresh(state: &mut [u64]) -> u64
+    ensures { λ r. ⌜ fills r (now (state .exit)) ≡ freshFor (now (state .entry)) ⌝ }
+{
+    if state.len() != ENTRY_WORDS {
+        return packed(Answer::Refused(Refusal::Argument));
+    }
+    shelf::store(state, state::fresh());
+    packed(Answer::Done(0))
+}
+
+// What the lister prints for a score; the count is its bytes. No listing is empty: 0 bytes mean a buffer that is too
+// short.
+#[no_mangle]
+pub extern "C" fn gav_list(score: &[u8], text: &mut [u8]) -> u64
+    ensures { λ r. ⌜ fills r (now (text .exit)) ≡ listFor (now (score .entry)) (now (text .entry)) ⌝ }
+{
+    let bytes = listing::list(score, text);
+    if bytes == 0 {
+        return packed(Answer::Refused(Refusal::Size));
+    }
+    packed(Answer::Done(bytes))
+}
+
+// An answer in one word: bits 0 to 7 the number, 8 to 31 the place, 32 to 63 the count.
+fn packed(answer: Answer) -> u64
+    ensures { λ r. ⌜ r ≡ packedOf answer ⌝ }
+{
+    let numbers = answers::in_numbers(answer);
+    let place = numbers.place as u64 % 0x100_0000;
+    let count = numbers.count as u64 % 0x1_0000_0000;
+    numbers.number as u64 + 256 * place + 0x1_0000_0000 * count
+}
+
+fn shape_of(code: u32, duty: f64) -> Shape
+    ensures { λ r. ⌜ r ≡ shapeOf code duty ⌝ }
+{
+    match code {
+        0 => Shape::Known(Waveform::Sine),
+        1 => Shape::Known(Waveform::Square),
+        2 => Shape::Known(Waveform::Sawtooth),
+        3 => Shape::Known(Waveform::Triangle),
+        4 => Shape::Known(Waveform::Pulse(duty)),
+        _ => Shape::Unknown,
+    }
+}
+
+fn choice_of(
+    rate: u32,
+    code: u32,
+    duty: f64,
+    attack: f64,
+    decay: f64,
+    sustain: f64,
+    release: f64,
+) -> Choice
+    ensures { λ r. ⌜ r ≡ choiceOf (asks rate code duty attack decay sustain release) ⌝ }
+{
+    let shape = shape_of(code, duty);
+    match shape {
+        Shape::Known(waveform) => {
+            let adsr = Adsr {
+                attack,
+                decay,
+                sustain,
+                release,
+            };
+            Choice::Known(Settings {
+                rate,
+                waveform,
+                adsr,
+            })
+        }
+        Shape::Unknown => Choice::Unknown,
+    }
+}
+
+fn single(code: u32, phase: f64, dt: f64, duty: f64) -> Value
+    ensures { λ r. ⌜ r ≡ singleOf code phase dt duty ⌝ }
+{
+    let shape = shape_of(code, duty);
+    match shape {
+        Shape::Known(waveform) => waveform::sample(waveform, phase, dt),
+        Shape::Unknown => answers::value_if(false, Refusal::Setting, 0.0),
+    }
+}
+
+// A continuing call whose state comes and goes in words. Words that are no state are 10, after 6, 7 and the score's
+// faults.
+fn continue_in(
+    settings: Settings,
+    score: &[u8],
+    words: &mut [u64],
+    position: u64,
+    part: &mut [f64],
+) -> u64
+    ensures { λ r. ⌜ continues r (now (part .exit)) (now (words .exit)) ≡ continueIn settings (now (score .entry)) (now (words .entry)) position (now (part .entry)) ⌝ }
+{
+    let entry = shelf::decode(words);
+    if !entry.valid {
+        let stretch = judging::part_fits(position, part.len());
+        let refused = Answer::Refused(Refusal::GivenState);
+        return packed(judging::judged(settings, stretch, score, refused));
+    }
+    let state = entry.state;
+    let rendered = render::continue_render(settings, score, state, position, part);
+    let answer = rendered.answer;
+    if let Answer::Refused(_) = answer {
+        return packed(answer);
+    }
+    let after = rendered.state;
+    shelf::store(words, after);
+    packed(answer)
+}

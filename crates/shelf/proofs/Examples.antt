@@ -1,0 +1,106 @@
+-- Entries by example: the words of the fresh state and of a state with two keys held, and words just inside and just
+-- outside the limits. Assumes nothing.
+use mathlib.Core.Path.{_≡_, refl}
+use mathlib.Core.Bool.{true, false}
+use mathlib.Core.List.{List, [], _∷_, _++_, map}
+use Prim.Native.Nat.{ℕ, _+_, _*_}
+use lib.ListN.{set, take}
+use lib.Ieee.{binary64, lt, eq, le, ofBits, toBits}
+use Rattle.floats.specs.Double.{zero64, half, one}
+use Rattle.domain.specs.Domain.{highestPitch}
+use Rattle.envelope.specs.Limits.{eleven, isEnvelope}
+use Rattle.envelope.specs.declared.EnvelopeStage.the-variants.{Sustain, Release}
+use Rattle.voice.specs.Keys.{atMost, isKeys, keysOf}
+use Rattle.voice.specs.declared.keys.ActiveNote.the-variants.{Note}
+use Rattle.waveform.specs.Waveform.{radians}
+use Rattle.state.specs.declared.State.{State}
+use Rattle.state.specs.State.{freshOf, concert}
+use Rattle.state.specs.Limits.{inLimits, isState}
+use Rattle.shelf.specs.Shelf.{packedWord, fourPairs, entryOf, stateOf, isEntry}
+
+-- the fresh state
+abbrev rest : List ℕ
+rest = 0 ∷ 0 ∷ 0 ∷ 0 ∷ 0 ∷ 255 ∷ 0x407b_8000_0000_0000 ∷ 0 ∷ 0 ∷ 0 ∷ 0 ∷ 0 ∷ []
+
+pub fresh-words : entryOf (freshOf 0) ≡ rest
+unfolding entryOf packedWord fourPairs ofBits toBits
+fresh-words = refl
+
+-- note 60 at velocity 100 and then 64 at 90, which sounds; 2 records acted
+abbrev playing : State
+playing =
+    record {
+      phase = radians half;
+      envelope = record { stage = Sustain; level = half; «stage_time» = zero64; «release_level» = zero64 };
+      frequency = concert;
+      velocity = one;
+      keys = keysOf (Note 64) true (record { note = 60; velocity = 100 } ∷ record { note = 64; velocity = 90 } ∷ []);
+      acted = 2;
+    }
+
+abbrev played : List ℕ
+played =
+    0x3fe0_0000_0000_0000
+    ∷ 3
+    ∷ 0x3fe0_0000_0000_0000
+    ∷ 0
+    ∷ 0
+    ∷ 0x2_0540
+    ∷ 0x407b_8000_0000_0000
+    ∷ 0x3ff0_0000_0000_0000
+    ∷ 0x5a40_643c
+    ∷ 0
+    ∷ 0
+    ∷ 0
+    ∷ []
+
+pub played-words : entryOf playing ≡ played
+unfolding entryOf packedWord fourPairs ofBits toBits
+played-words = refl
+
+-- accepted: a phase of -0, the highest frequency, 440.1 Hz (no f32), and the largest number of records acted
+pub taken : map isEntry (rest ∷ played ∷ set rest 0 0x8000_0000_0000_0000 ∷ set rest 6 0x40c8_8000_0000_0000 ∷ set rest 6 0x407b_8199_9999_999a ∷ set rest 5 0xffff_ffff_ffff_00ff ∷ []) ≡ true ∷ true ∷ true ∷ true ∷ true ∷ true ∷ []
+unfolding isEntry stateOf isState inLimits isEnvelope isKeys atMost ofBits lt eq le
+taken = refl
+
+-- refused: eleven words, thirteen words, a phase of 1,000, a NaN's bits, a stage of 5, a frequency of -0
+pub not-taken : map isEntry (take 11 rest ∷ (rest ++ 0 ∷ []) ∷ set rest 0 0x408f_4000_0000_0000 ∷ set rest 0 0x7ff8_0000_0000_0000 ∷ set rest 1 5 ∷ set rest 6 0x8000_0000_0000_0000 ∷ []) ≡ false ∷ false ∷ false ∷ false ∷ false ∷ false ∷ []
+unfolding isEntry stateOf isState inLimits isEnvelope isKeys atMost ofBits lt eq le
+not-taken = refl
+
+-- refused: note 128 with the gate down and up, a note with the gate down, none with the gate up, 17 held, an unused
+-- pair that is not 0, a held note of 128
+pub not-keys : map isEntry (set rest 5 128 ∷ set rest 5 (128 + 256) ∷ set rest 5 60 ∷ set rest 5 (255 + 256) ∷ set rest 5 (255 + 512 * 17) ∷ set rest 11 1 ∷ set played 8 0x5a80_643c ∷ []) ≡ false ∷ false ∷ false ∷ false ∷ false ∷ false ∷ false ∷ []
+unfolding isEntry stateOf isState inLimits isEnvelope isKeys atMost ofBits lt eq le
+not-keys = refl
+
+-- every limit reached: the largest phase below 1,000, level and velocity 1, a time of 11 and a release level of a half,
+-- 12,544 Hz, sixteen keys held, 4,096 records acted. No two words are the same, so that exchanged words would show
+abbrev full : State
+full =
+    record {
+      phase = radians (ofBits binary64 0x408f_3fff_ffff_ffff);
+      envelope = record { stage = Release; level = one; «stage_time» = eleven; «release_level» = half };
+      frequency = highestPitch binary64;
+      velocity = ofBits binary64 0x3fef_ffff_ffff_ffff;
+      keys = keysOf (Note 127) true (record { note = 112; velocity = 127 } ∷ record { note = 113; velocity = 126 } ∷ record { note = 114; velocity = 125 } ∷ record { note = 115; velocity = 124 } ∷ record { note = 116; velocity = 123 } ∷ record { note = 117; velocity = 122 } ∷ record { note = 118; velocity = 121 } ∷ record { note = 119; velocity = 120 } ∷ record { note = 120; velocity = 119 } ∷ record { note = 121; velocity = 118 } ∷ record { note = 122; velocity = 117 } ∷ record { note = 123; velocity = 116 } ∷ record { note = 124; velocity = 115 } ∷ record { note = 125; velocity = 114 } ∷ record { note = 126; velocity = 113 } ∷ record { note = 127; velocity = 112 } ∷ []);
+      acted = 4096;
+    }
+
+abbrev filled : List ℕ
+filled = 0x408f_3fff_ffff_ffff ∷ 4 ∷ 0x3ff0_0000_0000_0000 ∷ 0x4026_0000_0000_0000 ∷ 0x3fe0_0000_0000_0000 ∷ 0x1000_217f ∷ 0x40c8_8000_0000_0000 ∷ 0x3fef_ffff_ffff_ffff ∷ 0x7c73_7d72_7e71_7f70 ∷ 0x7877_7976_7a75_7b74 ∷ 0x747b_757a_7679_7778 ∷ 0x707f_717e_727d_737c ∷ []
+
+pub filled-words : entryOf full ≡ filled
+unfolding entryOf packedWord fourPairs ofBits toBits
+filled-words = refl
+
+-- accepted: that state, also with a velocity of 1 and with a release level of 1
+pub at-limits : map isEntry (filled ∷ set filled 7 0x3ff0_0000_0000_0000 ∷ set filled 4 0x3ff0_0000_0000_0000 ∷ []) ≡ true ∷ true ∷ true ∷ []
+unfolding isEntry stateOf isState inLimits isEnvelope isKeys atMost ofBits lt eq le
+at-limits = refl
+
+-- refused: the next float above the limit of the phase, the level, the time, the release level, the frequency and the
+-- velocity
+pub past-limits : map isEntry (set filled 0 0x408f_4000_0000_0000 ∷ set filled 2 0x3ff0_0000_0000_0001 ∷ set filled 3 0x4026_0000_0000_0001 ∷ set filled 4 0x3ff0_0000_0000_0001 ∷ set filled 6 0x40c8_8000_0000_0001 ∷ set filled 7 0x3ff0_0000_0000_0001 ∷ []) ≡ false ∷ false ∷ false ∷ false ∷ false ∷ false ∷ []
+unfolding isEntry stateOf isState inLimits isEnvelope isKeys atMost ofBits lt eq le
+past-limits = refl
