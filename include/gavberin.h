@@ -72,7 +72,8 @@ extern "C" {
 #define GAV_PULSE 4
 
 #define GAV_STATE_WORDS 12         /* words of a state, and of an entry of a shelf */
-#define GAV_SECTION 4096              /* samples of a section: from one entry of a shelf to the next */
+#define GAV_SECTION 4096           /* samples of a section: from one entry of a shelf to the next */
+#define GAV_MARK GAV_SECTION       /* an older name, for hosts that use it */
 #define GAV_MOST_SAMPLES 16777216  /* the most samples of an output */
 #define GAV_LIST_ROOM 102413       /* bytes that every listing fits in */
 
