@@ -31,7 +31,7 @@ use Rattle.state.proofs.Entries.{entries-length, entry-at}
 use Rattle.score.proofs.Codec.{both}
 use Rattle.rerender.specs.declared.Plan.{Plan}
 use Rattle.rerender.specs.declared.Plan.the-variants.{From}
-use Rattle.rerender.specs.Rerender.{planOf, entryAt, startOf, isStart, madeFrom, runOf, startRefusals, rerenderRefusals, keptOf, rerenderOf}
+use Rattle.rerender.specs.Rerender.{planOf, entryAt, startOf, isStart, madeFrom, outcomeOf, startRefusals, rerenderRefusals, keptOf, rerenderOf}
 use Rattle.rerender.proofs.Cases.{plan-there, made-is, checks, all-checked}
 
 pub front : {A : Type 0} (k : ℕ) (xs ys : List A) → k ≤ length xs → take k (take k xs ++ ys) ≡ take k xs
@@ -57,7 +57,7 @@ module _ (g : Settings) (old new : List ℕ) (out : List Float) (shelf : List �
   either-way : (P : Outcome Answer → Type 0) → ((why : Refusal) → P (keptOf out shelf why)) → (isStart new m shelf ≡ true → length shelf ≡ wordsFor (length out) → P (madeFrom g old new m out shelf)) → P call
   unfolding rerenderOf
   either-way P kept made =
-      first-holds P (rerenderRefusals g old new (length out) shelf) (keptOf out shelf) (runOf g old new (planOf old new (length out)) out shelf) (λ why l. kept why)
+      first-holds P (rerenderRefusals g old new (length out) shelf) (keptOf out shelf) (outcomeOf g old new (planOf old new (length out)) out shelf) (λ why l. kept why)
       (λ none. let b = none-both (checks g old new (length out) (length shelf)) (startRefusals new (planOf old new (length out)) shelf) none in
       let start : unless (isStart new m shelf) StartEntry ≡ [] = rw planned at (b .1) in
       rw planned (made (passed (isStart new m shelf) StartEntry start) (all-checked g old new (length out) (length shelf) (b .0) .room .fits)))
@@ -100,8 +100,8 @@ module _ (g : Settings) (old new : List ℕ) (out out₂ : List Float) (shelf sh
   answer-is : (ys : List Float) (ws : List ℕ) → planOf old new (length ys) ≡ From m → rerenderOf g old new ys ws .result ≡ firstOf (rerenderRefusals g old new (length ys) ws) Refused (Done (length ys - m * sectionSize))
   unfolding rerenderOf
   answer-is ys ws q =
-      first-through (λ (o : Outcome Answer). o .result) (rerenderRefusals g old new (length ys) ws) (keptOf ys ws) (runOf g old new (planOf old new (length ys)) ys ws)
-      ∙ ap (λ (plan : Plan). firstOf (rerenderRefusals g old new (length ys) ws) Refused (runOf g old new plan ys ws .result)) q
+      first-through (λ (o : Outcome Answer). o .result) (rerenderRefusals g old new (length ys) ws) (keptOf ys ws) (outcomeOf g old new (planOf old new (length ys)) ys ws)
+      ∙ ap (λ (plan : Plan). firstOf (rerenderRefusals g old new (length ys) ws) Refused (outcomeOf g old new plan ys ws .result)) q
 
   pub answer-alone : rerenderOf g old new out shelf .result ≡ rerenderOf g old new out₂ shelf₂ .result
   answer-alone = answer-is out shelf planned ∙ rw (refusals-alone, long) refl ∙ sym (answer-is out₂ shelf₂ planned₂)

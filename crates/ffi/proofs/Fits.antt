@@ -29,7 +29,7 @@ use Rattle.render.specs.declared.Rendered.{Rendered}
 use Rattle.render.specs.Calls.{madeOf, renderOf, continueRefusals}
 use Rattle.rerender.specs.declared.Plan.{Plan}
 use Rattle.rerender.specs.declared.Plan.the-variants.{Nothing, From}
-use Rattle.rerender.specs.Rerender.{planOf, isStart, runOf, startRefusals, rerenderRefusals, keptOf, rerenderOf}
+use Rattle.rerender.specs.Rerender.{planOf, isStart, outcomeOf, startRefusals, rerenderRefusals, keptOf, rerenderOf}
 use Rattle.rerender.proofs.Cases.{checks, all-checked}
 use Rattle.score.specs.Record.{countOf}
 use Rattle.score.specs.Score.{markRight, kindRight, fieldsRight, inOrder, faultsAt, faultsFrom, faultsOf, answerOf}
@@ -159,7 +159,7 @@ rerender-fits g old new out shelf =
     let n = length out in
     let plan = planOf old new n in
     let tests = checks g old new n (length shelf) in
-    first-holds (λ (o : Outcome Answer). Fits (o .result)) (rerenderRefusals g old new n shelf) (keptOf out shelf) (runOf g old new plan out shelf)
+    first-holds (λ (o : Outcome Answer). Fits (o .result)) (rerenderRefusals g old new n shelf) (keptOf out shelf) (outcomeOf g old new plan out shelf)
     (λ why l. refused-fits why (append-low tests (startRefusals new plan shelf) (append-low (refusalsOf g (sizesFit n (length shelf)) old) (newRefusalsOf new) (judged-low g (sizesFit n (length shelf)) old) (new-low new)) (start-low plan) why l))
     (λ none. run-fits plan (all-checked g old new n (length shelf) (none-both tests (startRefusals new plan shelf) none .0) .room .short))
   where
@@ -167,7 +167,7 @@ rerender-fits g old new out shelf =
     start-low Nothing why h = absurd h
     start-low (From m) why h = unless-low (isStart new m shelf) StartEntry (omega arith) why h
 
-    run-fits : (q : Plan) → length out ≤ mostSamples → Fits (runOf g old new q out shelf .result)
+    run-fits : (q : Plan) → length out ≤ mostSamples → Fits (outcomeOf g old new q out shelf .result)
     run-fits Nothing h = done-fits 0 (omega arith)
     run-fits (From m) h = done-fits (length out - m * 4096) (omega arith)
 

@@ -38,7 +38,7 @@ use Rattle.judging.specs.Judging.{refusalsOf, newRefusalsOf, sizesFit}
 use Rattle.judging.proofs.Refusals.{all-passed, new-passed, Roomy, roomy}
 use Rattle.rerender.specs.declared.Plan.{Plan}
 use Rattle.rerender.specs.declared.Plan.the-variants.{Nothing, From}
-use Rattle.rerender.specs.Rerender.{planFor, planOf, entryAt, startOf, isStart, between, madeFrom, runOf, startRefusals, rerenderRefusals, keptOf, rerenderOf, countFor}
+use Rattle.rerender.specs.Rerender.{planFor, planOf, entryAt, startOf, isStart, between, madeFrom, outcomeOf, startRefusals, rerenderRefusals, keptOf, rerenderOf, countFor}
 use Rattle.rerender.specs.Inner.{rerenderFrom}
 
 -- ---- the plan
@@ -159,11 +159,11 @@ module _ (g : Settings) (old new : List ℕ) (out : List Float) (shelf : List �
 
   -- the outcome where the checks refuse nothing
   abbrev rest : Outcome Answer
-  rest = firstOf (startRefusals new plan shelf) (keptOf out shelf) (runOf g old new plan out shelf)
+  rest = firstOf (startRefusals new plan shelf) (keptOf out shelf) (outcomeOf g old new plan out shelf)
 
   in-turn : rerenderOf g old new out shelf ≡ firstOf tests (keptOf out shelf) rest
   unfolding rerenderOf
-  in-turn = first-append tests (startRefusals new plan shelf) (keptOf out shelf) (runOf g old new plan out shelf)
+  in-turn = first-append tests (startRefusals new plan shelf) (keptOf out shelf) (outcomeOf g old new plan out shelf)
 
   pub checks-refuse : (why : Refusal) → answered g old new (length out) (length shelf) ≡ Refused why → leaves (Refused why) out shelf ≡ rerenderOf g old new out shelf
   checks-refuse why e = sym (in-turn ∙ leads-first why tests (keptOf out shelf) rest (answer-leads g old new (length out) (length shelf) why e))
@@ -183,10 +183,10 @@ module _ (g : Settings) (old new : List ℕ) (out : List Float) (shelf : List �
     section-run m q = sym (goes ∙ rw q refl)
 
   -- the list of refusals decides the answer, and the answer decides what is left
-  pub rerender-decided : Decided (λ (o : Outcome Answer). o .result) (rerenderRefusals g old new (length out) shelf) (keptOf out shelf) (runOf g old new plan out shelf) (countFor g old new plan (length out)) (rerenderOf g old new out shelf)
+  pub rerender-decided : Decided (λ (o : Outcome Answer). o .result) (rerenderRefusals g old new (length out) shelf) (keptOf out shelf) (outcomeOf g old new plan out shelf) (countFor g old new plan (length out)) (rerenderOf g old new out shelf)
   unfolding rerenderOf
-  rerender-decided = decided (λ (o : Outcome Answer). o .result) _ (keptOf out shelf) (runOf g old new plan out shelf) (countFor g old new plan (length out)) (λ why. refl) (run-counts plan)
+  rerender-decided = decided (λ (o : Outcome Answer). o .result) _ (keptOf out shelf) (outcomeOf g old new plan out shelf) (countFor g old new plan (length out)) (λ why. refl) (run-counts plan)
     where
-      run-counts : (q : Plan) → runOf g old new q out shelf .result ≡ Done (countFor g old new q (length out))
+      run-counts : (q : Plan) → outcomeOf g old new q out shelf .result ≡ Done (countFor g old new q (length out))
       run-counts Nothing = refl
       run-counts (From m) = refl

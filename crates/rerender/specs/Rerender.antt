@@ -40,7 +40,7 @@ planFor (At p) n = cond (ltb p n) (From (p / sectionSize)) Nothing
 abbrev pub planOf : List ℕ → List ℕ → ℕ → Plan
 planOf old new n = planFor (differenceOf old new) n
 
--- ---- the run
+-- ---- from an entry
 -- the twelve words of entry m, and the state that they are read as
 abbrev pub entryAt : List ℕ → ℕ → List ℕ
 entryAt shelf m = take entryWords (drop (m * entryWords) shelf)
@@ -52,7 +52,8 @@ startOf shelf m = stateOf (entryAt shelf m)
 abbrev pub isStart : List ℕ → ℕ → List ℕ → Bool
 isStart new m shelf = isEntry (entryAt shelf m) && eqb (startOf shelf m .acted) (countBelow new (m * sectionSize))
 
--- the position at which the run stops, in an output of n samples: the end, whatever the scores and the shelf are
+-- the position at which the re-render stops, in an output of n samples: today the end. It is named, with what it may
+-- look at, so that a rule that stops earlier is said here alone
 abbrev pub stopOf : Settings → List ℕ → List ℕ → ℕ → ℕ → ℕ
 stopOf g old new m n = n
 
@@ -72,9 +73,9 @@ madeFrom g old new m out shelf =
 
 -- ---- the call
 -- the outcome of a plan
-abbrev pub runOf : Settings → List ℕ → List ℕ → Plan → List Float → List ℕ → Outcome Answer
-runOf g old new Nothing out shelf = leaves (Done 0) out shelf
-runOf g old new (From m) out shelf = madeFrom g old new m out shelf
+abbrev pub outcomeOf : Settings → List ℕ → List ℕ → Plan → List Float → List ℕ → Outcome Answer
+outcomeOf g old new Nothing out shelf = leaves (Done 0) out shelf
+outcomeOf g old new (From m) out shelf = madeFrom g old new m out shelf
 
 -- 8, only where an entry is read
 abbrev pub startRefusals : List ℕ → Plan → List ℕ → List Refusal
@@ -90,9 +91,9 @@ abbrev pub keptOf : List Float → List ℕ → Refusal → Outcome Answer
 keptOf out shelf why = leaves (Refused why) out shelf
 
 unfoldable pub rerenderOf : Settings → List ℕ → List ℕ → List Float → List ℕ → Outcome Answer
-rerenderOf g old new out shelf = firstOf (rerenderRefusals g old new (length out) shelf) (keptOf out shelf) (runOf g old new (planOf old new (length out)) out shelf)
+rerenderOf g old new out shelf = firstOf (rerenderRefusals g old new (length out) shelf) (keptOf out shelf) (outcomeOf g old new (planOf old new (length out)) out shelf)
 
--- how many samples a plan makes in an output of n samples
+-- how many samples a plan makes in an output of n samples; the theorem that decides the call's answer cites it
 abbrev pub countFor : Settings → List ℕ → List ℕ → Plan → ℕ → ℕ
 countFor g old new Nothing n = 0
 countFor g old new (From m) n = stopOf g old new m n - m * sectionSize

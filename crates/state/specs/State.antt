@@ -41,7 +41,8 @@ abbrev pub freshOf : ℕ → State
 freshOf acted = record { phase = radians zero64; envelope = envelope.freshOf; frequency = concert; velocity = zero64; keys = freshKeys; acted = acted }
 
 -- ---- the state with some fields changed. Who adds a field to `State` adds it to these definitions, to `freshOf`, to
--- `withActed` of ButActed.antt and to `stateOf` of the crate `shelf`, which name all fields
+-- `withActed` of ButActed.antt and to `stateOf` of the crate `shelf`, which name all fields; and, where it has limits
+-- and words, to `inLimits` of Limits.antt and to shelf's `entryOf` and `entryWords`
 abbrev pub withPhase : State → Float → State
 withPhase v p = record { phase = radians p; envelope = v .envelope; frequency = v .frequency; velocity = v .velocity; keys = v .keys; acted = v .acted }
 
@@ -53,8 +54,8 @@ abbrev pub withNote : State → ℕ → ℕ → State
 withNote v note velocity = record { phase = v .phase; envelope = v .envelope; frequency = frequencyOf note; velocity = velocityOf velocity; keys = v .keys; acted = v .acted }
 
 -- these keys are held, and one more record has acted
-abbrev pub withKeys : State → Keys → State
-withKeys v keys = record { phase = v .phase; envelope = v .envelope; frequency = v .frequency; velocity = v .velocity; keys = keys; acted = counted (v .acted) }
+abbrev pub actedWith : State → Keys → State
+actedWith v keys = record { phase = v .phase; envelope = v .envelope; frequency = v .frequency; velocity = v .velocity; keys = keys; acted = counted (v .acted) }
 
 -- ---- reduce
 abbrev pub reducedOf : State → State
@@ -78,14 +79,14 @@ triggers g v = true
 -- the key is struck: its note sounds with this velocity
 abbrev pub struckOf : Settings → State → ℕ → ℕ → State
 struckOf g v note velocity =
-    withEnvelope (withNote (withKeys v (pressedOf (v .keys) note velocity)) note velocity) (cond (triggers g v) (triggeredOf (v .envelope)) (v .envelope))
+    withEnvelope (withNote (actedWith v (pressedOf (v .keys) note velocity)) note velocity) (cond (triggers g v) (triggeredOf (v .envelope)) (v .envelope))
 
 -- a key is lifted, and these keys are left: voice and envelope are released, or a held note sounds, or nothing else
 -- changes
 abbrev pub afterNoteOff : State → Keys → NoteOff → State
-afterNoteOff v keys Released = withEnvelope (withKeys v keys) (releasedOf (v .envelope))
-afterNoteOff v keys (FellBack note velocity) = withNote (withKeys v keys) note velocity
-afterNoteOff v keys NoChange = withKeys v keys
+afterNoteOff v keys Released = withEnvelope (actedWith v keys) (releasedOf (v .envelope))
+afterNoteOff v keys (FellBack note velocity) = withNote (actedWith v keys) note velocity
+afterNoteOff v keys NoChange = actedWith v keys
 
 unfoldable pub actOf : Settings → State → Event → State
 actOf g v (event.Strike note velocity) = struckOf g v note velocity
@@ -93,7 +94,7 @@ actOf g v (event.Lift note) = let l = liftedOf (v .keys) note in afterNoteOff v 
 actOf g v event.Reset = freshOf (counted (v .acted))
 
 -- ---- the sample, and the advance
--- the envelope after the next sample; its level is the sample's
+-- the envelope after its step at this sample, whose level the sample has
 abbrev pub nextEnvelopeOf : Settings → State → Envelope
 nextEnvelopeOf g v = stepOf (clampedOf (g .adsr)) (sampleTimeOf (g .rate)) (v .envelope)
 

@@ -5,7 +5,7 @@ ghost use mathlib.Core.Path.{_≡_};
 ghost use Rattle.voice.specs.Keys.{liftedOf};
 ghost use Rattle.state.specs.Limits.{inLimits, isState};
 ghost use Rattle.state.specs.Settings.{settingsOk};
-ghost use Rattle.state.specs.State.{counted, freshOf, withNote, withKeys, reducedOf, eventOf, actOf, struckOf, afterNoteOff, nextEnvelopeOf, sampleOf, advanceOf};
+ghost use Rattle.state.specs.State.{counted, freshOf, withNote, actedWith, reducedOf, eventOf, actOf, struckOf, afterNoteOff, nextEnvelopeOf, sampleOf, advanceOf};
 use envelope::Adsr;
 use envelope::Envelope;
 use score::Kind;
@@ -157,7 +157,7 @@ fn strike(settings: Settings, state: State, note: u8, velocity: u8) -> State
 {
     let keys = keys::pressed(state.keys, note, velocity);
     let envelope = envelope::triggered(state.envelope);
-    let mut next = with_note(with_keys(state, keys), note, velocity);
+    let mut next = with_note(acted_with(state, keys), note, velocity);
     next.envelope = envelope;
     next
 }
@@ -175,7 +175,7 @@ fn lift(state: State, note: u8) -> State
 fn after_note_off(state: State, keys: Keys, off: NoteOff) -> State
     ensures { λ r. ⌜ r ≡ afterNoteOff state keys off ⌝ }
 {
-    let mut next = with_keys(state, keys);
+    let mut next = acted_with(state, keys);
     match off {
         NoteOff::Released => {
             let envelope = envelope::released(state.envelope);
@@ -198,8 +198,8 @@ fn with_note(state: State, note: u8, velocity: u8) -> State
 }
 
 // These keys are held, and one more record has acted.
-fn with_keys(state: State, keys: Keys) -> State
-    ensures { λ r. ⌜ r ≡ withKeys state keys ⌝ }
+fn acted_with(state: State, keys: Keys) -> State
+    ensures { λ r. ⌜ r ≡ actedWith state keys ⌝ }
 {
     let mut next = state;
     next.keys = keys;
