@@ -1,5 +1,6 @@
-// The inner loop of a block: the samples of a waveform over a lent part of the output, by the way that is fastest for the
-// note. Low notes are made by lines between corrections, high notes without a branch, a sine from its table.
+// The inner loop of a block: writes the samples of a waveform into a lent part of the output, in the way that is
+// fastest for the note. Low notes are made by straight lines between corrections, high notes without a branch, a sine
+// from its table.
 ghost use mathlib.Core.Path.{_≡_};
 ghost use lib.ListN.{length};
 ghost use lib.Ieee.{Float};
@@ -15,11 +16,11 @@ use waveform::Waveform;
 use waveform::in_cycles;
 use waveform::normalised;
 
-// Cycles a sample from which on too few samples lie between two corrections.
+// In cycles a sample: from here on, too few samples lie between two corrections for straight lines to be faster.
 const HIGH_NOTE: f64 = 0.035;
 
-// The value times the scale at each sample, and the phase after the last, which is not reduced: a part of a render is lent
-// to it, and the end of a part reduces nothing.
+// Writes value * scale for each sample, and gives the phase after the last. That phase is not reduced: a render lends
+// parts of its output, and 01 says "The end of a caller's buffer reduces nothing".
 pub fn fill(
     out: &mut [f64],
     waveform: Waveform,
@@ -38,7 +39,7 @@ pub fn fill(
     low_notes::fill(out, waveform, start, step, scale)
 }
 
-// The sine's table is made once.
+// The quarter wave is made once, before the loop.
 fn fill_sine(out: &mut [f64], start: Radians, step: Radians, scale: f64) -> Radians
     ensures { λ r. ⌜ Filled Sine (start .0) (step .0) scale (now (out .entry)) (now (out .exit)) r ⌝ }
 {
@@ -54,8 +55,8 @@ fn fill_sine(out: &mut [f64], start: Radians, step: Radians, scale: f64) -> Radi
     Radians(angle)
 }
 
-// `fill` with a table of the wave that is lent, which a sine reads where it is as long as the whole wave; of the whole wave
-// it writes the same bits.
+// `fill` with a lent table: a sine is read from a table of 4,097 numbers, and made by `fill` where the length is
+// another. With the numbers of `sine::whole_wave` in the table, the bits are those of `fill`.
 pub fn fill_in(
     wave: &[f64],
     out: &mut [f64],

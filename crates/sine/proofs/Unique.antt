@@ -1,4 +1,5 @@
--- Two outcomes that meet a public function's statement are equal: each statement is an equation with one definition of specs/. Assumes nothing.
+-- Two outcomes that meet a public function's statement are equal: each statement is an equation with one definition of
+-- specs/. Assumes nothing.
 use mathlib.Core.Path.{_≡_, sym, _∙_}
 use mathlib.Core.List.{List}
 use Prim.Native.Nat.{ℕ}

@@ -1,4 +1,5 @@
--- The reading of an unfolded wave, case by case; and that of the whole wave it is the reading of the quarter, since b at a point is a at the next. Assumes nothing.
+-- The reading of an unfolded wave, case by case. The reading of the whole wave is that of the quarter wave, since b at
+-- a point is a at the next. Assumes nothing.
 use mathlib.Core.Path.{_≡_, refl, sym, ap, _∙_, subst}
 use mathlib.Core.Bool.{Bool, true, false, cond, and-false}
 use mathlib.Core.List.{List}
