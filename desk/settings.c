@@ -44,7 +44,7 @@ static const struct setting rows[] = {
      .name = "duty",
      .unit = "",
      .form = "--duty D",
-     .help = "of a pulse: the part of a cycle that is high, 0 to 1 (0.5)"},
+     .help = "of a pulse: the fraction of a cycle that is high, 0 to 1 (0.5)"},
     {.option = "--adsr",
      .kind = NUMBER,
      FIELD(attack),

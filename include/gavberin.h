@@ -117,7 +117,7 @@ uint64_t gav_check_score(const uint8_t *score, size_t score_len);
  * code:  GAV_SINE to GAV_PULSE, 0 to 4; above is 6
  * phase: in cycles, 0 to 1; else 9
  * dt:    cycles a sample, 0 to 4, for a sine too; else 9
- * duty:  the part of a cycle that a pulse is high, 0 to 1; else 6. Read for GAV_PULSE alone */
+ * duty:  the fraction of a cycle that a pulse is high, 0 to 1; else 6. Read for GAV_PULSE alone */
 double gav_sample(uint32_t code, double phase, double dt, double duty);
 uint64_t gav_sample_says(uint32_t code, double phase, double dt, double duty);
 
@@ -125,7 +125,7 @@ uint64_t gav_sample_says(uint32_t code, double phase, double dt, double duty);
  * gav_render_with, gav_rerender_with and gav_continue_with, which stand below each call.
  * rate:    samples a second, 8,000 to 192,000; else 6
  * code:    GAV_SINE to GAV_PULSE, 0 to 4; above is 6
- * duty:    the part of a cycle that a pulse is high, 0 to 1; else 6. Read for GAV_PULSE alone
+ * duty:    the fraction of a cycle that a pulse is high, 0 to 1; else 6. Read for GAV_PULSE alone
  * attack, decay, release: seconds; any number, taken as at least 0.001 and at most 10. A NaN is 6
  * sustain: a level; any number, taken as at least 0 and at most 1. A NaN is 6 */
 struct gav_settings {

@@ -35,7 +35,7 @@ pub fn run(tone: Tone, highest: f64, rate: u32, out: &mut [f64]) -> Ran
         return refused(Refusal::Argument, tone.phase);
     }
     let step = waveform::increment(tone.frequency, rate);
-    let last = waveform::fill(out, shape, tone.phase, step, tone.depth);
+    let last = filling::fill(out, shape, tone.phase, step, tone.depth);
     let after = waveform::reduced(last);
     Ran {
         answer: Answer::Done(out.len()),

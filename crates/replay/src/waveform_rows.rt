@@ -44,7 +44,7 @@ fn filled(row: &[u8], out: &mut [f64]) -> Radians {
     let start = Radians(fields::float_at(row, 24));
     let step = Radians(fields::float_at(row, 32));
     let shape = fields::waveform_of(row, 8);
-    let after = waveform::fill(out, shape, start, step, fields::float_at(row, 40));
+    let after = filling::fill(out, shape, start, step, fields::float_at(row, 40));
     if words::u64_at(row, 0) == 0 {
         return after;
     }

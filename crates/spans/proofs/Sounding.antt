@@ -16,11 +16,12 @@ use Rattle.envelope.specs.Limits.{clampedOf, sampleTimeOf}
 use Rattle.envelope.specs.Running.{envelopeFrom}
 use Rattle.envelope.specs.Scaled.{scaledTo, Scaled}
 use Rattle.waveform.specs.Waveform.{radians, normalOf, invTau}
-use Rattle.waveform.specs.Filled.{phaseFrom, samplesFrom, valueAt, valueIn, Filled, FilledBy}
+use Rattle.waveform.specs.Filled.{phaseFrom, samplesFrom, valueAt, Filled, FilledBy}
 use Rattle.waveform.specs.declared.Radians.{Radians}
 use Rattle.waveform.proofs.Steps.{samples-length, sample-at}
 use Rattle.waveform.proofs.Values.{value-fits}
-use Rattle.waveform.proofs.Lent.{filled-as}
+use Rattle.filling.specs.Lent.{valueIn}
+use Rattle.filling.proofs.Lent.{filled-as}
 use Rattle.state.specs.declared.Settings.{Settings}
 use Rattle.state.specs.declared.State.{State}
 use Rattle.state.specs.State.{withPhase, withEnvelope, paceOf, sampleOf, advanceOf}

@@ -9,7 +9,8 @@ use lib.Ieee.{Float}
 use lib.Dec.{eqb}
 use Rattle.runs.specs.Runs.{repeated, listed}
 use Rattle.waveform.specs.declared.Waveform.{Waveform}
-use Rattle.waveform.specs.Filled.{valueAt, valueIn}
+use Rattle.waveform.specs.Filled.{valueAt}
+use Rattle.filling.specs.Lent.{valueIn}
 use Rattle.state.specs.declared.Settings.{Settings}
 use Rattle.state.specs.declared.State.{State}
 use Rattle.state.specs.State.{sampleOf, advanceOf}

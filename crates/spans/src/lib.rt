@@ -218,7 +218,7 @@ fn sound(wave: &[f64], settings: Settings, state: State, part: &mut [f64]) -> St
     let adsr = settings.adsr;
     let start = state.phase;
     let step = waveform::increment(state.frequency, settings.rate);
-    let phase = waveform::fill_in(wave, part, waveform, start, step, 1.0);
+    let phase = filling::fill_in(wave, part, waveform, start, step, 1.0);
     let envelope = envelope::levels::scale(
         envelope::clamped(adsr),
         envelope::sample_time(settings.rate),

@@ -1,21 +1,13 @@
 -- What the proofs of this crate and of those above cite.
 -- one sample more, and a block run on
 pub mod Steps
--- a block of any values, and of a lent table's
-pub mod Lent
 -- what the inner loops share
 pub mod Loops
 -- the ranges of what is made of radians
 pub mod Normal
 -- the remainder of a phase by whole numbers
-pub mod Turns
--- a waveform between two corrections
-pub mod Stretches
+pub mod Remainders
 -- a value is an f64, and every sample of a block is finite
 pub mod Values
 -- two outcomes of a public function are equal
 pub mod Unique
--- phases and their values in a lent list, without a branch
-pub mod Remaking
--- what is left of phases over TAU, by differences
-pub mod Folds

@@ -1,17 +1,13 @@
 -- A block, sample by sample. 01: "For each sample the value is taken from (phase % TAU) * INV_TAU with dt = increment * INV_TAU, times depth in the LFO, then phase grows by the increment." Definitions only.
-use mathlib.Core.Bool.{cond}
 use mathlib.Core.Path.{_≡_}
 use mathlib.Core.List.{List}
 use Prim.Native.Nat.{ℕ}
-use lib.Dec.{eqb}
 use lib.ListN.{length}
 use lib.Ieee.{Float}
 use Rattle.runs.specs.Runs.{repeated, listed}
 use Rattle.floats.specs.Double.{_⊕_, _⊗_}
-use Rattle.sine.specs.Whole.{wholeReading}
 use Rattle.waveform.specs.declared.Radians.{Radians}
 use Rattle.waveform.specs.declared.Waveform.{Waveform}
-use Rattle.waveform.specs.declared.Waveform.the-variants.{Sine, Square, Sawtooth, Triangle, Pulse}
 use Rattle.waveform.specs.Waveform.{valueOf, normalOf, invTau, radians}
 
 -- the phase before sample k, from p before sample 0
@@ -41,11 +37,3 @@ pub record FilledBy (value : Float → Float) (p step scale : Float) (before aft
 
 abbrev pub Filled : Waveform → Float → Float → Float → List Float → List Float → Radians → Type 0
 Filled w p step scale before after r = FilledBy (valueAt w step) p step scale before after r
-
--- ---- a sine may be read from a lent table W that is as long as the whole wave; every other waveform has its own value
-unfoldable pub valueIn : List Float → Waveform → Float → Float → Float
-valueIn W Sine step p = cond (eqb (length W) 4097) (wholeReading W (normalOf p)) (valueAt Sine step p)
-valueIn W Square step p = valueAt Square step p
-valueIn W Sawtooth step p = valueAt Sawtooth step p
-valueIn W Triangle step p = valueAt Triangle step p
-valueIn W (Pulse duty) step p = valueAt (Pulse duty) step p

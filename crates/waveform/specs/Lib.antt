@@ -1,3 +1,2 @@
 pub mod Waveform
 pub mod Filled
-pub mod Inner

@@ -2,7 +2,7 @@
 use borrow.Author.Needs.{needs}
 use mathlib.Core.Path.{sym}
 use Rattle.sine.proofs.Whole.{whole-long}
-use Rattle.waveform.proofs.Lent.{whole-value}
+use Rattle.filling.proofs.Lent.{whole-value}
 use Rattle.spans.proofs.play_long.Statement.{statement}
 use Rattle.spans.proofs.play_long.Tie as tie
 

@@ -3,7 +3,7 @@ use borrow.Author.Needs.{needs}
 use mathlib.Core.Path.{sym}
 use mathlib.Core.List.{[]}
 use native.Mathlib.Omega.{arith}
-use Rattle.waveform.proofs.Lent.{table-unread}
+use Rattle.filling.proofs.Lent.{table-unread}
 use Rattle.spans.proofs.play_short.Statement.{statement}
 use Rattle.spans.proofs.play_short.Tie as tie
 

@@ -1,0 +1,7 @@
+-- What the proofs of this crate and of those above cite.
+-- phases and their values in a lent list, without a branch
+pub mod Remaking
+-- the remainders of phases over TAU, by differences
+pub mod Wraps
+-- two outcomes of a public function are equal
+pub mod Unique

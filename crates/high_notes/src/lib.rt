@@ -1,0 +1,264 @@
+// Notes of few samples a cycle, most of which lie near an edge: no line is looked for. First the phases stand in the output,
+// then their remainders over TAU, then the values, each with its corrections, in loops without a branch.
+ghost use mathlib.Core.Path.{_≡_};
+ghost use mathlib.Core.Bool.{true, cond, _&&_};
+ghost use lib.Dec.{T};
+ghost use lib.ListN.{length};
+ghost use lib.Ieee.{Float, lt};
+ghost use lib.Ieee.Scale.{finite};
+ghost use Rattle.runs.specs.Runs.{listed};
+ghost use Rattle.floats.specs.Range.{within};
+ghost use Rattle.floats.specs.Double.{_⊗_, naught, one, two};
+ghost use Rattle.polyblep.specs.Polyblep.{fractOf, blepOf, blampOf, sawOf, squareOf, pulseOf, triangleOf};
+ghost use Rattle.waveform.specs.Waveform.{valueOf, remainderOf, invTau, radians};
+ghost use Rattle.waveform.specs.Filled.{phaseFrom, Filled};
+ghost use Rattle.waveform.proofs.Values.{far, sixteen};
+ghost use Rattle.high_notes.specs.Remainders.{madeOf, remaindersOf};
+ghost use Rattle.high_notes.specs.Inner.{fourTau, eightTau, thirtyTwoTau, wrapOnceOf, AllBelow, AllFractions};
+use waveform::Radians;
+use waveform::TAU;
+use waveform::TWO_TAU;
+use waveform::Waveform;
+use waveform::in_cycles;
+use waveform::remainder;
+use waveform::value_at;
+
+const FOUR_TAU: f64 = 25.132741228718345;
+
+const EIGHT_TAU: f64 = 50.26548245743669;
+
+const SIXTEEN_TAU: f64 = 100.53096491487338;
+
+const THIRTY_TWO_TAU: f64 = 201.06192982974676;
+
+// A block of a waveform; a sine, and where many samples lie between two corrections, in more time than another way needs.
+pub fn fill(
+    out: &mut [f64],
+    waveform: Waveform,
+    start: Radians,
+    step: Radians,
+    scale: f64,
+) -> Radians
+    ensures { λ r. ⌜ Filled waveform (start .0) (step .0) scale (now (out .entry)) (now (out .exit)) r ⌝ }
+{
+    if !is_rising(start, step) {
+        return low_notes::fill(out, waveform, start, step, scale);
+    }
+    let dt = in_cycles(step);
+    let end = fill_phases(out, start, step);
+    wrap_phases(out, end);
+    fill_values(out, waveform, dt, scale);
+    end
+}
+
+// The remainders over TAU of the phases before the samples, and the phase after them.
+pub fn fill_remainders(out: &mut [f64], start: Radians, step: Radians) -> Radians
+    ensures { λ r. ⌜ (now (out .exit) ≡ remaindersOf (step .0) (start .0) (length (now (out .entry)))) × (r ≡ radians (phaseFrom (step .0) (start .0) (length (now (out .entry))))) ⌝ }
+{
+    let end = fill_phases(out, start, step);
+    if is_rising(start, step) {
+        wrap_phases(out, end);
+        return end;
+    }
+    wrap_one_by_one(out);
+    end
+}
+
+// The phases before the samples, and the one after them.
+fn fill_phases(out: &mut [f64], start: Radians, step: Radians) -> Radians
+    ensures { λ r. ⌜ (now (out .exit) ≡ listed (phaseFrom (step .0) (start .0)) (length (now (out .entry)))) × (r ≡ radians (phaseFrom (step .0) (start .0) (length (now (out .entry))))) ⌝ }
+{
+    let by = step.0;
+    let mut angle = start.0;
+    let mut i = 0;
+    while i < out.len() {
+        out[i] = angle;
+        angle = angle + by;
+        i += 1;
+    }
+    Radians(angle)
+}
+
+// Whether no phase falls, and none is below 0 or grows beyond 2^60.
+fn is_rising(start: Radians, step: Radians) -> bool
+    ensures { λ r. ⌜ r ≡ (within naught far (start .0) && within naught sixteen (step .0)) ⌝ }
+{
+    ((0.0 <= start.0) & (start.0 <= 1152921504606846976.0)) & ((0.0 <= step.0) & (step.0 <= 16.0))
+}
+
+// The remainders over TAU of phases, none of which is beyond the end.
+fn wrap_phases(out: &mut [f64], end: Radians)
+    requires { ⌜ ((bound : Float) → T (finite bound) → T (lt (end .0) bound) → AllBelow bound (now out)) ⌝ }
+    ensures { λ r. ⌜ now (out .exit) ≡ madeOf remainderOf (now (out .entry)) (length (now (out .entry))) ⌝ }
+{
+    if end.0 < TWO_TAU {
+        wrap_once(out, Radians(TAU));
+        return;
+    }
+    if end.0 < FOUR_TAU {
+        wrap_below_4_cycles(out);
+        return;
+    }
+    if end.0 < EIGHT_TAU {
+        wrap_below_8_cycles(out);
+        return;
+    }
+    if end.0 < THIRTY_TWO_TAU {
+        wrap_below_32_cycles(out);
+        return;
+    }
+    wrap_one_by_one(out);
+}
+
+// Below 4 TAU, by two differences.
+fn wrap_below_4_cycles(out: &mut [f64])
+    requires { ⌜ AllBelow fourTau (now out) ⌝ }
+    ensures { λ r. ⌜ now (out .exit) ≡ madeOf remainderOf (now (out .entry)) (length (now (out .entry))) ⌝ }
+{
+    wrap_once(out, Radians(TWO_TAU));
+    wrap_once(out, Radians(TAU));
+}
+
+fn wrap_below_8_cycles(out: &mut [f64])
+    requires { ⌜ AllBelow eightTau (now out) ⌝ }
+    ensures { λ r. ⌜ now (out .exit) ≡ madeOf remainderOf (now (out .entry)) (length (now (out .entry))) ⌝ }
+{
+    wrap_once(out, Radians(FOUR_TAU));
+    wrap_below_4_cycles(out);
+}
+
+// Below 32 TAU.
+fn wrap_below_32_cycles(out: &mut [f64])
+    requires { ⌜ AllBelow thirtyTwoTau (now out) ⌝ }
+    ensures { λ r. ⌜ now (out .exit) ≡ madeOf remainderOf (now (out .entry)) (length (now (out .entry))) ⌝ }
+{
+    wrap_once(out, Radians(SIXTEEN_TAU));
+    wrap_once(out, Radians(EIGHT_TAU));
+    wrap_below_8_cycles(out);
+}
+
+fn wrap_one_by_one(out: &mut [f64])
+    ensures { λ r. ⌜ now (out .exit) ≡ madeOf remainderOf (now (out .entry)) (length (now (out .entry))) ⌝ }
+{
+    let mut i = 0;
+    while i < out.len() {
+        let x = out[i];
+        let rest = remainder(Radians(x));
+        out[i] = rest.0;
+        i += 1;
+    }
+}
+
+// Each less a number of radians, where it is not below that.
+fn wrap_once(out: &mut [f64], over: Radians)
+    ensures { λ r. ⌜ now (out .exit) ≡ madeOf (wrapOnceOf (over .0)) (now (out .entry)) (length (now (out .entry))) ⌝ }
+{
+    let y = over.0;
+    let mut i = 0;
+    while i < out.len() {
+        let x = out[i];
+        out[i] = x - select(x < y, 0.0, y);
+        i += 1;
+    }
+}
+
+// The values of remainders, whose fractions of a cycle lie from 0 to 1. The back end takes the match out of the loop.
+fn fill_values(out: &mut [f64], waveform: Waveform, dt: f64, scale: f64)
+    requires { ⌜ AllFractions (now out) ⌝ }
+    ensures { λ r. ⌜ now (out .exit) ≡ madeOf (λ (x : Float). valueOf waveform (x ⊗ invTau) dt ⊗ scale) (now (out .entry)) (length (now (out .entry))) ⌝ }
+{
+    let mut i = 0;
+    while i < out.len() {
+        let x = out[i];
+        let u = in_cycles(Radians(x));
+        out[i] = branchless_value(waveform, u, dt) * scale;
+        i += 1;
+    }
+}
+
+// `value_at` of a fraction of a cycle, without a branch that hangs on it.
+fn branchless_value(waveform: Waveform, u: f64, dt: f64) -> f64
+    requires { ⌜ T (within naught one u) ⌝ }
+    ensures { λ r. ⌜ r ≡ valueOf waveform u dt ⌝ }
+{
+    match waveform {
+        Waveform::Sine => value_at(waveform, u, dt),
+        Waveform::Square => square(u, dt),
+        Waveform::Sawtooth => saw(u, dt),
+        Waveform::Triangle => triangle(u, dt),
+        Waveform::Pulse(duty) => pulse(u, dt, duty),
+    }
+}
+
+// ---- the values of polyblep, without a branch
+fn saw(u: f64, dt: f64) -> f64
+    ensures { λ r. ⌜ r ≡ sawOf u dt ⌝ }
+{
+    polyblep::climb(u) - blep(u, dt)
+}
+
+fn square(u: f64, dt: f64) -> f64
+    requires { ⌜ T (within naught one u) ⌝ }
+    ensures { λ r. ⌜ r ≡ squareOf u dt ⌝ }
+{
+    let rise = blep(u, dt);
+    let fall = blep(fract(u + 0.5), dt);
+    polyblep::step(u, 0.5) + rise - fall
+}
+
+// A duty so near to 0 or 1 that the second edge's phase may leave 0 to 2 is made as any.
+fn pulse(u: f64, dt: f64, duty: f64) -> f64
+    requires { ⌜ T (within naught one u) ⌝ }
+    ensures { λ r. ⌜ r ≡ pulseOf u dt duty ⌝ }
+{
+    if !((0.0009765625 <= duty) & (duty <= 0.9990234375)) {
+        return polyblep::pulse(u, dt, duty);
+    }
+    let rise = blep(u, dt);
+    let fall = blep(fract(u - duty + 1.0), dt);
+    polyblep::step(u, duty) + rise - fall
+}
+
+fn triangle(u: f64, dt: f64) -> f64
+    requires { ⌜ T (within naught one u) ⌝ }
+    ensures { λ r. ⌜ r ≡ triangleOf u dt ⌝ }
+{
+    let low = blamp(u, dt);
+    let high = blamp(fract(u + 0.5), dt);
+    polyblep::ramp(u) + 8.0 * low - 8.0 * high
+}
+
+// The formulas of both sides are worked out, and one is taken.
+fn blep(t: f64, dt: f64) -> f64
+    ensures { λ r. ⌜ r ≡ blepOf t dt ⌝ }
+{
+    let x = select(t < dt, t, t - 1.0) / dt;
+    let before = select(1.0 - dt < t, x * x + 2.0 * x + 1.0, 0.0);
+    select(t < dt, 2.0 * x - x * x - 1.0, before)
+}
+
+fn blamp(t: f64, dt: f64) -> f64
+    ensures { λ r. ⌜ r ≡ blampOf t dt ⌝ }
+{
+    let x = select(t < dt, t, t - 1.0) / dt;
+    let x2 = x * x;
+    let x3 = x2 * x;
+    let before = select(1.0 - dt < t, (x3 * polyblep::THIRD + x2 + x) * dt, 0.0);
+    select(t < dt, (x2 - x3 * polyblep::THIRD - x) * dt, before)
+}
+
+fn fract(x: f64) -> f64
+    requires { ⌜ (lt naught x && lt x two) ≡ true ⌝ }
+    ensures { λ r. ⌜ r ≡ fractOf x ⌝ }
+{
+    x - select(x < 1.0, 0.0, 1.0)
+}
+
+fn select(test: bool, a: f64, b: f64) -> f64
+    ensures { λ r. ⌜ r ≡ cond test a b ⌝ }
+{
+    if test {
+        return a;
+    }
+    b
+}

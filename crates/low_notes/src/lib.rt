@@ -1,0 +1,393 @@
+// Notes of many samples a cycle. Between two corrections a waveform is a line over the fractions of a cycle: the samples on
+// the line, a segment, then one as it is made anywhere. How far the line reaches is guessed, and the two ends of the guess
+// are looked at: a wrong one costs time alone. Only the first two cycles have segments.
+ghost use mathlib.Core.Path.{_≡_};
+ghost use mathlib.Core.Bool.{true, _&&_};
+ghost use Prim.Native.Nat.{_≤_};
+ghost use lib.Dec.{T};
+ghost use lib.Ieee.{Float, binary64, lt, le, fits};
+ghost use lib.Ieee.Scale.{finite};
+ghost use Rattle.polyblep.specs.declared.Side.the-variants.{Away};
+ghost use Rattle.polyblep.specs.Polyblep.{sideOf, fractOf, sawOf, pulseOf};
+ghost use Rattle.waveform.specs.Waveform.{valueOf, normalOf, radians};
+ghost use Rattle.waveform.specs.Filled.{Filled};
+ghost use Rattle.low_notes.specs.Inner.{lineOf, fractionOf, baseOf, isOneCycle, isClear, isRising, isInSegment, Inside, Straight, TwoLines, segmentOf, Guessed, TwoSides, FillsSegment, FillsWaveform};
+use waveform::Radians;
+use waveform::TAU;
+use waveform::TWO_TAU;
+use waveform::Waveform;
+use waveform::in_cycles;
+use waveform::normalised;
+use waveform::value_at;
+
+// Level at 1 or at -1, a sawtooth's climb, and the two slopes of a triangle.
+enum Line {
+    High,
+    Low,
+    Climb,
+    Rise,
+    Fall,
+}
+
+// Phases of one cycle up to, not including, the last, on which a waveform is a line; the cycle begins at the base.
+struct Segment {
+    from: Radians,
+    to: Radians,
+    base: Radians,
+    line: Line,
+}
+
+// Such phases before they have a line, their two ends as fractions of the cycle, and whether the ends pass: in one cycle, and
+// away from where it begins and ends.
+struct Guess {
+    from: Radians,
+    to: Radians,
+    base: Radians,
+    fraction: f64,
+    end_fraction: f64,
+    holds: bool,
+}
+
+// How many samples are made, and the phase after them.
+struct Progress {
+    phase: Radians,
+    count: usize,
+}
+
+// A block of a waveform; a sine, and where few samples lie between two corrections, in more time than another way needs.
+pub fn fill(
+    out: &mut [f64],
+    waveform: Waveform,
+    start: Radians,
+    step: Radians,
+    scale: f64,
+) -> Radians
+    ensures { λ r. ⌜ Filled waveform (start .0) (step .0) scale (now (out .entry)) (now (out .exit)) r ⌝ }
+{
+    let dt = in_cycles(step);
+    let mut angle = start.0;
+    let mut i = 0;
+    while i < out.len() {
+        let phase = Radians(angle);
+        let done = fill_next_segment(waveform, Progress { phase, count: i }, step, scale, out);
+        angle = done.phase.0;
+        i = done.count;
+        if out.len() <= i {
+            return Radians(angle);
+        }
+        let t = normalised(Radians(angle));
+        out[i] = value_at(waveform, t, dt) * scale;
+        angle = angle + step.0;
+        i += 1;
+    }
+    Radians(angle)
+}
+
+// The samples of the segment that begins here; none in the later cycles.
+fn fill_next_segment(
+    waveform: Waveform,
+    at: Progress,
+    step: Radians,
+    scale: f64,
+    out: &mut [f64],
+) -> Progress
+    ensures { λ r. ⌜ (at .count ≤ r .count) × FillsWaveform waveform (step .0) scale (now (out .entry)) at (now (out .exit)) r ⌝ }
+{
+    let dt = in_cycles(step);
+    let phase = at.phase;
+    if TWO_TAU <= phase.0 {
+        return at;
+    }
+    let segment = segment_from(waveform, phase, dt);
+    fill_segment(segment, at, step, scale, out)
+}
+
+// The samples of a segment, as far as it reaches.
+fn fill_segment(
+    segment: Segment,
+    at: Progress,
+    step: Radians,
+    scale: f64,
+    out: &mut [f64],
+) -> Progress
+    ensures { λ r. ⌜ (at .count ≤ r .count) × FillsSegment segment (step .0) scale (now (out .entry)) at (now (out .exit)) r ⌝ }
+{
+    if is_rising(segment, step) {
+        let fours = fill_by_fours(segment, at, step, scale, out);
+        return fill_one_by_one(segment, fours, step, scale, out);
+    }
+    fill_one_by_one(segment, at, step, scale, out)
+}
+
+// Whether a phase of the segment never falls by a step.
+fn is_rising(segment: Segment, step: Radians) -> bool
+    ensures { λ r. ⌜ r ≡ isRising segment (step .0) ⌝ }
+{
+    (0.0 <= segment.from.0) & (segment.to.0 <= TWO_TAU) & ((0.0 <= step.0) & (step.0 <= TAU))
+}
+
+// Four samples at a time, as long as they all lie in the segment.
+fn fill_by_fours(
+    segment: Segment,
+    at: Progress,
+    step: Radians,
+    scale: f64,
+    out: &mut [f64],
+) -> Progress
+    requires { ⌜ isRising segment (step .0) ≡ true ⌝ }
+    ensures { λ r. ⌜ (at .count ≤ r .count) × FillsSegment segment (step .0) scale (now (out .entry)) at (now (out .exit)) r ⌝ }
+{
+    let line = segment.line;
+    let base = segment.base;
+    let to = segment.to.0;
+    let by = step.0;
+    let mut angle = at.phase.0;
+    let mut i = at.count;
+    while i < out.len() {
+        if out.len() - i < 4 {
+            return Progress {
+                phase: Radians(angle),
+                count: i,
+            };
+        }
+        let second = angle + by;
+        let third = second + by;
+        let fourth = third + by;
+        let lie_below = (second < to) & (third < to) & (fourth < to);
+        if !(is_in_segment(segment, angle) & lie_below) {
+            return Progress {
+                phase: Radians(angle),
+                count: i,
+            };
+        }
+        out[i] = line_at(line, base, Radians(angle)) * scale;
+        out[i + 1] = line_at(line, base, Radians(second)) * scale;
+        out[i + 2] = line_at(line, base, Radians(third)) * scale;
+        out[i + 3] = line_at(line, base, Radians(fourth)) * scale;
+        angle = fourth + by;
+        i += 4;
+    }
+    Progress {
+        phase: Radians(angle),
+        count: i,
+    }
+}
+
+// The samples that are left, one at a time.
+fn fill_one_by_one(
+    segment: Segment,
+    at: Progress,
+    step: Radians,
+    scale: f64,
+    out: &mut [f64],
+) -> Progress
+    ensures { λ r. ⌜ (at .count ≤ r .count) × FillsSegment segment (step .0) scale (now (out .entry)) at (now (out .exit)) r ⌝ }
+{
+    let line = segment.line;
+    let base = segment.base;
+    let by = step.0;
+    let mut angle = at.phase.0;
+    let mut i = at.count;
+    while i < out.len() {
+        if !is_in_segment(segment, angle) {
+            return Progress {
+                phase: Radians(angle),
+                count: i,
+            };
+        }
+        out[i] = line_at(line, base, Radians(angle)) * scale;
+        angle = angle + by;
+        i += 1;
+    }
+    Progress {
+        phase: Radians(angle),
+        count: i,
+    }
+}
+
+// Whether so many radians are a phase of the segment.
+fn is_in_segment(segment: Segment, angle: f64) -> bool
+    ensures { λ r. ⌜ r ≡ isInSegment segment angle ⌝ }
+{
+    (segment.from.0 <= angle) & (angle < segment.to.0)
+}
+
+// The value on a line, of a phase of the cycle that begins at the base. The noughts are the corrections, which are not due
+// there.
+fn line_at(line: Line, base: Radians, phase: Radians) -> f64
+    ensures { λ r. ⌜ r ≡ lineOf line (fractionOf (base .0) (phase .0)) ⌝ }
+{
+    let t = fraction_of(base, phase);
+    match line {
+        Line::High => polyblep::HIGH,
+        Line::Low => polyblep::LOW,
+        Line::Climb => polyblep::climb(t) - 0.0,
+        Line::Rise => polyblep::rise(t) + 0.0 - 0.0,
+        Line::Fall => polyblep::fall(t) + 0.0 - 0.0,
+    }
+}
+
+// The fraction of the cycle from a base that a phase is.
+fn fraction_of(base: Radians, phase: Radians) -> f64
+    ensures { λ r. ⌜ r ≡ fractionOf (base .0) (phase .0) ⌝ }
+{
+    in_cycles(Radians(phase.0 - base.0))
+}
+
+// The phases from this one on up to the next correction, and the line that the waveform is there; or no phases.
+fn segment_from(waveform: Waveform, phase: Radians, dt: f64) -> Segment
+    ensures { λ r. ⌜ Straight (λ (q : Float). valueOf waveform (normalOf q) dt) r ⌝ }
+{
+    match waveform {
+        Waveform::Sine => empty_segment(),
+        Waveform::Square => up_to_half(phase, dt, Line::High, Line::Low),
+        Waveform::Sawtooth => up_to_end(phase, dt),
+        Waveform::Triangle => up_to_half(phase, dt, Line::Rise, Line::Fall),
+        Waveform::Pulse(duty) => up_to_duty(phase, dt, duty),
+    }
+}
+
+// The sawtooth is corrected at the ends of its cycle alone.
+fn up_to_end(phase: Radians, dt: f64) -> Segment
+    ensures { λ r. ⌜ Straight (λ (q : Float). sawOf (normalOf q) dt) r ⌝ }
+{
+    on_a_side(
+        guess_from(phase, 1.0, dt),
+        1.0,
+        true,
+        Line::Climb,
+        Line::Climb,
+    )
+}
+
+// Square and triangle have a second edge at the half: one line before it, another behind it.
+fn up_to_half(phase: Radians, dt: f64, before: Line, behind: Line) -> Segment
+    ensures { λ r. ⌜ ((value : Float → Float) → TwoLines value dt before behind → Straight (λ (q : Float). value (normalOf q)) r) ⌝ }
+{
+    let at = guess_from(phase, 0.5, dt);
+    let is_clear = is_clear_of_edge(at.fraction + 0.5, at.end_fraction + 0.5, dt);
+    on_a_side(at, 0.5, is_clear, before, behind)
+}
+
+// A pulse has it at its duty.
+fn up_to_duty(phase: Radians, dt: f64, duty: f64) -> Segment
+    ensures { λ r. ⌜ Straight (λ (q : Float). pulseOf (normalOf q) dt duty) r ⌝ }
+{
+    let at = guess_from(phase, duty, dt);
+    let is_clear = is_clear_of_edge(at.fraction - duty + 1.0, at.end_fraction - duty + 1.0, dt);
+    on_a_side(
+        at,
+        duty,
+        domain::is_duty(duty) & is_clear,
+        Line::High,
+        Line::Low,
+    )
+}
+
+// The phases of a guess as a segment, where the second edge is not near and they lie on one side of it; or no phases.
+fn on_a_side(at: Guess, edge: f64, is_clear: bool, before: Line, behind: Line) -> Segment
+    ensures { λ r. ⌜ ((dt : Float) (value : Float → Float) → Guessed dt at → («is_clear» ≡ true → T (finite edge)) → TwoSides value dt at edge «is_clear» before behind → Straight (λ (q : Float). value (normalOf q)) r) ⌝ }
+{
+    if at.holds & is_clear {
+        if at.end_fraction < edge {
+            return segment_of(at, before);
+        }
+        if edge <= at.fraction {
+            return segment_of(at, behind);
+        }
+    }
+    empty_segment()
+}
+
+fn segment_of(at: Guess, line: Line) -> Segment
+    ensures { λ r. ⌜ r ≡ segmentOf at line ⌝ }
+{
+    let from = at.from;
+    let to = at.to;
+    let base = at.base;
+    Segment {
+        from,
+        to,
+        base,
+        line,
+    }
+}
+
+// A segment of no phases.
+fn empty_segment() -> Segment
+    ensures { λ r. ⌜ ((q : Float) → Inside (r .from .0) (r .to .0) q → ⊥) ⌝ }
+{
+    let from = Radians(1.0);
+    let to = Radians(0.0);
+    Segment {
+        from,
+        to,
+        base: to,
+        line: Line::High,
+    }
+}
+
+// Where the correction of the next edge begins, and a little before it, as radians are rounded.
+fn guess_from(phase: Radians, edge: f64, dt: f64) -> Guess
+    ensures { λ r. ⌜ Guessed dt r ⌝ }
+{
+    let first = phase.0 < TAU;
+    let base = base_of(first);
+    let fraction = fraction_of(base, phase);
+    let to = segment_end(base, fraction, edge, dt);
+    let end_fraction = fraction_of(base, to);
+    let holds = is_one_cycle(first, phase, to) & is_clear_of_ends(fraction, end_fraction, dt);
+    Guess {
+        from: phase,
+        to,
+        base,
+        fraction,
+        end_fraction,
+        holds,
+    }
+}
+
+// Where the first or the second cycle begins; later ones have no segments.
+fn base_of(first: bool) -> Radians
+    ensures { λ r. ⌜ r ≡ radians (baseOf first) ⌝ }
+{
+    if first {
+        return Radians(0.0);
+    }
+    Radians(TAU)
+}
+
+fn segment_end(base: Radians, fraction: f64, edge: f64, dt: f64) -> Radians {
+    let room = dt * 1.0009765625;
+    if fraction < edge {
+        return Radians(base.0 + (edge - room) * TAU);
+    }
+    Radians(base.0 + (1.0 - room) * TAU)
+}
+
+// Whether the phases up to, not including, the last lie in that cycle. Nought itself is left out: it is a corner.
+fn is_one_cycle(first: bool, from: Radians, to: Radians) -> bool
+    ensures { λ r. ⌜ r ≡ isOneCycle first (from .0) (to .0) ⌝ }
+{
+    if first {
+        return (0.0 < from.0) & (to.0 <= TAU);
+    }
+    (TAU <= from.0) & (to.0 <= TWO_TAU)
+}
+
+// Whether all from one fraction of a cycle to another is away from the cycle's ends.
+fn is_clear_of_ends(fraction: f64, end_fraction: f64, dt: f64) -> bool
+    ensures { λ r. ⌜ r ≡ isClear fraction «end_fraction» dt ⌝ }
+{
+    ((0.0 <= dt) & (dt <= 1.0)) & (dt <= fraction) & (end_fraction <= 1.0 - dt)
+}
+
+// Whether, by its ends, the fraction of all that lies between two numbers is away from the step.
+fn is_clear_of_edge(low: f64, high: f64, dt: f64) -> bool
+    ensures { λ r. ⌜ (r ≡ true → (x : Float) → T (fits binary64 x) → T (le low x) → T (le x high) → sideOf (fractOf x) dt ≡ Away) ⌝ }
+{
+    let far = 1.0 - dt;
+    let below_one = (0.0 < low) & (high < 1.0) & (dt <= low) & (high <= far);
+    let from_one = (1.0 <= low) & (high < 2.0) & (dt <= low - 1.0) & (high - 1.0 <= far);
+    below_one | from_one
+}
