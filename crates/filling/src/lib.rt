@@ -15,8 +15,13 @@ use waveform::Waveform;
 use waveform::in_cycles;
 use waveform::normalised;
 
+mod readings;
+
 // Cycles a sample from which on too few samples lie between two corrections.
 const HIGH_NOTE: f64 = 0.035;
+
+// 2^60 radians: no step of 16 takes a phase beyond.
+const FAR: f64 = 1152921504606846976.0;
 
 // The value times the scale at each sample, and the phase after the last, which is not reduced: a part of a render is lent
 // to it, and the end of a part reduces nothing.
@@ -75,11 +80,17 @@ pub fn fill_in(
     fill(out, waveform, start, step, scale)
 }
 
-// The remainders of the phases over TAU stand in the output first, as in a high note.
+// The remainders of the phases over TAU stand in the output first, as in a high note. Where no phase falls or is below 0 they
+// are fractions of a cycle.
 fn fill_wave(wave: &[f64], out: &mut [f64], start: Radians, step: Radians, scale: f64) -> Radians
+    requires { ⌜ length (now wave) ≡ 4097 ⌝ }
     ensures { λ r. ⌜ FilledBy (λ (p : Float). wholeReading (now (wave .entry)) (normalOf p)) (start .0) (step .0) scale (now (out .entry)) (now (out .exit)) r ⌝ }
 {
     let end = high_notes::fill_remainders(out, start, step);
+    if floats::is_within(0.0, FAR, start.0) & floats::is_within(0.0, 16.0, step.0) {
+        readings::read_pairs(wave, out, scale);
+        return end;
+    }
     read_wave(wave, out, scale);
     end
 }
