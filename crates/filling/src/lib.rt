@@ -1,27 +1,35 @@
 // The inner loop of a block: the samples of a waveform over a lent part of the output, by the way that is fastest for the
 // note. Low notes are made by lines between corrections, high notes without a branch, a sine from its table.
 ghost use mathlib.Core.Path.{_≡_};
+ghost use mathlib.Core.Bool.{cond};
+ghost use Prim.Native.Nat.{_+_, _^_};
+ghost use lib.IntN.{pos};
+ghost use lib.Dec.{T};
 ghost use lib.ListN.{length};
 ghost use lib.Ieee.{Float};
-ghost use Rattle.floats.specs.Double.{_⊗_};
+ghost use Rattle.floats.specs.Range.{within};
+ghost use Rattle.floats.specs.Double.{_⊗_, naught, one};
+ghost use Rattle.sine.specs.Sine.{steps, wholePart, float};
 ghost use Rattle.sine.specs.Whole.{wholeReading};
 ghost use Rattle.waveform.specs.Waveform.{normalOf, invTau};
 ghost use Rattle.waveform.specs.Filled.{Filled, FilledBy};
 ghost use Rattle.waveform.specs.declared.Waveform.the-variants.{Sine};
 ghost use Rattle.high_notes.specs.Remainders.{madeOf};
+ghost use Rattle.high_notes.specs.Inner.{AllFractions};
 ghost use Rattle.filling.specs.Lent.{valueIn};
 use waveform::Radians;
 use waveform::Waveform;
 use waveform::in_cycles;
 use waveform::normalised;
 
-mod readings;
-
 // Cycles a sample from which on too few samples lie between two corrections.
 const HIGH_NOTE: f64 = 0.035;
 
-// 2^60 radians: no step of 16 takes a phase beyond.
+// 2^60 radians, beyond which no step of at most 16 takes a phase.
 const FAR: f64 = 1152921504606846976.0;
+
+// 2^52.
+const LARGE: f64 = 4503599627370496.0;
 
 // The value times the scale at each sample, and the phase after the last, which is not reduced: a part of a render is lent
 // to it, and the end of a part reduces nothing.
@@ -80,7 +88,7 @@ pub fn fill_in(
     fill(out, waveform, start, step, scale)
 }
 
-// The remainders of the phases over TAU stand in the output first, as in a high note. Where no phase falls or is below 0 they
+// The remainders of the phases over TAU stand in the output first, as in a high note. Of phases that rise from 0 or above they
 // are fractions of a cycle.
 fn fill_wave(wave: &[f64], out: &mut [f64], start: Radians, step: Radians, scale: f64) -> Radians
     requires { ⌜ length (now wave) ≡ 4097 ⌝ }
@@ -88,7 +96,7 @@ fn fill_wave(wave: &[f64], out: &mut [f64], start: Radians, step: Radians, scale
 {
     let end = high_notes::fill_remainders(out, start, step);
     if floats::is_within(0.0, FAR, start.0) & floats::is_within(0.0, 16.0, step.0) {
-        readings::read_pairs(wave, out, scale);
+        read_pairs(wave, out, scale);
         return end;
     }
     read_wave(wave, out, scale);
@@ -106,4 +114,57 @@ fn read_wave(wave: &[f64], out: &mut [f64], scale: f64)
         out[i] = sine::whole_reading(wave, u) * scale;
         i += 1;
     }
+}
+
+// The same of fractions of a cycle, two at a time, so that a processor with two lanes makes them side by side.
+fn read_pairs(wave: &[f64], out: &mut [f64], scale: f64)
+    requires { ⌜ length (now wave) ≡ 4097 ⌝ }
+    requires { ⌜ AllFractions (now out) ⌝ }
+    ensures { λ r. ⌜ now (out .exit) ≡ madeOf (λ (x : Float). wholeReading (now (wave .entry)) (x ⊗ invTau) ⊗ scale) (now (out .entry)) (length (now (out .entry))) ⌝ }
+{
+    let mut i = 0;
+    while 1 < out.len() - i {
+        let x = out[i];
+        let y = out[i + 1];
+        let first = reading_at(wave, in_cycles(Radians(x))) * scale;
+        let second = reading_at(wave, in_cycles(Radians(y))) * scale;
+        out[i] = first;
+        out[i + 1] = second;
+        i += 2;
+    }
+    if i < out.len() {
+        let x = out[i];
+        out[i] = reading_at(wave, in_cycles(Radians(x))) * scale;
+    }
+}
+
+// The low digits of the sum are the point, of which 4,096 is read as 0.
+fn reading_at(wave: &[f64], u: f64) -> f64
+    requires { ⌜ length (now wave) ≡ 4097 ⌝ }
+    requires { ⌜ T (within naught one u) ⌝ }
+    ensures { λ r. ⌜ r ≡ wholeReading (now (wave .entry)) u ⌝ }
+{
+    let p = u * 4096.0;
+    let sum = raised(p);
+    let i = (f64::to_bits(sum) % 4096) as usize;
+    sine::line(wave[i], wave[i + 1], p - (sum - LARGE))
+}
+
+// The whole part, and 2^52, from which on a float has no digits below 1: the sum is rounded to a whole number, and where that
+// is more than p it is one too many.
+fn raised(p: f64) -> f64
+    requires { ⌜ T (within naught steps p) ⌝ }
+    ensures { λ r. ⌜ r ≡ float (pos (2 ^ 52 + wholePart p)) ⌝ }
+{
+    let sum = p + LARGE;
+    sum - one_if(p < sum - LARGE)
+}
+
+fn one_if(test: bool) -> f64
+    ensures { λ r. ⌜ r ≡ cond test one naught ⌝ }
+{
+    if test {
+        return 1.0;
+    }
+    0.0
 }

@@ -7,7 +7,7 @@ use native.Mathlib.Omega.{arith}
 use lib.IntN.{pos}
 use lib.Dec.{T, ltb, ltb→lt, not-T, lit<, lit≤}
 use lib.Pow.{pow-pos}
-use lib.Ieee.{Float, nan, inf, fin, binary64, hid, low, emax, ofBits, ofInt, toBits, round, sum, lt, le, fits}
+use lib.Ieee.{Float, nan, inf, fin, binary64, hid, ofBits, ofInt, toBits, round, sum, lt, le, fits}
 use lib.Ieee.Bits.{is-false}
 use lib.Ieee.Fits.{add-fits, ofInt-fits}
 use lib.Ieee.Back.{round-whole}
@@ -20,7 +20,6 @@ use Rattle.floats.proofs.Order.{signed, le→cross, cross→le, lt-not-le, not-
 use Rattle.floats.proofs.Rounds.{Rounds, mono, of-signed, add-rounds}
 use Rattle.floats.proofs.Ranges.{ge0-positive}
 use Rattle.floats.proofs.Operations.{dens-pos, sub-is}
-use Rattle.floats.proofs.Pattern.{fieldsOf}
 use Rattle.floats.proofs.Fields as fields
 use Rattle.sine.specs.Sine.{steps, wholePart, float}
 use Rattle.sine.proofs.Parts.{not-negative, at-most, whole-at-most}

@@ -1,4 +1,4 @@
--- `filling::readings::read_pairs` meets its contract. The loop's invariant: the first i numbers are made, the others are as they were. Assumes nothing.
+-- `filling::read_pairs` meets its contract. The loop's invariant: the first i numbers are made, the others are as they were. Assumes nothing.
 use borrow.Author.Needs.{needs}
 use mathlib.Core.Path.{_≡_, refl, sym, ap, subst, _∙_}
 use mathlib.Core.List.{List}
@@ -14,8 +14,8 @@ use Rattle.sine.specs.Whole.{wholeReading}
 use Rattle.waveform.specs.Waveform.{invTau}
 use Rattle.high_notes.specs.Inner.{AllFractions}
 use Rattle.high_notes.proofs.Remaking.{Remade, remade-none, remade-more, remade-all}
-use Rattle.filling.proofs.readings.read_pairs.Statement.{statement}
-use Rattle.filling.proofs.readings.read_pairs.Tie as tie
+use Rattle.filling.proofs.read_pairs.Statement.{statement}
+use Rattle.filling.proofs.read_pairs.Tie as tie
 
 module _ (value : Float → Float) (xs ys : List Float) (i : ℕ) (b : Remade value xs ys i) where
   -- two more are made

@@ -1,4 +1,4 @@
--- `filling::readings::reading_at` meets its contract. Assumes nothing.
+-- `filling::reading_at` meets its contract. Assumes nothing.
 use borrow.Author.Needs.{needs}
 use mathlib.Core.Path.{_≡_, sym, _∙_}
 use mathlib.Core.List.{List}
@@ -18,8 +18,8 @@ use Rattle.sine.proofs.Parts.{whole-at-most}
 use Rattle.sine.proofs.Points.{points-in}
 use Rattle.sine.proofs.Sums.{large, float-whole, raised-less, raised-digits}
 use Rattle.sine.proofs.Whole.{whole-inside, whole-near}
-use Rattle.filling.proofs.readings.reading_at.Statement.{statement}
-use Rattle.filling.proofs.readings.reading_at.Tie as tie
+use Rattle.filling.proofs.reading_at.Statement.{statement}
+use Rattle.filling.proofs.reading_at.Tie as tie
 
 -- s is the whole part and 2^52: its digits are the point, and what p has above it is left
 spot : (W : List Float) (u s : Float) → length W ≡ 4097 → T (within naught one u) → s ≡ float (pos (2 ^ 52 + wholePart (u ⊗ steps))) → wholeLine W (toBits binary64 s % 4096) (u ⊗ steps ⊖ (s ⊖ large)) ≡ wholeReading W u

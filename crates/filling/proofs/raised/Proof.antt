@@ -1,8 +1,8 @@
--- `filling::readings::raised` meets its contract. Assumes nothing.
+-- `filling::raised` meets its contract. Assumes nothing.
 use borrow.Author.Needs.{needs}
 use Rattle.sine.proofs.Sums.{raised-is}
-use Rattle.filling.proofs.readings.raised.Statement.{statement}
-use Rattle.filling.proofs.readings.raised.Tie as tie
+use Rattle.filling.proofs.raised.Statement.{statement}
+use Rattle.filling.proofs.raised.Tie as tie
 
 one-if-requires : tie.Need-one-if-requires
 one-if-requires c κs = search needs
