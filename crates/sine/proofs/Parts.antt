@@ -79,7 +79,7 @@ module _ (p : Float) (h : T (within naught steps p)) where
       go (fin s m e) k = tt
 
   -- p is at most 4096, and so is its whole part
-  at-most : num p ≤ 4096 * den p
+  pub at-most : num p ≤ 4096 * den p
   at-most = nat.le-trans (nat.le-of-eq (sym (nat.mul-one (num p)))) (rw (steps-is .0, steps-is .1) at (le→cross p steps not-negative (steps-is .2) (and-r (le naught p) (le p steps) h)))
 
   pub whole-at-most : wholePart p ≤ 4096
