@@ -1,4 +1,5 @@
--- `low_notes::fill` meets its contract. The loop's invariant is `FilledUpTo` of waveform's proofs/Loops.antt. Assumes nothing.
+-- `low_notes::fill` meets its contract. The loop's invariant is `FilledUpTo` of waveform's proofs/Loops.antt. Assumes
+-- nothing.
 use borrow.Author.Needs.{needs}
 use mathlib.Core.Path.{refl}
 use Prim.Native.Nat.{_-_, _<_}
