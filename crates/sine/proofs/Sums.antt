@@ -1,4 +1,5 @@
--- The whole part of a number from 0 to 4096 by a sum: 2^52 + p is rounded to a whole number, which is the whole part or one more above 2^52, and where that is more than p it is one more. Assumes nothing.
+-- The whole part of a number p from 0 to 4,096, by a sum: 2^52 + p is rounded to a whole number, which is 2^52 plus the
+-- whole part, or one more; it is one more where, less 2^52, it is above p. Assumes nothing.
 use mathlib.Core.Path.{_≡_, refl, sym, ap, _∙_, subst}
 use mathlib.Core.Bool.{Bool, true, false, not, cond, true≢false}
 use Prim.Native.Nat.{ℕ, suc, _+_, _-_, _*_, _/_, _%_, _^_, _≤_, _<_}

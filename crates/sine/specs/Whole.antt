@@ -1,5 +1,7 @@
--- The wave unfolded from the quarter: 01's a at each of its points, as a float. Of such a table a reading takes a at its point and b at the next, by 01's rule: "p = u*4096, i its whole part, f = p - i; i = 4096
--- is read as i = 0, f = 0 .. The answer is (a + (b - a)*f)/2^30". Of the wave it is the reading of the quarter (proofs/Whole.antt). Definitions only.
+-- The whole wave, unfolded from the quarter: 01's a at each of its 4,096 points and at its end, as a float.
+-- A reading of such a table takes a at its point and b at the next point, by 01's rule: "p = u*4096, i its whole part,
+-- f = p - i; i = 4096 is read as i = 0, f = 0" and "The answer is (a + (b - a)*f)/2^30".
+-- A reading of the whole wave is the reading of the quarter (proofs/Whole.antt). Definitions only.
 use mathlib.Core.Bool.{cond, _&&_}
 use mathlib.Core.List.{List}
 use Prim.Native.Nat.{ℕ, _+_, _/_, _%_}

@@ -1,5 +1,5 @@
-// Sine by a table of a quarter wave, read between its entries (01, "Pitch and sine"; specs/Sine.antt). The argument is in
-// cycles, from 0 to 1. It is ours: the original's `sin` and its table of f32 are not taken over.
+// Sine by a table of a quarter wave, read between its points (01, "Pitch and sine"; specs/Sine.antt). The argument is
+// in cycles, from 0 to 1. The original's `sin` and its table of f32 are not ported.
 ghost use mathlib.Core.Path.{_≡_};
 ghost use Prim.Native.Nat.{_≤_, _<_};
 ghost use lib.Dec.{T};
@@ -125,8 +125,8 @@ fn entry(wave: &[u32; 1025], k: u32) -> u32
     wave[k as usize]
 }
 
-// The wave unfolded from the quarter, a float at each of its 4,096 points and at its end. It costs a microsecond, and is
-// for a loop of a thousand readings and more.
+// The whole wave, unfolded from the quarter: a float at each of its 4,096 points and at its end. Writing it takes a
+// microsecond, which pays for a thousand readings and more.
 pub fn whole_wave(wave: &mut [f64; 4097])
     ensures { λ _. ⌜ now (wave .exit) ≡ wholeWave ⌝ }
 {
@@ -173,8 +173,8 @@ fn negate(wave: &mut [f64; 4097])
     }
 }
 
-// The reading of an unfolded wave at u, for a u that is known to be from 0 to 1; +0 for any other, and of a table of another
-// length.
+// The reading of a table of the whole wave at u cycles, for u from 0 to 1; +0 for any other u, and for a table that has
+// not 4,097 numbers.
 pub fn whole_reading(wave: &[f64], u: f64) -> f64
     ensures { λ r. ⌜ r ≡ wholeReading (now (wave .entry)) u ⌝ }
 {
