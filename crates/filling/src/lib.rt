@@ -117,7 +117,7 @@ fn read_wave(wave: &[f64], out: &mut [f64], scale: f64)
     }
 }
 
-// The readings of remainders that are from 0 to 1 in cycles, two at a time, which two lanes of a processor make at once.
+// The readings of remainders that are from 0 to 1 in cycles, two at a time, which two lanes of a processor do at once.
 fn read_pairs(wave: &[f64], out: &mut [f64], scale: f64)
     requires { ⌜ length (now wave) ≡ 4097 ⌝ }
     requires { ⌜ AllFractions (now out) ⌝ }
