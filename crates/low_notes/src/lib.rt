@@ -3,8 +3,9 @@
 // are looked at: a wrong one costs time alone. Only the first two cycles have segments.
 ghost use mathlib.Core.Path.{_≡_};
 ghost use mathlib.Core.Bool.{true, _&&_};
-ghost use Prim.Native.Nat.{_≤_};
+ghost use Prim.Native.Nat.{_≤_, _<_};
 ghost use lib.Dec.{T};
+ghost use lib.ListN.{length};
 ghost use lib.Ieee.{Float, binary64, lt, le, fits};
 ghost use lib.Ieee.Scale.{finite};
 ghost use Rattle.polyblep.specs.declared.Side.the-variants.{Away};
@@ -17,8 +18,7 @@ use waveform::TAU;
 use waveform::TWO_TAU;
 use waveform::Waveform;
 use waveform::in_cycles;
-use waveform::normalised;
-use waveform::value_at;
+use waveform::wave_at;
 
 // Level at 1 or at -1, a sawtooth's climb, and the two slopes of a triangle.
 enum Line {
@@ -64,23 +64,39 @@ pub fn fill(
 ) -> Radians
     ensures { λ r. ⌜ Filled waveform (start .0) (step .0) scale (now (out .entry)) (now (out .exit)) r ⌝ }
 {
-    let dt = in_cycles(step);
     let mut angle = start.0;
     let mut i = 0;
     while i < out.len() {
         let phase = Radians(angle);
-        let done = fill_next_segment(waveform, Progress { phase, count: i }, step, scale, out);
-        angle = done.phase.0;
-        i = done.count;
-        if out.len() <= i {
-            return Radians(angle);
-        }
-        let t = normalised(Radians(angle));
-        out[i] = value_at(waveform, t, dt) * scale;
-        angle = angle + step.0;
-        i += 1;
+        let line = fill_next_segment(waveform, Progress { phase, count: i }, step, scale, out);
+        let before = fill_sample(waveform, line, step, scale, out);
+        let behind = fill_sample(waveform, before, step, scale, out);
+        angle = behind.phase.0;
+        i = behind.count;
     }
     Radians(angle)
+}
+
+// One sample as it is made anywhere, where there is room. An edge corrects two, so that after a segment two are made so.
+fn fill_sample(
+    waveform: Waveform,
+    at: Progress,
+    step: Radians,
+    scale: f64,
+    out: &mut [f64],
+) -> Progress
+    ensures { λ r. ⌜ (at .count < length (now (out .entry)) → at .count < r .count) × (at .count ≤ r .count) × FillsWaveform waveform (step .0) scale (now (out .entry)) at (now (out .exit)) r ⌝ }
+{
+    let i = at.count;
+    if out.len() <= i {
+        return at;
+    }
+    let phase = at.phase;
+    out[i] = wave_at(waveform, phase, step) * scale;
+    Progress {
+        phase: Radians(phase.0 + step.0),
+        count: i + 1,
+    }
 }
 
 // The samples of the segment that begins here; none in the later cycles.
