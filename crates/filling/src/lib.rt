@@ -15,8 +15,8 @@ use waveform::Waveform;
 use waveform::in_cycles;
 use waveform::normalised;
 
-// Cycles a sample from which on too few samples lie between two corrections.
-const HIGH_NOTE: f64 = 0.035;
+// Cycles a sample from which on too few samples lie between two corrections: 32 samples a cycle.
+const HIGH_NOTE: f64 = 0.03125;
 
 // The value times the scale at each sample, and the phase after the last, which is not reduced: a part of a render is lent
 // to it, and the end of a part reduces nothing.
