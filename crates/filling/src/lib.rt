@@ -23,8 +23,8 @@ use waveform::Waveform;
 use waveform::in_cycles;
 use waveform::normalised;
 
-// In cycles a sample: from here on, too few samples lie between two corrections for straight lines to be faster.
-const HIGH_NOTE: f64 = 0.035;
+// In cycles a sample: where a cycle has 32 samples or fewer, straight lines between corrections are not faster.
+const HIGH_NOTE: f64 = 0.03125;
 
 // 2^60 radians, beyond which no step of at most 16 takes a phase.
 const FAR: f64 = 1152921504606846976.0;

@@ -1,11 +1,12 @@
 // Low notes: many samples a cycle. Between two corrections a waveform is a straight line over the fraction of a cycle.
-// The samples on such a line, a segment, are made without corrections; the sample after them is made by
-// `waveform::value_at`. How far a segment reaches is guessed, and the two ends of the guess are tested: a wrong guess
+// The samples on such a line, a segment, are made without corrections; the two after them are made by
+// `waveform::wave_at`. How far a segment reaches is guessed, and the two ends of the guess are tested: a wrong guess
 // costs time, never a bit. Only phases above 0 and below 2 TAU have segments.
 ghost use mathlib.Core.Path.{_≡_};
 ghost use mathlib.Core.Bool.{true, _&&_};
-ghost use Prim.Native.Nat.{_≤_};
+ghost use Prim.Native.Nat.{_≤_, _<_};
 ghost use lib.Dec.{T};
+ghost use lib.ListN.{length};
 ghost use lib.Ieee.{Float, binary64, lt, le, fits};
 ghost use lib.Ieee.Scale.{finite};
 ghost use Rattle.polyblep.specs.declared.Side.the-variants.{Away};
@@ -18,8 +19,7 @@ use waveform::TAU;
 use waveform::TWO_TAU;
 use waveform::Waveform;
 use waveform::in_cycles;
-use waveform::normalised;
-use waveform::value_at;
+use waveform::wave_at;
 
 // Constant 1 or -1 (square and pulse), a sawtooth's climb, and the two slopes of a triangle.
 enum Line {
@@ -65,23 +65,40 @@ pub fn fill(
 ) -> Radians
     ensures { λ r. ⌜ Filled waveform (start .0) (step .0) scale (now (out .entry)) (now (out .exit)) r ⌝ }
 {
-    let dt = in_cycles(step);
     let mut angle = start.0;
     let mut i = 0;
     while i < out.len() {
         let phase = Radians(angle);
-        let done = fill_next_segment(waveform, Progress { phase, count: i }, step, scale, out);
-        angle = done.phase.0;
-        i = done.count;
-        if out.len() <= i {
-            return Radians(angle);
-        }
-        let t = normalised(Radians(angle));
-        out[i] = value_at(waveform, t, dt) * scale;
-        angle = angle + step.0;
-        i += 1;
+        let line = fill_next_segment(waveform, Progress { phase, count: i }, step, scale, out);
+        let before = fill_sample(waveform, line, step, scale, out);
+        let behind = fill_sample(waveform, before, step, scale, out);
+        angle = behind.phase.0;
+        i = behind.count;
     }
     Radians(angle)
+}
+
+// One sample with its corrections, where the part has room for it. An edge corrects two samples, so that two are made
+// so after a segment.
+fn fill_sample(
+    waveform: Waveform,
+    at: Progress,
+    step: Radians,
+    scale: f64,
+    out: &mut [f64],
+) -> Progress
+    ensures { λ r. ⌜ (at .count < length (now (out .entry)) → at .count < r .count) × (at .count ≤ r .count) × FillsWaveform waveform (step .0) scale (now (out .entry)) at (now (out .exit)) r ⌝ }
+{
+    let i = at.count;
+    if out.len() <= i {
+        return at;
+    }
+    let phase = at.phase;
+    out[i] = wave_at(waveform, phase, step) * scale;
+    Progress {
+        phase: Radians(phase.0 + step.0),
+        count: i + 1,
+    }
 }
 
 // The samples of the segment that begins at the phase of `at`; none from 2 TAU on.
