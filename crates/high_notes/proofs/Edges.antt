@@ -1,4 +1,5 @@
--- Two edges that are apart: where the correction of one is due, that of the other is not. As the second edge's phase grows with the fraction of a cycle, its values at four of them speak for all. Assumes nothing.
+-- Two edges that are apart: where the correction of one is due, that of the other is not. The second edge's phase grows
+-- with the fraction of a cycle, so that testing it at four fractions suffices. Assumes nothing.
 use mathlib.Core.Path.{_≡_, refl, sym, subst}
 use mathlib.Core.Bool.{Bool, true, false, true≢false, not, cond, _&&_, _||_}
 use lib.Dec.{T}

@@ -1,4 +1,5 @@
--- Fractions of a cycle and their values in a lent list: one more, all of them, and the corrections without a branch. Assumes nothing.
+-- Fractions of a cycle and their values in a lent list: one more, all of them, and the corrections without a branch.
+-- Assumes nothing.
 use mathlib.Core.Path.{_≡_, refl, sym, ap, subst, _∙_}
 use mathlib.Core.Bool.{Bool, true, false, cond, _&&_}
 use mathlib.Core.List.{List}

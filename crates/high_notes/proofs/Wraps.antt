@@ -1,5 +1,6 @@
--- The remainder of a phase over TAU by differences: over y a phase below 2 y is left as it is, or y less, which nothing rounds; and what is left over 2 y leaves the same over y. The phases of a rising block keep below its end, and
--- their remainders are fractions of a cycle. Assumes nothing.
+-- The remainder of a phase over TAU by differences. A phase below 2 y, less y where it is not below y, is its remainder
+-- over y, and nothing is rounded; and the remainder over 2 y has the same remainder over y. The phases of a rising
+-- block keep below its end, and their remainders are fractions of a cycle. Assumes nothing.
 use mathlib.Core.Path.{_≡_, refl, sym, subst, ap, _∙_}
 use mathlib.Core.Bool.{Bool, true, false, cond, not, _&&_}
 use mathlib.Core.List.{List}
@@ -137,7 +138,7 @@ pub wrapped-once : (y z : Float) → Double y z → (xs ys : List Float) → All
 unfolding madeOf
 wrapped-once y z d xs ys all e = e ∙ listed-same _ _ (length xs) (λ i l. wrap-once-is y z d (getD xs i nan) (all i l))
 
--- which is below y, and leaves the same over TAU where y is k of it
+-- the remainder over y is below y, and has the same remainder over TAU where y is k times TAU
 module _ (y z : Float) (k : ℕ) (d : Double y z) (times : num y * den tau ≡ k * (num tau * den y)) (xs ys : List Float) (all : AllBelow z xs) (e : ys ≡ madeOf (wrapOnceOf y) xs (length xs)) where
   pub all-below : AllBelow y ys
   all-below i l =

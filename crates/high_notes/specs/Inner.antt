@@ -1,4 +1,5 @@
--- What private functions are held to: phases and fractions of a cycle in a lent list, and one difference of them. Definitions only.
+-- What private functions are held to: phases and fractions of a cycle in a lent list, one difference of them, and edges
+-- that are apart. No public statement cites these. Definitions only.
 use mathlib.Core.Bool.{Bool, true, false, cond, _&&_}
 use mathlib.Core.List.{List}
 use mathlib.Core.Path.{_≡_}
@@ -48,18 +49,18 @@ pub record Below (bound x : Float) : Type 0 where
 abbrev pub AllBelow : Float → List Float → Type 0
 AllBelow bound xs = (i : ℕ) → i < length xs → Below bound (getD xs i nan)
 
--- as a fraction of a cycle, from 0 to 1
+-- every number of a list, in cycles, is from 0 to 1
 abbrev pub AllFractions : List Float → Type 0
 AllFractions xs = (i : ℕ) → i < length xs → T (within zero64 one (getD xs i nan ⊗ invTau))
 
--- ---- two edges that are apart: the first at 0 and 1, the second where its phase, other u, is whole
+-- ---- two edges that are apart: the first at fractions 0 and 1, the second where its phase, other u, is a whole number
 abbrev pub quarter : Float
 quarter = ofBits binary64 0x3fd0_0000_0000_0000
 
 abbrev pub threeQuarters : Float
 threeQuarters = ofBits binary64 0x3fe8_0000_0000_0000
 
--- from a fraction of a cycle up to another the second edge alone may be near, elsewhere the first alone
+-- from one fraction of a cycle up to another only the second edge may be near; at all other fractions only the first
 abbrev pub isSecond : Float → Float → Float → Bool
 isSecond from to u = le from u && lt u to
 
@@ -74,6 +75,6 @@ Apart Sawtooth dt = Unit {0}
 Apart Triangle dt = OneEdge (λ (t : Float). t ⊕ half) dt quarter threeQuarters
 Apart (Pulse duty) dt = T (within least most duty) × OneEdge (λ (t : Float). t ⊖ duty ⊕ one) dt (duty ⊗ half) (half ⊕ duty ⊗ half)
 
--- the test of it, by the second edge's phase at 0, at the two ends, and at 1
+-- the test that edges are apart, by the second edge's phase at fraction 0, at the two ends, and at 1
 abbrev pub isApart : Float → Float → Float → Float → Float → Float → Float → Bool
 isApart from to low before behind high dt = within zero64 one from && within zero64 one to && (le dt from && le to (one ⊖ dt)) && (belowOne low before dt && fromOne behind high dt)

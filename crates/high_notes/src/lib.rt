@@ -1,5 +1,5 @@
-// Notes of few samples a cycle, most of which lie near an edge: no line is looked for. First the phases stand in the output,
-// then their remainders over TAU, then the values, each with its corrections, in loops without a branch.
+// High notes: few samples a cycle, most of them near an edge, so that no straight line is looked for. First the phases
+// go into the output, then their remainders over TAU, then the values with their corrections, by loops without branch.
 ghost use mathlib.Core.Path.{_≡_};
 ghost use mathlib.Core.Bool.{true, cond, _&&_};
 ghost use lib.Dec.{T};
@@ -32,7 +32,7 @@ const SIXTEEN_TAU: f64 = 100.53096491487338;
 
 const THIRTY_TWO_TAU: f64 = 201.06192982974676;
 
-// A block of a waveform; a sine, and where many samples lie between two corrections, in more time than another way needs.
+// A block of any waveform at any step. For a sine and for a low note, `filling::fill` has faster ways.
 pub fn fill(
     out: &mut [f64],
     waveform: Waveform,
@@ -52,7 +52,7 @@ pub fn fill(
     end
 }
 
-// The remainders over TAU of the phases before the samples, and the phase after them.
+// Writes the remainder over TAU of the phase before each sample, and gives the phase after the last.
 pub fn fill_remainders(out: &mut [f64], start: Radians, step: Radians) -> Radians
     ensures { λ r. ⌜ (now (out .exit) ≡ remaindersOf (step .0) (start .0) (length (now (out .entry)))) × (r ≡ radians (phaseFrom (step .0) (start .0) (length (now (out .entry))))) ⌝ }
 {
@@ -65,7 +65,7 @@ pub fn fill_remainders(out: &mut [f64], start: Radians, step: Radians) -> Radian
     end
 }
 
-// The phases before the samples, and the one after them.
+// Writes the phase before each sample, and gives the phase after the last.
 fn fill_phases(out: &mut [f64], start: Radians, step: Radians) -> Radians
     ensures { λ r. ⌜ (now (out .exit) ≡ listed (phaseFrom (step .0) (start .0)) (length (now (out .entry)))) × (r ≡ radians (phaseFrom (step .0) (start .0) (length (now (out .entry))))) ⌝ }
 {
@@ -80,14 +80,14 @@ fn fill_phases(out: &mut [f64], start: Radians, step: Radians) -> Radians
     Radians(angle)
 }
 
-// Whether no phase falls, and none is below 0 or grows beyond 2^60.
+// Whether the phases of any block from here on never fall, and lie from 0 to 2^60 radians.
 fn is_rising(start: Radians, step: Radians) -> bool
     ensures { λ r. ⌜ r ≡ (within zero64 far (start .0) && within zero64 sixteen (step .0)) ⌝ }
 {
     ((0.0 <= start.0) & (start.0 <= 1152921504606846976.0)) & ((0.0 <= step.0) & (step.0 <= 16.0))
 }
 
-// The remainders over TAU of phases, none of which is beyond the end.
+// Makes remainders over TAU of phases, none of which is above the phase after the last.
 fn wrap_phases(out: &mut [f64], end: Radians)
     requires { ⌜ ((bound : Float) → T (finite bound) → T (lt (end .0) bound) → AllBelow bound (now out)) ⌝ }
     ensures { λ r. ⌜ now (out .exit) ≡ madeOf remainderOf (now (out .entry)) (length (now (out .entry))) ⌝ }
@@ -111,7 +111,7 @@ fn wrap_phases(out: &mut [f64], end: Radians)
     wrap_one_by_one(out);
 }
 
-// Below 4 TAU, by two differences.
+// Phases below 4 TAU, by two differences.
 fn wrap_below_4_cycles(out: &mut [f64])
     requires { ⌜ AllBelow fourTau (now out) ⌝ }
     ensures { λ r. ⌜ now (out .exit) ≡ madeOf remainderOf (now (out .entry)) (length (now (out .entry))) ⌝ }
@@ -128,7 +128,7 @@ fn wrap_below_8_cycles(out: &mut [f64])
     wrap_below_4_cycles(out);
 }
 
-// Below 32 TAU.
+// Phases below 32 TAU, by five differences.
 fn wrap_below_32_cycles(out: &mut [f64])
     requires { ⌜ AllBelow thirtyTwoTau (now out) ⌝ }
     ensures { λ r. ⌜ now (out .exit) ≡ madeOf remainderOf (now (out .entry)) (length (now (out .entry))) ⌝ }
@@ -150,7 +150,7 @@ fn wrap_one_by_one(out: &mut [f64])
     }
 }
 
-// Each less a number of radians, where it is not below that.
+// One difference: `over` radians less, of each phase that is not below `over`.
 fn wrap_once(out: &mut [f64], over: Radians)
     ensures { λ r. ⌜ now (out .exit) ≡ madeOf (wrapOnceOf (over .0)) (now (out .entry)) (length (now (out .entry))) ⌝ }
 {
@@ -163,7 +163,7 @@ fn wrap_once(out: &mut [f64], over: Radians)
     }
 }
 
-// The values of remainders, whose fractions of a cycle lie from 0 to 1.
+// The values at remainders, which are from 0 to 1 in cycles: with one correction a sample where that suffices.
 fn fill_values(out: &mut [f64], waveform: Waveform, dt: f64, scale: f64)
     requires { ⌜ AllFractions (now out) ⌝ }
     ensures { λ r. ⌜ now (out .exit) ≡ madeOf (λ (x : Float). valueOf waveform (x ⊗ invTau) dt ⊗ scale) (now (out .entry)) (length (now (out .entry))) ⌝ }
@@ -175,7 +175,7 @@ fn fill_values(out: &mut [f64], waveform: Waveform, dt: f64, scale: f64)
     fill_values_any(out, waveform, dt, scale);
 }
 
-// Each with both corrections. The back end takes the match out of the loop.
+// The values with both corrections. The back end takes the match out of the loop.
 fn fill_values_any(out: &mut [f64], waveform: Waveform, dt: f64, scale: f64)
     requires { ⌜ AllFractions (now out) ⌝ }
     ensures { λ r. ⌜ now (out .exit) ≡ madeOf (λ (x : Float). valueOf waveform (x ⊗ invTau) dt ⊗ scale) (now (out .entry)) (length (now (out .entry))) ⌝ }
@@ -189,7 +189,7 @@ fn fill_values_any(out: &mut [f64], waveform: Waveform, dt: f64, scale: f64)
     }
 }
 
-// `value_at` of a fraction of a cycle, without a branch that hangs on it.
+// `value_at` of a fraction of a cycle, without a branch that depends on the fraction.
 fn branchless_value(waveform: Waveform, u: f64, dt: f64) -> f64
     requires { ⌜ T (within zero64 one u) ⌝ }
     ensures { λ r. ⌜ r ≡ valueOf waveform u dt ⌝ }
@@ -203,7 +203,7 @@ fn branchless_value(waveform: Waveform, u: f64, dt: f64) -> f64
     }
 }
 
-// ---- where the two edges are so far apart that no sample has two corrections: the nearer one alone
+// ---- the two edges are so far apart that no sample has two corrections: the correction of the nearer edge alone
 fn fill_values_apart(out: &mut [f64], waveform: Waveform, dt: f64, scale: f64)
     requires { ⌜ AllFractions (now out) × Apart waveform dt ⌝ }
     ensures { λ r. ⌜ now (out .exit) ≡ madeOf (λ (x : Float). valueOf waveform (x ⊗ invTau) dt ⊗ scale) (now (out .entry)) (length (now (out .entry))) ⌝ }
@@ -258,7 +258,7 @@ fn pulse_apart(u: f64, dt: f64, duty: f64) -> f64
     polyblep::naive_pulse(u, duty) + select(second, 0.0, c) - select(second, c, 0.0)
 }
 
-// Whether no sample is near to both edges; a waveform with one edge has no need of it.
+// Whether no sample is near both edges. A sawtooth has one edge, and a sine none: no test is needed.
 fn are_apart(waveform: Waveform, dt: f64) -> bool
     ensures { λ r. ⌜ (r ≡ true → Apart waveform dt) ⌝ }
 {
@@ -288,8 +288,8 @@ fn is_duty_apart(duty: f64, dt: f64) -> bool
     ((0.0009765625 <= duty) & (duty <= 0.9990234375)) & apart
 }
 
-// Whether from one fraction of a cycle up to another the first edge is not near, and the second is not elsewhere: at 0 and 1 and
-// at those two its phase is low, before, behind and high.
+// Whether the first edge is near no fraction between `from` and `to`, and the second edge near no other. The second
+// edge's phase is `low` at fraction 0, `before` at `from`, `behind` at `to` and `high` at 1.
 fn is_apart(from: f64, to: f64, low: f64, before: f64, behind: f64, high: f64, dt: f64) -> bool
     ensures { λ r. ⌜ r ≡ isApart from to low before behind high dt ⌝ }
 {
@@ -316,7 +316,7 @@ fn square(u: f64, dt: f64) -> f64
     polyblep::naive_pulse(u, 0.5) + rise - fall
 }
 
-// A duty so near to 0 or 1 that the second edge's phase may leave 0 to 2 is made as any.
+// With a duty so near 0 or 1 that the second edge's phase may leave 0 to 2, `polyblep::pulse` makes the value.
 fn pulse(u: f64, dt: f64, duty: f64) -> f64
     requires { ⌜ T (within zero64 one u) ⌝ }
     ensures { λ r. ⌜ r ≡ pulseOf u dt duty ⌝ }
@@ -338,7 +338,7 @@ fn triangle(u: f64, dt: f64) -> f64
     polyblep::naive_triangle(u) + 8.0 * low - 8.0 * high
 }
 
-// The formulas of both sides are worked out, and one is taken.
+// The formulas of both sides of the edge are worked out, and one is selected.
 fn blep(t: f64, dt: f64) -> f64
     ensures { λ r. ⌜ r ≡ blepOf t dt ⌝ }
 {
