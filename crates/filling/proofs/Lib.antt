@@ -1,5 +1,5 @@
--- What the proofs of this crate and of those above cite.
--- a block of any values, and of a lent table's
+-- What is proved of the inner loop beyond its contracts; the crates that use this one cite it too.
+-- a block of any values, and one of a sine read from a lent table
 pub mod Lent
 -- two outcomes of a public function are equal
 pub mod Unique

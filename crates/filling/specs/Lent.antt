@@ -1,4 +1,5 @@
--- The value at a phase where a sine may be read from a lent table. Definitions only.
+-- The value at a phase where a sine may be read from a lent table, by the rule of sine's specs/Whole.antt. If the table
+-- is the whole wave, the value is the waveform's own (proofs/Lent.antt). Definitions only.
 use mathlib.Core.Bool.{cond}
 use mathlib.Core.List.{List}
 use lib.Dec.{eqb}
@@ -10,7 +11,7 @@ use Rattle.waveform.specs.declared.Waveform.the-variants.{Sine, Square, Sawtoot
 use Rattle.waveform.specs.Waveform.{normalOf}
 use Rattle.waveform.specs.Filled.{valueAt}
 
--- a sine is read from a table W that is as long as the whole wave; every other waveform has its own value
+-- W is read for a sine, if W has the whole wave's 4,097 numbers; else the value is the waveform's own
 unfoldable pub valueIn : List Float → Waveform → Float → Float → Float
 valueIn W Sine step p = cond (eqb (length W) 4097) (wholeReading W (normalOf p)) (valueAt Sine step p)
 valueIn W Square step p = valueAt Square step p

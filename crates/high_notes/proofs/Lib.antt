@@ -3,5 +3,7 @@
 pub mod Remaking
 -- the remainders of phases over TAU, by differences
 pub mod Wraps
+-- two edges that are apart
+pub mod Edges
 -- two outcomes of a public function are equal
 pub mod Unique

@@ -1,12 +1,18 @@
 -- What private functions are held to: phases and fractions of a cycle in a lent list, and one difference of them. Definitions only.
-use mathlib.Core.Bool.{cond}
+use mathlib.Core.Bool.{Bool, true, false, cond, _&&_}
 use mathlib.Core.List.{List}
+use mathlib.Core.Path.{_≡_}
 use Prim.Native.Nat.{ℕ, _<_}
 use lib.Dec.{T}
 use lib.ListN.{length, getD}
-use lib.Ieee.{Float, binary64, ofBits, lt, fits, nan}
+use lib.Ieee.{Float, binary64, ofBits, lt, le, fits, nan}
 use Rattle.floats.specs.Range.{within, nonneg}
-use Rattle.floats.specs.Double.{_⊖_, _⊗_, zero64, one}
+use Rattle.floats.specs.Double.{_⊕_, _⊖_, _⊗_, zero64, half, one}
+use Rattle.polyblep.specs.declared.Side.the-variants.{Away}
+use Rattle.polyblep.specs.Polyblep.{sideOf, fractOf}
+use Rattle.polyblep.proofs.Clear.{belowOne, fromOne}
+use Rattle.waveform.specs.declared.Waveform.{Waveform}
+use Rattle.waveform.specs.declared.Waveform.the-variants.{Sine, Square, Sawtooth, Triangle, Pulse}
 use Rattle.waveform.specs.Waveform.{invTau}
 
 -- 2^-10 and 1 - 2^-10, between which a duty is far enough from 0 and 1
@@ -45,3 +51,29 @@ AllBelow bound xs = (i : ℕ) → i < length xs → Below bound (getD xs i nan)
 -- as a fraction of a cycle, from 0 to 1
 abbrev pub AllFractions : List Float → Type 0
 AllFractions xs = (i : ℕ) → i < length xs → T (within zero64 one (getD xs i nan ⊗ invTau))
+
+-- ---- two edges that are apart: the first at 0 and 1, the second where its phase, other u, is whole
+abbrev pub quarter : Float
+quarter = ofBits binary64 0x3fd0_0000_0000_0000
+
+abbrev pub threeQuarters : Float
+threeQuarters = ofBits binary64 0x3fe8_0000_0000_0000
+
+-- from a fraction of a cycle up to another the second edge alone may be near, elsewhere the first alone
+abbrev pub isSecond : Float → Float → Float → Bool
+isSecond from to u = le from u && lt u to
+
+abbrev pub OneEdge : (Float → Float) → Float → Float → Float → Type 0
+OneEdge other dt from to = (u : Float) → T (within zero64 one u) → (isSecond from to u ≡ true → sideOf u dt ≡ Away) × (isSecond from to u ≡ false → sideOf (fractOf (other u)) dt ≡ Away)
+
+-- a waveform with two edges has its second at the half, or at its duty
+abbrev pub Apart : Waveform → Float → Type 0
+Apart Sine dt = Unit {0}
+Apart Square dt = OneEdge (λ (t : Float). t ⊕ half) dt quarter threeQuarters
+Apart Sawtooth dt = Unit {0}
+Apart Triangle dt = OneEdge (λ (t : Float). t ⊕ half) dt quarter threeQuarters
+Apart (Pulse duty) dt = T (within least most duty) × OneEdge (λ (t : Float). t ⊖ duty ⊕ one) dt (duty ⊗ half) (half ⊕ duty ⊗ half)
+
+-- the test of it, by the second edge's phase at 0, at the two ends, and at 1
+abbrev pub isApart : Float → Float → Float → Float → Float → Float → Float → Bool
+isApart from to low before behind high dt = within zero64 one from && within zero64 one to && (le dt from && le to (one ⊖ dt)) && (belowOne low before dt && fromOne behind high dt)

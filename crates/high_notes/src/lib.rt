@@ -8,13 +8,14 @@ ghost use lib.Ieee.{Float, lt};
 ghost use lib.Ieee.Scale.{finite};
 ghost use Rattle.runs.specs.Runs.{listed};
 ghost use Rattle.floats.specs.Range.{within};
-ghost use Rattle.floats.specs.Double.{_⊗_, zero64, one, two};
+ghost use Rattle.floats.specs.Double.{_⊕_, _⊗_, zero64, half, one, two};
 ghost use Rattle.polyblep.specs.Polyblep.{fractOf, blepOf, blampOf, sawOf, squareOf, pulseOf, triangleOf};
 ghost use Rattle.waveform.specs.Waveform.{valueOf, remainderOf, invTau, radians};
 ghost use Rattle.waveform.specs.Filled.{phaseFrom, Filled};
 ghost use Rattle.waveform.proofs.Values.{far, sixteen};
 ghost use Rattle.high_notes.specs.Remainders.{madeOf, remaindersOf};
-ghost use Rattle.high_notes.specs.Inner.{fourTau, eightTau, thirtyTwoTau, wrapOnceOf, AllBelow, AllFractions};
+ghost use Rattle.high_notes.specs.Inner.{fourTau, eightTau, thirtyTwoTau, wrapOnceOf, AllBelow, AllFractions, quarter, threeQuarters, OneEdge, Apart, isApart};
+ghost use Rattle.waveform.specs.declared.Waveform.the-variants.{Pulse};
 use waveform::Radians;
 use waveform::TAU;
 use waveform::TWO_TAU;
@@ -162,8 +163,20 @@ fn wrap_once(out: &mut [f64], over: Radians)
     }
 }
 
-// The values of remainders, whose fractions of a cycle lie from 0 to 1. The back end takes the match out of the loop.
+// The values of remainders, whose fractions of a cycle lie from 0 to 1.
 fn fill_values(out: &mut [f64], waveform: Waveform, dt: f64, scale: f64)
+    requires { ⌜ AllFractions (now out) ⌝ }
+    ensures { λ r. ⌜ now (out .exit) ≡ madeOf (λ (x : Float). valueOf waveform (x ⊗ invTau) dt ⊗ scale) (now (out .entry)) (length (now (out .entry))) ⌝ }
+{
+    if are_apart(waveform, dt) {
+        fill_values_apart(out, waveform, dt, scale);
+        return;
+    }
+    fill_values_any(out, waveform, dt, scale);
+}
+
+// Each with both corrections. The back end takes the match out of the loop.
+fn fill_values_any(out: &mut [f64], waveform: Waveform, dt: f64, scale: f64)
     requires { ⌜ AllFractions (now out) ⌝ }
     ensures { λ r. ⌜ now (out .exit) ≡ madeOf (λ (x : Float). valueOf waveform (x ⊗ invTau) dt ⊗ scale) (now (out .entry)) (length (now (out .entry))) ⌝ }
 {
@@ -188,6 +201,103 @@ fn branchless_value(waveform: Waveform, u: f64, dt: f64) -> f64
         Waveform::Triangle => triangle(u, dt),
         Waveform::Pulse(duty) => pulse(u, dt, duty),
     }
+}
+
+// ---- where the two edges are so far apart that no sample has two corrections: the nearer one alone
+fn fill_values_apart(out: &mut [f64], waveform: Waveform, dt: f64, scale: f64)
+    requires { ⌜ AllFractions (now out) × Apart waveform dt ⌝ }
+    ensures { λ r. ⌜ now (out .exit) ≡ madeOf (λ (x : Float). valueOf waveform (x ⊗ invTau) dt ⊗ scale) (now (out .entry)) (length (now (out .entry))) ⌝ }
+{
+    let mut i = 0;
+    while i < out.len() {
+        let x = out[i];
+        let u = in_cycles(Radians(x));
+        out[i] = value_apart(waveform, u, dt) * scale;
+        i += 1;
+    }
+}
+
+fn value_apart(waveform: Waveform, u: f64, dt: f64) -> f64
+    requires { ⌜ T (within zero64 one u) × Apart waveform dt ⌝ }
+    ensures { λ r. ⌜ r ≡ valueOf waveform u dt ⌝ }
+{
+    match waveform {
+        Waveform::Sine => value_at(waveform, u, dt),
+        Waveform::Square => square_apart(u, dt),
+        Waveform::Sawtooth => saw(u, dt),
+        Waveform::Triangle => triangle_apart(u, dt),
+        Waveform::Pulse(duty) => pulse_apart(u, dt, duty),
+    }
+}
+
+fn square_apart(u: f64, dt: f64) -> f64
+    requires { ⌜ T (within zero64 one u) × OneEdge (λ (t : Float). t ⊕ half) dt quarter threeQuarters ⌝ }
+    ensures { λ r. ⌜ r ≡ squareOf u dt ⌝ }
+{
+    let second = (0.25 <= u) & (u < 0.75);
+    let c = blep(select(second, fract(u + 0.5), u), dt);
+    polyblep::naive_pulse(u, 0.5) + select(second, 0.0, c) - select(second, c, 0.0)
+}
+
+fn triangle_apart(u: f64, dt: f64) -> f64
+    requires { ⌜ T (within zero64 one u) × OneEdge (λ (t : Float). t ⊕ half) dt quarter threeQuarters ⌝ }
+    ensures { λ r. ⌜ r ≡ triangleOf u dt ⌝ }
+{
+    let second = (0.25 <= u) & (u < 0.75);
+    let c = 8.0 * blamp(select(second, fract(u + 0.5), u), dt);
+    polyblep::naive_triangle(u) + select(second, 0.0, c) - select(second, c, 0.0)
+}
+
+fn pulse_apart(u: f64, dt: f64, duty: f64) -> f64
+    requires { ⌜ T (within zero64 one u) × Apart (Pulse duty) dt ⌝ }
+    ensures { λ r. ⌜ r ≡ pulseOf u dt duty ⌝ }
+{
+    let middle = duty * 0.5;
+    let second = (middle <= u) & (u < 0.5 + middle);
+    let c = blep(select(second, fract(u - duty + 1.0), u), dt);
+    polyblep::naive_pulse(u, duty) + select(second, 0.0, c) - select(second, c, 0.0)
+}
+
+// Whether no sample is near to both edges; a waveform with one edge has no need of it.
+fn are_apart(waveform: Waveform, dt: f64) -> bool
+    ensures { λ r. ⌜ (r ≡ true → Apart waveform dt) ⌝ }
+{
+    match waveform {
+        Waveform::Sine => false,
+        Waveform::Square => is_apart(0.25, 0.75, 0.5, 0.75, 1.25, 1.5, dt),
+        Waveform::Sawtooth => false,
+        Waveform::Triangle => is_apart(0.25, 0.75, 0.5, 0.75, 1.25, 1.5, dt),
+        Waveform::Pulse(duty) => is_duty_apart(duty, dt),
+    }
+}
+
+fn is_duty_apart(duty: f64, dt: f64) -> bool
+    ensures { λ r. ⌜ (r ≡ true → Apart (Pulse duty) dt) ⌝ }
+{
+    let from = duty * 0.5;
+    let to = 0.5 + from;
+    let apart = is_apart(
+        from,
+        to,
+        0.0 - duty + 1.0,
+        from - duty + 1.0,
+        to - duty + 1.0,
+        1.0 - duty + 1.0,
+        dt,
+    );
+    ((0.0009765625 <= duty) & (duty <= 0.9990234375)) & apart
+}
+
+// Whether from one fraction of a cycle up to another the first edge is not near, and the second is not elsewhere: at 0 and 1 and
+// at those two its phase is low, before, behind and high.
+fn is_apart(from: f64, to: f64, low: f64, before: f64, behind: f64, high: f64, dt: f64) -> bool
+    ensures { λ r. ⌜ r ≡ isApart from to low before behind high dt ⌝ }
+{
+    let far = 1.0 - dt;
+    let is_unit = ((0.0 <= from) & (from <= 1.0)) & ((0.0 <= to) & (to <= 1.0));
+    let first = (0.0 < low) & (before < 1.0) & (dt <= low) & (before <= far);
+    let last = (1.0 <= behind) & (high < 2.0) & (dt <= behind - 1.0) & (high - 1.0 <= far);
+    is_unit & ((dt <= from) & (to <= far)) & (first & last)
 }
 
 // ---- the values of polyblep, without a branch

@@ -1,7 +1,7 @@
--- What the proofs of this crate cite.
+-- What the proofs of this crate cite, in reading order.
 -- a waveform between two corrections
 pub mod Segments
--- what the inner loops over a segment share
+-- the invariant of the loops over a segment
 pub mod SegmentLoops
 -- two outcomes of a public function are equal
 pub mod Unique

@@ -1,4 +1,4 @@
--- What the inner loops over a segment share: that one begins and goes on so. Assumes nothing.
+-- The invariant of the loops over a segment: it holds before the first turn, and each turn keeps it. Assumes nothing.
 use mathlib.Core.Path.{_≡_, refl, sym, subst, _∙_}
 use mathlib.Core.List.{List}
 use mathlib.Core.Bool.{true}
@@ -15,7 +15,7 @@ use Rattle.waveform.proofs.Loops.{goes-on, goes-on-four}
 use Rattle.low_notes.specs.declared.Segment.{Segment}
 use Rattle.low_notes.specs.Inner.{lineOf, fractionOf, isInSegment, Straight, FillsSegment}
 
--- a loop has come on from the phase p and sample i to the phase q and sample j
+-- a loop that began with ys at the phase p and sample i has reached zs, the phase q and sample j
 abbrev pub SegmentFilled : Segment → Float → Float → List Float → Float → ℕ → List Float → Float → ℕ → Type 0
 SegmentFilled s step scale ys p i zs q j = (length zs ≡ length ys) × (i ≤ j) × T (fits binary64 q) × FillsSegment s step scale ys (record { phase = radians p; count = i }) zs (record { phase = radians q; count = j })
 
@@ -23,7 +23,7 @@ pub filled-none : (s : Segment) (step scale : Float) (ys : List Float) (p : Floa
 filled-none s step scale ys p i w = (refl, nat.le-refl i, w, λ value straight p₀ xs u. u)
 
 module _ (s : Segment) (step scale : Float) (ys : List Float) (p : Float) (i : ℕ) where
-  -- the code's test of a phase, and its value there
+  -- the phase q passes the code's test, and v is the value that the code makes of it
   abbrev Tested : Float → Type 0
   Tested q = isInSegment s q ≡ true
 

@@ -1,4 +1,6 @@
--- On the phases of one cycle the fraction of the cycle is a difference times INV_TAU, and grows with the phase, so that a segment's ends speak for all between them; and where no correction is due, a waveform is a line. Assumes nothing.
+-- Within one cycle the fraction of the cycle is (phase - base) * INV_TAU. Rounded subtraction and multiplication are
+-- monotone, so testing the two ends of a segment suffices. Where no correction is due, a waveform is a line. Assumes
+-- nothing.
 use mathlib.Core.Path.{_≡_, refl, sym, subst, ap, _∙_}
 use mathlib.Core.Bool.{Bool, true, false, cond, _&&_}
 use lib.Dec.{T, not-T}
@@ -29,18 +31,18 @@ use Rattle.low_notes.specs.Inner.{lineOf, baseOf, isOneCycle, isClear, f
 use Rattle.waveform.proofs.Normal.{tau-positive, rem-nonneg, inv-nonneg}
 use Rattle.waveform.proofs.Remainders.{far, next-cycle}
 
--- three tests that all pass
+-- a conjunction of three tests passes: each passes
 three-pass : (a b c : Bool) → T (a && b && c) → T a × T b × T c
 three-pass true true true t = (tt, tt, tt)
 
 two-tau-finite : T (finite twoTau)
 two-tau-finite = unfold ofBits in tt
 
--- below 2^14, as the tests of a phase ask it
+-- 0 ≤ q and q < 2^14, as `waveform::remainder` tests a phase
 under-far : (q bound : Float) → T (finite q) → T (le zero64 q) → T (lt q bound) → T (le bound far) → (le zero64 q && lt q far) ≡ true
 under-far q bound f z l k = is-true _ (and-i (le zero64 q) (lt q far) z (lt-le-lt q bound far f (unfold ofBits in tt) l k))
 
--- the remainder of a phase of a cycle is the phase less the cycle's base
+-- the remainder of a phase is the phase less the base of its cycle
 pub rest-is : (first : Bool) (low high q : Float) → isOneCycle first low high ≡ true → T (fits binary64 q) → T (le low q) → T (lt q high) → (rem binary64 q tau ≡ q ⊖ baseOf first) × T (nonneg q)
 rest-is true low high q e w a b =
     let t : T (lt zero64 low && le high tau) = subst T (sym e) tt in
@@ -62,7 +64,7 @@ rest-is false low high q e w a b =
       under q twoTau (le→ge0 q (subst (λ (z : Float). T (le z q)) (zeroOf-is binary64) z)) two-tau-finite (lt-le q twoTau below),
     )
 
--- the fraction of a cycle grows with the phase
+-- x ≤ y: the fraction at x is at most that at y
 grows : (first : Bool) (x y : Float) → T (finite x) → T (finite y) → T (nonneg (x ⊖ baseOf first)) → T (le x y) → T (le y twoTau) → T (le (fractionOf (baseOf first) x) (fractionOf (baseOf first) y))
 grows first x y f g n h k =
     let b : T (finite (baseOf first)) = base-finite first in
@@ -80,7 +82,7 @@ grows first x y f g n h k =
     all-finite true = unfold ofBits in unfold sub in tt
     all-finite false = unfold ofBits in unfold sub in tt
 
--- ---- a phase of a segment, as a fraction of its cycle, lies between the segment's ends
+-- ---- a phase of a segment, as a fraction of its cycle, lies between the fractions of the segment's ends
 pub record Fraction (base low high q : Float) : Type 0 where
   pub is : normalOf q ≡ fractionOf base q
   pub from : T (le low (fractionOf base q))
@@ -108,14 +110,14 @@ fraction first low high q e v w a b =
     bottoms true e = lt-le zero64 low (and-l (lt zero64 low) (le high tau) (subst T (sym e) tt))
     bottoms false e = fle-trans zero64 tau low (unfold ofBits in unfold le in tt) (and-l (le tau low) (le high twoTau) (subst T (sym e) tt))
 
--- ---- and so the waveforms are lines
--- a sawtooth's own step alone, on either side of any other edge
+-- ---- where no correction is due, each waveform is a line
+-- the line of a sawtooth is `Climb` on either side s of a second edge
 pub saw-line : (t dt : Float) (s : Bool) → sideOf t dt ≡ Away → sawOf t dt ≡ lineOf (cond s Climb Climb) t
 unfolding sawOf blepOf
 saw-line t dt true e = rw e refl
 saw-line t dt false e = rw e refl
 
--- high or low, and no corrections
+-- 1 or -1, with corrections of +0
 levels : (t : Float) (s : Bool) → cond s one (neg one) ⊕ zero64 ⊖ zero64 ≡ lineOf (cond s High Low) t
 levels t true = unfold ofBits in unfold add in unfold sub in refl
 levels t false = unfold ofBits in unfold neg in unfold add in unfold sub in refl
@@ -139,7 +141,7 @@ pub pulse-lines : (t dt duty : Float) → sideOf t dt ≡ Away → sideOf (fract
 unfolding pulseOf blepOf
 pulse-lines t dt duty a b = rw (a, b) (levels t (lt t duty))
 
--- ---- a guess that the code makes and looks at, from one phase up to another, which are the parts lo and hi of their cycle
+-- ---- a guess that passes the code's tests; its ends are the fractions lo and hi of their cycle
 pub guessed : (first : Bool) (from to base : Radians) (lo hi dt : Float) → base ≡ radians (baseOf first) → lo ≡ fractionOf (base .0) (from .0) → hi ≡ fractionOf (base .0) (to .0) → isOneCycle first (from .0) (to .0) ≡ true → T (fits binary64 (from .0))
     → isClear lo hi dt ≡ true → (q : Float) → Inside (from .0) (to .0) q → (normalOf q ≡ fractionOf (base .0) q) × Lies (fractionOf (base .0) q) lo hi dt
 guessed first from to base lo hi dt b l h one-cycle v clear q i =
@@ -147,7 +149,7 @@ guessed first from to base lo hi dt b l h one-cycle v clear q i =
     let (r, a, z) = three-pass (within zero64 one dt) (le dt lo) (le hi (one ⊖ dt)) (subst T (sym clear) tt) in
     (p .is, away.lies (fractionOf (base .0) q) lo hi dt r a (p .from) (p .to) z)
 
--- all of it before a second edge, or all behind it
+-- a guess that lies wholly before the second edge, or wholly behind it
 module _ (g : Guess) (dt edge : Float) (value : Float → Float) (before behind : Line)
     (lying : (q : Float) → Inside (g .from .0) (g .to .0) q → (normalOf q ≡ fractionOf (g .base .0) q) × Lies (fractionOf (g .base .0) q) (g .fraction) (g .«end_fraction») dt)
     (two : (t : Float) → Lies t (g .fraction) (g .«end_fraction») dt → value t ≡ lineOf (cond (lt t edge) before behind) t)
@@ -161,7 +163,7 @@ module _ (g : Guess) (dt edge : Float) (value : Float → Float) (before behind 
     pub behind-edge : le edge (g .fraction) ≡ true → Straight (λ (q : Float). value (normalOf q)) (segmentOf g behind)
     behind-edge e = sided false (λ t l. is-false (lt t edge) (not-T (lt t edge) (λ (z : T (lt t edge)). lt-not-le t edge z (fle-trans edge (g .fraction) t (subst T (sym e) tt) (l .from)))))
 
--- ---- a step on within a segment
+-- ---- where steps rise, a next phase below the segment's end is in the segment
 pub next-inside : (s : Segment) (step q : Float) → isRising s step ≡ true → T (fits binary64 q) → isInSegment s q ≡ true → lt (q ⊕ step) (s .to .0) ≡ true → isInSegment s (q ⊕ step) ≡ true
 next-inside s step q g w t h =
     let (a, b, c) = three-pass (le zero64 (s .from .0)) (le (s .to .0) twoTau) (within zero64 tau step) (subst T (sym g) tt) in

@@ -1,4 +1,6 @@
--- What private functions are held to: a waveform between two corrections (the lines that it is made of, the phases on which it is one, how far an inner loop has come). Definitions only.
+-- What private functions are held to: the lines that a waveform is made of between two corrections, the phases of a
+-- segment, on which it is one line, and how far an inner loop has come. No public statement cites these definitions.
+-- Phases and steps are in radians, fractions and dt in cycles. Definitions only.
 use mathlib.Core.Bool.{Bool, true, cond, _&&_}
 use mathlib.Core.List.{List}
 use mathlib.Core.Path.{_≡_}
@@ -27,57 +29,60 @@ lineOf Climb t = naiveSawOf t ⊖ zero64
 lineOf Rise t = riseOf t ⊕ zero64 ⊖ zero64
 lineOf Fall t = fallOf t ⊕ zero64 ⊖ zero64
 
--- ---- the first two cycles
+-- ---- the first two cycles, which begin at 0 and at TAU
 abbrev pub baseOf : Bool → Float
 baseOf first = cond first zero64 tau
 
 abbrev pub isOneCycle : Bool → Float → Float → Bool
 isOneCycle first from to = cond first (lt zero64 from && le to tau) (le tau from && le to twoTau)
 
--- the fraction of the cycle from base that a phase is
+-- the phase q as a fraction of the cycle that begins at base
 abbrev pub fractionOf : Float → Float → Float
 fractionOf base q = (q ⊖ base) ⊗ invTau
 
--- fractions that are away from the cycle's ends
+-- the fraction is dt or more and the end 1 - dt or less, for a dt from 0 to 1
 abbrev pub isClear : Float → Float → Float → Bool
 isClear fraction end dt = within zero64 one dt && le dt fraction && le end (one ⊖ dt)
 
--- ---- a segment of phases
+-- ---- the phases of a segment: from its first up to, not including, its end
 abbrev pub Inside : Float → Float → Float → Type 0
 Inside from to q = T (fits binary64 q) × T (le from q) × T (lt q to)
 
--- as the code tests it
+-- `Inside`, as the code tests it
 abbrev pub isInSegment : Segment → Float → Bool
 isInSegment s q = le (s .from .0) q && lt q (s .to .0)
 
--- no phase of it falls by a step
+-- the tests under which a step never lowers a phase of the segment
 abbrev pub isRising : Segment → Float → Bool
 isRising s step = le zero64 (s .from .0) && le (s .to .0) twoTau && within zero64 tau step
 
--- the values on it are those of its line
+-- at every phase of the segment the value is that of its line
 abbrev pub Straight : (Float → Float) → Segment → Type 0
 Straight value s = (q : Float) → Inside (s .from .0) (s .to .0) q → value q ≡ lineOf (s .line) (fractionOf (s .base .0) q)
 
--- ---- a guess that holds: each of its phases is the fraction of the cycle that its base gives, between its two ends, where no correction is due at the cycle's ends
+-- ---- a guess
+-- where the guess passes its tests, each of its phases has the fraction that its base gives; the fraction lies between
+-- those of its two ends, where no correction is due for the ends of the cycle
 abbrev pub Guessed : Float → Guess → Type 0
 Guessed dt g = g .holds ≡ true → (q : Float) → Inside (g .from .0) (g .to .0) q → (normalOf q ≡ fractionOf (g .base .0) q) × Lies (fractionOf (g .base .0) q) (g .fraction) (g .«end_fraction») dt
 
 abbrev pub segmentOf : Guess → Line → Segment
 segmentOf g line = record { from = g .from; to = g .to; base = g .base; line = line }
 
--- at its fractions, where a second edge is not near, the values are those of the line of their side
+-- where a guess is clear of a second edge, the value at each of its fractions t is that of the line on t's side
 abbrev pub TwoSides : (Float → Float) → Float → Guess → Float → Bool → Line → Line → Type 0
 TwoSides value dt g edge clear before behind = clear ≡ true → (t : Float) → Lies t (g .fraction) (g .«end_fraction») dt → value t ≡ lineOf (cond (lt t edge) before behind) t
 
--- with a second edge at the half, the values are those of one of two lines where neither correction is due
+-- with a second edge at 0.5: where neither correction is due, the value is that of the line on its side of 0.5
 abbrev pub TwoLines : (Float → Float) → Float → Line → Line → Type 0
 TwoLines value dt before behind = (t : Float) → sideOf t dt ≡ Away → sideOf (fractOf (t ⊕ half)) dt ≡ Away → value t ≡ lineOf (cond (lt t half) before behind) t
 
 -- ---- an inner loop
--- from ys and a to zs and b: where the values are the segment's, a loop that had come to the one has come to the other
+-- from ys and a to zs and b: if the values on the segment are those of its line, a loop that had reached ys and a has
+-- now reached zs and b
 abbrev pub FillsSegment : Segment → Float → Float → List Float → Progress → List Float → Progress → Type 0
 FillsSegment s step scale ys a zs b = (value : Float → Float) → Straight value s → (p₀ : Float) (xs : List Float) → FilledUpTo value step scale p₀ xs ys (a .phase .0) (a .count) → FilledUpTo value step scale p₀ xs zs (b .phase .0) (b .count)
 
--- the same of a waveform's own values, wherever they lie
+-- from ys and a to zs and b, with a waveform's own values, on a segment or not
 abbrev pub FillsWaveform : Waveform → Float → Float → List Float → Progress → List Float → Progress → Type 0
 FillsWaveform w step scale ys a zs b = (p₀ : Float) (xs : List Float) → FilledUpTo (valueAt w step) step scale p₀ xs ys (a .phase .0) (a .count) → FilledUpTo (valueAt w step) step scale p₀ xs zs (b .phase .0) (b .count)

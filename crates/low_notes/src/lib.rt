@@ -1,10 +1,12 @@
-// Notes of many samples a cycle. Between two corrections a waveform is a line over the fractions of a cycle: the samples on
-// the line, a segment, then one as it is made anywhere. How far the line reaches is guessed, and the two ends of the guess
-// are looked at: a wrong one costs time alone. Only the first two cycles have segments.
+// Low notes: many samples a cycle. Between two corrections a waveform is a straight line over the fraction of a cycle.
+// The samples on such a line, a segment, are made without corrections; the two after them are made by
+// `waveform::wave_at`. How far a segment reaches is guessed, and the two ends of the guess are tested: a wrong guess
+// costs time, never a bit. Only phases above 0 and below 2 TAU have segments.
 ghost use mathlib.Core.Path.{_≡_};
 ghost use mathlib.Core.Bool.{true, _&&_};
-ghost use Prim.Native.Nat.{_≤_};
+ghost use Prim.Native.Nat.{_≤_, _<_};
 ghost use lib.Dec.{T};
+ghost use lib.ListN.{length};
 ghost use lib.Ieee.{Float, binary64, lt, le, fits};
 ghost use lib.Ieee.Scale.{finite};
 ghost use Rattle.polyblep.specs.declared.Side.the-variants.{Away};
@@ -17,10 +19,9 @@ use waveform::TAU;
 use waveform::TWO_TAU;
 use waveform::Waveform;
 use waveform::in_cycles;
-use waveform::normalised;
-use waveform::value_at;
+use waveform::wave_at;
 
-// Level at 1 or at -1, a sawtooth's climb, and the two slopes of a triangle.
+// Constant 1 or -1 (square and pulse), a sawtooth's climb, and the two slopes of a triangle.
 enum Line {
     High,
     Low,
@@ -29,7 +30,7 @@ enum Line {
     Fall,
 }
 
-// Phases of one cycle up to, not including, the last, on which a waveform is a line; the cycle begins at the base.
+// The phases from `from` up to, not including, `to`, on which a waveform is one line; their cycle begins at `base`.
 struct Segment {
     from: Radians,
     to: Radians,
@@ -37,8 +38,8 @@ struct Segment {
     line: Line,
 }
 
-// Such phases before they have a line, their two ends as fractions of the cycle, and whether the ends pass: in one cycle, and
-// away from where it begins and ends.
+// A segment before its line is known: its two ends, also as fractions of the cycle, and whether they pass the tests:
+// they lie in one cycle, and at least dt from where that cycle begins and ends.
 struct Guess {
     from: Radians,
     to: Radians,
@@ -48,13 +49,13 @@ struct Guess {
     holds: bool,
 }
 
-// How many samples are made, and the phase after them.
+// How many samples are written, and the phase after them.
 struct Progress {
     phase: Radians,
     count: usize,
 }
 
-// A block of a waveform; a sine, and where few samples lie between two corrections, in more time than another way needs.
+// A block of any waveform at any step. For a sine and for a high note, `filling::fill` has faster ways.
 pub fn fill(
     out: &mut [f64],
     waveform: Waveform,
@@ -64,26 +65,43 @@ pub fn fill(
 ) -> Radians
     ensures { λ r. ⌜ Filled waveform (start .0) (step .0) scale (now (out .entry)) (now (out .exit)) r ⌝ }
 {
-    let dt = in_cycles(step);
     let mut angle = start.0;
     let mut i = 0;
     while i < out.len() {
         let phase = Radians(angle);
-        let done = fill_next_segment(waveform, Progress { phase, count: i }, step, scale, out);
-        angle = done.phase.0;
-        i = done.count;
-        if out.len() <= i {
-            return Radians(angle);
-        }
-        let t = normalised(Radians(angle));
-        out[i] = value_at(waveform, t, dt) * scale;
-        angle = angle + step.0;
-        i += 1;
+        let line = fill_next_segment(waveform, Progress { phase, count: i }, step, scale, out);
+        let before = fill_sample(waveform, line, step, scale, out);
+        let behind = fill_sample(waveform, before, step, scale, out);
+        angle = behind.phase.0;
+        i = behind.count;
     }
     Radians(angle)
 }
 
-// The samples of the segment that begins here; none in the later cycles.
+// One sample with its corrections, where the part has room for it. An edge corrects two samples, so that two are made
+// so after a segment.
+fn fill_sample(
+    waveform: Waveform,
+    at: Progress,
+    step: Radians,
+    scale: f64,
+    out: &mut [f64],
+) -> Progress
+    ensures { λ r. ⌜ (at .count < length (now (out .entry)) → at .count < r .count) × (at .count ≤ r .count) × FillsWaveform waveform (step .0) scale (now (out .entry)) at (now (out .exit)) r ⌝ }
+{
+    let i = at.count;
+    if out.len() <= i {
+        return at;
+    }
+    let phase = at.phase;
+    out[i] = wave_at(waveform, phase, step) * scale;
+    Progress {
+        phase: Radians(phase.0 + step.0),
+        count: i + 1,
+    }
+}
+
+// The samples of the segment that begins at the phase of `at`; none from 2 TAU on.
 fn fill_next_segment(
     waveform: Waveform,
     at: Progress,
@@ -102,7 +120,7 @@ fn fill_next_segment(
     fill_segment(segment, at, step, scale, out)
 }
 
-// The samples of a segment, as far as it reaches.
+// The samples of a segment, up to its end or the end of `out`.
 fn fill_segment(
     segment: Segment,
     at: Progress,
@@ -119,14 +137,14 @@ fn fill_segment(
     fill_one_by_one(segment, at, step, scale, out)
 }
 
-// Whether a phase of the segment never falls by a step.
+// Whether a step never lowers a phase of the segment: the next phase then needs no test against `from`.
 fn is_rising(segment: Segment, step: Radians) -> bool
     ensures { λ r. ⌜ r ≡ isRising segment (step .0) ⌝ }
 {
     (0.0 <= segment.from.0) & (segment.to.0 <= TWO_TAU) & ((0.0 <= step.0) & (step.0 <= TAU))
 }
 
-// Four samples at a time, as long as they all lie in the segment.
+// Four samples a turn, as long as all four lie in the segment.
 fn fill_by_fours(
     segment: Segment,
     at: Progress,
@@ -173,7 +191,7 @@ fn fill_by_fours(
     }
 }
 
-// The samples that are left, one at a time.
+// One sample a turn, as long as it lies in the segment.
 fn fill_one_by_one(
     segment: Segment,
     at: Progress,
@@ -205,15 +223,15 @@ fn fill_one_by_one(
     }
 }
 
-// Whether so many radians are a phase of the segment.
+// Whether from <= angle < to; the angle is in radians.
 fn is_in_segment(segment: Segment, angle: f64) -> bool
     ensures { λ r. ⌜ r ≡ isInSegment segment angle ⌝ }
 {
     (segment.from.0 <= angle) & (angle < segment.to.0)
 }
 
-// The value on a line, of a phase of the cycle that begins at the base. The noughts are the corrections, which are not due
-// there.
+// The value on a line, at a phase of the cycle that begins at `base`. The zeros are the corrections, which are +0 on a
+// line: the operations are those of `polyblep`, so the bits are the same.
 fn line_at(line: Line, base: Radians, phase: Radians) -> f64
     ensures { λ r. ⌜ r ≡ lineOf line (fractionOf (base .0) (phase .0)) ⌝ }
 {
@@ -227,14 +245,14 @@ fn line_at(line: Line, base: Radians, phase: Radians) -> f64
     }
 }
 
-// The fraction of the cycle from a base that a phase is.
+// The phase as a fraction of the cycle that begins at `base`.
 fn fraction_of(base: Radians, phase: Radians) -> f64
     ensures { λ r. ⌜ r ≡ fractionOf (base .0) (phase .0) ⌝ }
 {
     in_cycles(Radians(phase.0 - base.0))
 }
 
-// The phases from this one on up to the next correction, and the line that the waveform is there; or no phases.
+// The segment from a phase up to the next correction, with its line; an empty segment for a sine or a failed guess.
 fn segment_from(waveform: Waveform, phase: Radians, dt: f64) -> Segment
     ensures { λ r. ⌜ Straight (λ (q : Float). valueOf waveform (normalOf q) dt) r ⌝ }
 {
@@ -247,7 +265,7 @@ fn segment_from(waveform: Waveform, phase: Radians, dt: f64) -> Segment
     }
 }
 
-// The sawtooth is corrected at the ends of its cycle alone.
+// A sawtooth is corrected only at the ends of its cycle.
 fn up_to_end(phase: Radians, dt: f64) -> Segment
     ensures { λ r. ⌜ Straight (λ (q : Float). sawOf (normalOf q) dt) r ⌝ }
 {
@@ -260,7 +278,7 @@ fn up_to_end(phase: Radians, dt: f64) -> Segment
     )
 }
 
-// Square and triangle have a second edge at the half: one line before it, another behind it.
+// Square and triangle have a second edge at the fraction 0.5: one line before the edge, another behind it.
 fn up_to_half(phase: Radians, dt: f64, before: Line, behind: Line) -> Segment
     ensures { λ r. ⌜ ((value : Float → Float) → TwoLines value dt before behind → Straight (λ (q : Float). value (normalOf q)) r) ⌝ }
 {
@@ -269,7 +287,7 @@ fn up_to_half(phase: Radians, dt: f64, before: Line, behind: Line) -> Segment
     on_a_side(at, 0.5, is_clear, before, behind)
 }
 
-// A pulse has it at its duty.
+// A pulse has its second edge at the fraction `duty`.
 fn up_to_duty(phase: Radians, dt: f64, duty: f64) -> Segment
     ensures { λ r. ⌜ Straight (λ (q : Float). pulseOf (normalOf q) dt duty) r ⌝ }
 {
@@ -284,7 +302,7 @@ fn up_to_duty(phase: Radians, dt: f64, duty: f64) -> Segment
     )
 }
 
-// The phases of a guess as a segment, where the second edge is not near and they lie on one side of it; or no phases.
+// The guess as a segment, if it passed its tests and lies on one side of the second edge, clear of it; else no phases.
 fn on_a_side(at: Guess, edge: f64, is_clear: bool, before: Line, behind: Line) -> Segment
     ensures { λ r. ⌜ ((dt : Float) (value : Float → Float) → Guessed dt at → («is_clear» ≡ true → T (finite edge)) → TwoSides value dt at edge «is_clear» before behind → Straight (λ (q : Float). value (normalOf q)) r) ⌝ }
 {
@@ -313,7 +331,7 @@ fn segment_of(at: Guess, line: Line) -> Segment
     }
 }
 
-// A segment of no phases.
+// No phase is at least 1 and below 0.
 fn empty_segment() -> Segment
     ensures { λ r. ⌜ ((q : Float) → Inside (r .from .0) (r .to .0) q → ⊥) ⌝ }
 {
@@ -327,7 +345,7 @@ fn empty_segment() -> Segment
     }
 }
 
-// Where the correction of the next edge begins, and a little before it, as radians are rounded.
+// A guess of the segment from a phase up to the next edge, which is at `edge` or at the end of the cycle.
 fn guess_from(phase: Radians, edge: f64, dt: f64) -> Guess
     ensures { λ r. ⌜ Guessed dt r ⌝ }
 {
@@ -347,7 +365,7 @@ fn guess_from(phase: Radians, edge: f64, dt: f64) -> Guess
     }
 }
 
-// Where the first or the second cycle begins; later ones have no segments.
+// The phase at which the first or the second cycle begins; later cycles have no segments.
 fn base_of(first: bool) -> Radians
     ensures { λ r. ⌜ r ≡ radians (baseOf first) ⌝ }
 {
@@ -357,6 +375,7 @@ fn base_of(first: bool) -> Radians
     Radians(TAU)
 }
 
+// The next edge less dt, where its correction begins, less dt / 1,024 for the rounding; `guess_from` tests this end.
 fn segment_end(base: Radians, fraction: f64, edge: f64, dt: f64) -> Radians {
     let room = dt * 1.0009765625;
     if fraction < edge {
@@ -365,7 +384,7 @@ fn segment_end(base: Radians, fraction: f64, edge: f64, dt: f64) -> Radians {
     Radians(base.0 + (1.0 - room) * TAU)
 }
 
-// Whether the phases up to, not including, the last lie in that cycle. Nought itself is left out: it is a corner.
+// Whether the phases from `from` up to, not including, `to` lie in that cycle. Phase 0 is left out: an edge is there.
 fn is_one_cycle(first: bool, from: Radians, to: Radians) -> bool
     ensures { λ r. ⌜ r ≡ isOneCycle first (from .0) (to .0) ⌝ }
 {
@@ -375,14 +394,15 @@ fn is_one_cycle(first: bool, from: Radians, to: Radians) -> bool
     (TAU <= from.0) & (to.0 <= TWO_TAU)
 }
 
-// Whether all from one fraction of a cycle to another is away from the cycle's ends.
+// Whether dt is 0 to 1 and the fractions from `fraction` to `end_fraction` are at least dt from both ends of the cycle.
 fn is_clear_of_ends(fraction: f64, end_fraction: f64, dt: f64) -> bool
     ensures { λ r. ⌜ r ≡ isClear fraction «end_fraction» dt ⌝ }
 {
     ((0.0 <= dt) & (dt <= 1.0)) & (dt <= fraction) & (end_fraction <= 1.0 - dt)
 }
 
-// Whether, by its ends, the fraction of all that lies between two numbers is away from the step.
+// True only if fract(x) is at least dt from 0 and from 1 for every x from `low` to `high`. Testing these two suffices:
+// both lie above 0 and below 1, or both from 1 up to 2, and rounded subtraction is monotone.
 fn is_clear_of_edge(low: f64, high: f64, dt: f64) -> bool
     ensures { λ r. ⌜ (r ≡ true → (x : Float) → T (fits binary64 x) → T (le low x) → T (le x high) → sideOf (fractOf x) dt ≡ Away) ⌝ }
 {

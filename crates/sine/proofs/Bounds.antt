@@ -1,4 +1,6 @@
--- A reading lies from -1 to 1: between two whole numbers from -2^30 to 2^30, whose difference is exact, and then over 2^30. 01: "proved between -1 and 1". Assumes nothing.
+-- A reading lies from -1 to 1, as 01 says: "proved between -1 and 1". 01's a and b are whole numbers from -2^30 to 2^30
+-- with an exact difference, so a + (b - a)*f lies from -2^30 to 2^30, and its quotient by 2^30 from -1 to 1. Assumes
+-- nothing.
 use mathlib.Core.Path.{_≡_, refl, sym, subst}
 use mathlib.Core.Bool.{Bool, true, false}
 use Prim.Native.Nat.{ℕ, zero, suc, _/_, _%_, _^_, _≤_}
@@ -24,7 +26,7 @@ use Rattle.sine.proofs.Wholes.{Sized, sized-neg, sized-more, fraction, 
 use Rattle.sine.proofs.Parts.{not-negative, whole-at-most, part-in}
 use Rattle.sine.proofs.Points.{reading-inside, reading-outside, point-last, point-at, points-in}
 
--- no entry is above 2^30, 0 past the end
+-- no entry is above 2^30; past the end of the table it is 0
 entry-small : (k : ℕ) → entryOf k ≤ 2 ^ 30
 entry-small k = go (ltb k 1025) refl
   where
@@ -32,7 +34,7 @@ entry-small k = go (ltb k 1025) refl
     go true e = entry-in k (ltb-true k 1025 e)
     go false e = le-trans (le-of-eq (List·getD-eq-default quarter 0 (rw count (ltb-false k 1025 e)))) (lit≤ tt)
 
--- the whole numbers at the ends of a part of the wave are at most 2^30 in size
+-- 01's a and b are at most 2^30 in size
 pub start-sized : (q j : ℕ) → Sized (2 ^ 30) (startOf quarter q j)
 unfolding startOf
 start-sized zero j = record { up = entry-small _; down = lit≤ tt }
@@ -67,7 +69,7 @@ one-finite = tt
 abbrev Within1 : Float → Type 0
 Within1 x = T (within (neg one) one x)
 
--- between any two whole numbers of that size
+-- between any two whole numbers of at most 2^30 in size
 line-in : (a b : ℤ) (f : Float) → Sized (2 ^ 30) a → Sized (2 ^ 30) b → T (within plusZero plusOne f) → Within1 (lineOf (float a) (float b) f)
 line-in a b f sa sb h =
     rw oneOf-is
@@ -85,12 +87,12 @@ line-in a b f sa sb h =
     ends : (z : ℤ) → Sized (2 ^ 30) z → T (finite (float z))
     ends z s = fraction z (sized-more (2 ^ 30) (2 ^ 53) z (lit≤ tt) s) .ends
 
--- so at every point of the wave
+-- between point i of the wave and the next
 between-in : (i : ℕ) (f : Float) → T (within plusZero plusOne f) → Within1 (betweenOf quarter i f)
 between-in i f h =
     line-in (startOf quarter (i / 1024) (i % 1024)) (endOf quarter (i / 1024) (i % 1024)) f (start-sized (i / 1024) (i % 1024)) (end-sized (i / 1024) (i % 1024)) h
 
--- and at p points from its start
+-- at p points from the start of the wave
 point-in : (p : Float) → T (within zero64 steps p) → Within1 (pointOf quarter p)
 point-in p h = go (eqb (wholePart p) 4096) refl
   where
@@ -100,7 +102,7 @@ point-in p h = go (eqb (wholePart p) 4096) refl
         rw (point-at quarter p (wholePart p) refl (eqb-false (wholePart p) 4096 e))
         (between-in (wholePart p) (p ⊖ float (pos (wholePart p))) (part-in p (not-negative p h) (le-trans (whole-at-most p h) (lit≤ tt))))
 
--- of every float: outside 0 to 1 the reading is +0
+-- at every float u: outside 0 to 1 the reading is +0
 pub reading-within : (u : Float) → T (within (neg one) one (readingOf u))
 reading-within u = go (within zero64 one u) refl
   where
@@ -108,7 +110,7 @@ reading-within u = go (within zero64 one u) refl
     go true e = rw (reading-inside quarter u e) (point-in (u ⊗ steps) (points-in u (subst T (sym e) tt)))
     go false e = rw (reading-outside quarter u e) zero-within
 
--- so it has the size 1, and is finite
+-- so a reading is at most 1 in size, and finite
 pub reading-sized : (u : Float) → Size one (readingOf u)
 reading-sized u = record { bound = one-finite; between = reading-within u }
 

@@ -1,4 +1,5 @@
--- Readings by the definition. At the quarters 0, -0, 1/4, 1/2, 3/4 and 1: 0, 0, 1, 0, -1 and 0, each zero +0. At 1/8 and 5/8: T[512] / 2^30 and its negative; at half a point: T[1] / 2^31. Assumes nothing.
+-- Readings by the definition. At 0, -0, 1/4, 1/2, 3/4 and 1 cycles: 0, 0, 1, 0, -1 and 0, each zero a +0. At 1/8 and
+-- 5/8: T[512] / 2^30 and its negative. At half a point, 1/8192: T[1] / 2^31. Assumes nothing.
 use mathlib.Core.Path.{_≡_, refl}
 use mathlib.Core.List.{List, [], _∷_, map}
 use Prim.Native.Nat.{ℕ}

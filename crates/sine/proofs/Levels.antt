@@ -1,4 +1,5 @@
--- The whole wave is unfolded from the quarter: its first points are the table's entries, quadrant 1 mirrors quadrant 0, and quadrants 2 and 3 are the negatives of 0 and 1. Assumes nothing.
+-- The whole wave is unfolded from the quarter: points 0 to 1024 are the table's entries, quadrant 1 mirrors quadrant 0,
+-- and quadrants 2 and 3 are the negatives of 0 and 1. Assumes nothing.
 use mathlib.Core.Path.{_≡_, refl, sym, ap, _∙_}
 use mathlib.Core.Bool.{Bool, true, false, cond, true≢false}
 use mathlib.Core.List.{List, [], _∷_, _++_}
@@ -27,7 +28,7 @@ use Rattle.sine.specs.Inner.{Unfolded}
 use Rattle.sine.proofs.Wholes.{Sized, sized-more}
 use Rattle.sine.proofs.Bounds.{start-sized}
 
--- ---- 0 less a whole number is its negative, and +0 of 0
+-- ---- 0 - z is -z for a whole number z, and +0 for 0
 -- 0 - b / c, where b / c is n
 less : (a b c n : ℕ) → 0 < c → a ≡ 0 → b * 1 ≡ n * c → sum binary64 false a true b c ≡ float (negℤ (pos n))
 unfolding sum ofInt
@@ -39,7 +40,7 @@ more : (a b c n : ℕ) → 0 < c → a ≡ 0 → b * 1 ≡ n * c → sum binary6
 unfolding sum
 more a b c n C e h = rw e (round-same binary64 false (0 + b) c n 1 C (lit< tt) (omega arith))
 
--- x is n, or -n
+-- 0 - x, where x is n or, if s, -n
 from-zero : (x : Float) (s : Bool) (n : ℕ) → HasValue x s n 1 → zero64 ⊖ x ≡ cond s (round binary64 false n 1) (float (negℤ (pos n)))
 unfolding ofBits sub neg add
 from-zero nan s n h = absurd h
@@ -54,11 +55,11 @@ unfolding ofInt
 negated (pos n) s = from-zero (round binary64 false n 1) false n (round-whole binary64 false n (s .up))
 negated (negsuc n) s = from-zero (round binary64 true (suc n) 1) true (suc n) (round-whole binary64 true (suc n) (s .down))
 
--- ---- a at a point
+-- ---- 01's a at point i
 abbrev wholeAt : ℕ → ℤ
 wholeAt i = startOf quarter (i / 1024) (i % 1024)
 
--- where the quadrant and the place in it are known
+-- point i is j in quadrant q
 pub at-is : (i q j : ℕ) → i / 1024 ≡ q → i % 1024 ≡ j → levelOf i ≡ float (startOf quarter q j)
 at-is i q j e k = rw (e, k) refl
 
@@ -91,7 +92,8 @@ pub level-at : (i n : ℕ) → i < n → getD (levels n) i nan ≡ levelOf i
 unfolding levels
 level-at i n = listed-at levelOf n i nan
 
--- ---- a table that is written from its start: nothing is written, one of its points is read, one more is written, and all are
+-- ---- a table that is written from its start
+-- no point is written yet; a written point is read; one more is written; all are written
 pub blank : (x : Float) → Unfolded 0 (replicate 4097 x)
 unfolding levels listed
 blank x = record { size = length-replicate 4097 x; points = refl }

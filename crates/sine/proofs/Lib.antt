@@ -7,6 +7,8 @@ pub mod Quadrants
 pub mod Wholes
 -- whole part and the rest
 pub mod Parts
+-- the whole part by a sum
+pub mod Sums
 -- the reading, case by case
 pub mod Points
 -- a reading lies from -1 to 1

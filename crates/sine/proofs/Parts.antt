@@ -1,4 +1,5 @@
--- The whole part of a number from 0 to 4096: what it is by the bits, and that what is left lies from 0 to 1. Assumes nothing.
+-- The whole part of a number p from 0 to 4096: how the bits of p give it, and that p less its whole part lies from 0 to
+-- 1. Assumes nothing.
 use mathlib.Core.Path.{_≡_, refl, sym, _∙_, subst}
 use mathlib.Core.Bool.{Bool, true, false, not, true≢false}
 use Prim.Native.Nat.{ℕ, suc, _+_, _-_, _*_, _/_, _%_, _^_, _≤_, _<_}
@@ -24,7 +25,7 @@ use Rattle.floats.proofs.Pattern.{fieldsOf, scaled}
 use Rattle.floats.proofs.Fields as fields
 use Rattle.sine.specs.Sine.{steps, wholePart, float}
 
--- ---- what is left
+-- ---- p less its whole part
 -- a float that is the whole number n
 of-whole : (y : Float) (n : ℕ) → HasValue y false n 1 → T (nonneg y) × (num y ≡ n * den y)
 of-whole nan n h = absurd h
@@ -32,7 +33,7 @@ of-whole (inf t) n h = absurd h
 of-whole (fin true m e) n h = absurd (true≢false (h .0))
 of-whole (fin false m e) n h = (tt, sym (nat.mul-one _) ∙ h .1)
 
--- a less n * c lies from 0 to c: so it does over the denominator v
+-- a - n * c lies from 0 to c: so it does with each term times v, over c * v
 under : (a c n v : ℕ) → n * c ≤ a → n * v * c ≤ a * v
 under a c n v h = omega (arith, nat.mul-le-mul-right v h)
 
@@ -59,7 +60,7 @@ part-in p h few = go (of-whole y n (round-whole binary64 false n few))
 
 -- ---- a number from 0 to 4096
 module _ (p : Float) (h : T (within zero64 steps p)) where
-  -- 4096 as a fraction
+  -- 4096 is 4096 / 1
   steps-is : (num steps ≡ 4096) × (den steps ≡ 1) × T (nonneg steps)
   unfolding ofBits
   steps-is = (refl, refl, tt)
@@ -78,7 +79,7 @@ module _ (p : Float) (h : T (within zero64 steps p)) where
       go (fin s m e) k = tt
 
   -- p is at most 4096, and so is its whole part
-  at-most : num p ≤ 4096 * den p
+  pub at-most : num p ≤ 4096 * den p
   at-most = nat.le-trans (nat.le-of-eq (sym (nat.mul-one (num p)))) (rw (steps-is .0, steps-is .1) at (le→cross p steps not-negative (steps-is .2) (and-r (le zero64 p) (le p steps) h)))
 
   pub whole-at-most : wholePart p ≤ 4096
@@ -93,7 +94,7 @@ module _ (p : Float) (h : T (within zero64 steps p)) where
 
   -- ---- from 1 on
   module _ (w : T (fits binary64 p)) (t : lt p one ≡ false) where
-    -- 1 ≤ p, as numbers and as fractions
+    -- 1 ≤ p, as floats and as fractions
     from-one : T (le plusOne p)
     from-one = not-lt-le p plusOne (nonneg→finite p not-negative) tt (subst (λ (b : Bool). T (not b)) (sym (rw oneOf-is at t)) tt)
 
@@ -109,7 +110,7 @@ module _ (p : Float) (h : T (within zero64 steps p)) where
     abbrev digits : ℕ
     digits = toBits binary64 p % hid binary64
 
-    -- the exponent's field is that of 1 or more, and the digits reach below 1
+    -- the exponent's field is that of 1 or more, and at most 1,074, so that the shift down is by 1 bit or more
     pub field-ge : emax binary64 ≤ field
     field-ge = fields.field-ge binary64 p w above 0 at-least
 
@@ -119,7 +120,7 @@ module _ (p : Float) (h : T (within zero64 steps p)) where
         room : (a c : ℕ) → 0 < c → a ≤ 4096 * c → a < 8192 * c
         room a c C l = omega arith
 
-    -- so the whole part is what is left of the digits, shifted down
+    -- so the whole part is the digits, with the hidden bit, shifted down
     pub whole-is : (hid binary64 + digits) / 2 ^ (suc (low binary64) - field) ≡ wholePart p
     whole-is =
         sym

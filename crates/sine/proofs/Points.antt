@@ -1,4 +1,5 @@
--- The reading of a table, case by case: outside 0 to 1, at the last of the 4,096 points, and elsewhere. Assumes nothing.
+-- The reading of a table, case by case: u from 0 to 1 or not, and p = u * 4096 with the whole part 4096 or another.
+-- Assumes nothing.
 use mathlib.Core.Path.{_≡_, refl, sym, ap, _∙_, subst}
 use mathlib.Core.Bool.{Bool, true, false, cond}
 use mathlib.Core.List.{List}

@@ -1,4 +1,5 @@
--- The four quadrants of a table by two tests: 0 and 2 run up the table, 1 and 3 down; 2 and 3 are negative. Assumes nothing.
+-- The four quadrants by two tests: quadrants 0 and 2 run up the table, 1 and 3 down; 2 and 3 are negative. Assumes
+-- nothing.
 use mathlib.Core.Path.{_≡_, refl}
 use mathlib.Core.List.{List}
 use Prim.Native.Nat.{ℕ, zero, suc, _+_, _-_, _/_, _%_, _<_}

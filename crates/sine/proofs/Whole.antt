@@ -1,10 +1,11 @@
--- The reading of an unfolded wave, case by case; and that of the whole wave it is the reading of the quarter, since b at a point is a at the next. Assumes nothing.
+-- The reading of an unfolded wave, case by case. The reading of the whole wave is that of the quarter wave, since b at
+-- a point is a at the next. Assumes nothing.
 use mathlib.Core.Path.{_≡_, refl, sym, ap, _∙_, subst}
 use mathlib.Core.Bool.{Bool, true, false, cond, and-false}
 use mathlib.Core.List.{List}
 use mathlib.Core.Logic.{⊎-elim}
 use Prim.Native.Nat.{ℕ, zero, suc, _+_, _-_, _/_, _%_, _≤_, _<_}
-use native.Mathlib.Nat.{eq-or-lt-of-le, le-of-suc-le-suc}
+use native.Mathlib.Nat.{eq-or-lt-of-le, le-of-suc-le-suc, mod-eq-of-lt}
 use native.Mathlib.Omega.{arith}
 use borrow.Author.Tests.{eq-eqb, ne-eqb, eqb-true, eqb-false}
 use lib.IntN.{pos, negℤ}
@@ -19,6 +20,7 @@ use Rattle.sine.specs.Sine.{steps, wholePart, float, startOf, endOf, bet
 use Rattle.sine.specs.Whole.{levelOf, levels, wholeWave, wholeLine, wholePointOf, wholeReading}
 use Rattle.sine.proofs.Rules.{entry-0}
 use Rattle.sine.proofs.Parts.{whole-at-most}
+use Rattle.sine.proofs.Sums.{none-left}
 use Rattle.sine.proofs.Points.{reading-inside, reading-outside, point-last, point-at, points-in}
 use Rattle.sine.proofs.Levels.{at-is, level-at}
 
@@ -47,6 +49,17 @@ module _ (W : List Float) where
   whole-at p i e n =
       ap (λ (b : Bool). cond b (wholeLine W 0 zero64) (wholeLine W (wholePart p) (p ⊖ float (pos (wholePart p))))) (ne-eqb (wholePart p) 4096 (λ (z : wholePart p ≡ 4096). n (e ∙ z)))
       ∙ ap (λ (k : ℕ). wholeLine W k (p ⊖ float (pos k))) (sym e)
+
+  -- 4096 is read as 0, where nothing is left: so the point is a remainder
+  pub whole-near : (p : Float) → T (within zero64 steps p) → wholePointOf W p ≡ wholeLine W (wholePart p % 4096) (p ⊖ float (pos (wholePart p)))
+  whole-near p h = go (eqb (wholePart p) 4096) refl
+    where
+      go : (t : Bool) → eqb (wholePart p) 4096 ≡ t → wholePointOf W p ≡ wholeLine W (wholePart p % 4096) (p ⊖ float (pos (wholePart p)))
+      go true e = let l = eqb-true (wholePart p) 4096 e in whole-last p l ∙ rw (none-left p h l, l) refl
+      go false e =
+          let n = eqb-false (wholePart p) 4096 e in
+          let few = whole-at-most p h in
+          whole-at p (wholePart p) refl n ∙ ap (λ (i : ℕ). wholeLine W i (p ⊖ float (pos (wholePart p)))) (sym (mod-eq-of-lt {n = wholePart p} {m = 4096} (omega (arith, n, few))))
 
 -- ---- b at a point is a at the next: within a quadrant, and over its end, where T[0] is 0
 next-within : (q j : ℕ) → startOf quarter q (j + 1) ≡ endOf quarter q j

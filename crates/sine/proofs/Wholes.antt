@@ -1,4 +1,5 @@
--- Whole numbers as floats: what fraction each is, that the difference of two is exact, and that those up to 2^30 in size lie from -2^30 to 2^30. Assumes nothing.
+-- Whole numbers as floats: the fraction that each is; the difference of two up to 2^51 in size is exact; those up to
+-- 2^30 in size lie from -2^30 to 2^30, compared as floats. Assumes nothing.
 use mathlib.Core.Path.{_≡_, refl, sym, ap, _∙_}
 use mathlib.Core.Bool.{Bool, true, false, not, cond, true≢false}
 use Prim.Native.Nat.{ℕ, zero, suc, _+_, _-_, _*_, _^_, _<_, _≤_}
@@ -40,7 +41,7 @@ sized-neg m (pos zero) s = s
 sized-neg m (pos (suc n)) s = record { up = s .down; down = s .up }
 sized-neg m (negsuc n) s = record { up = s .down; down = s .up }
 
--- and what has a size has any larger one
+-- z is at most m in size: it is at most any larger k
 pub sized-more : (m k : ℕ) (z : ℤ) → m ≤ k → Sized m z → Sized k z
 sized-more m k z h s = record { up = le-trans (s .up) h; down = le-trans (s .down) h }
 
@@ -73,7 +74,7 @@ record Difference (x y : ℕ) : Type 0 where
   is : x + losses whole ≡ gains whole + y
   sized : Sized (x + y) whole
 
--- which is x - y, or -(y - x)
+-- the whole number is x - y, or -(y - x)
 difference : (x y : ℕ) → Difference x y
 difference x y = go (leb y x) (leb→le y x) (nleb→lt y x)
   where

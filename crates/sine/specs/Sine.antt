@@ -1,7 +1,13 @@
--- The reading of the quarter wave T. 01: "A reading: p = u*4096, i its whole part, f = p - i; i = 4096 is read as i = 0, f = 0. With j = i mod 1024, quadrant 0 reads a = T[j], b = T[j+1];
--- quadrant 1 reads a = T[1024-j], b = T[1023-j]; quadrants 2 and 3 are the negatives of 0 and 1, negated as whole numbers, so a zero reads as +0. The answer is (a + (b - a)*f)/2^30".
--- u is 0 to 1; any other, a NaN too, is refused with 9 and +0. Each operation is rounded once. No samples are written: count is 0. T is an argument, so that a loop can be lent a table that
--- is made once: it is read by the same rule whatever it holds, and the sine is the reading of `quarter`. Definitions only.
+-- The reading of the quarter wave T. 01, "Pitch and sine": "A reading: p = u*4096, i its whole part, f = p - i; i =
+-- 4096 is read as i = 0, f = 0. With j = i mod 1024, quadrant 0 reads a = T[j], b = T[j+1]; quadrant 1 reads a =
+-- T[1024-j], b = T[1023-j]; quadrants 2 and 3 are the negatives of 0 and 1, negated as whole numbers, so a zero reads
+-- as +0. The answer is (a + (b - a)*f)/2^30".
+--
+-- u is in cycles, 0 to 1. Any other u, a NaN too, is refused with 9, and the value is +0. No sample is written, so the
+-- count is 0. Each operation is rounded once.
+--
+-- T is an argument, so that a loop can be lent a table that is made once. The rule is one for all tables; the sine is
+-- the reading of `quarter`. Definitions only.
 use mathlib.Core.Bool.{Bool, cond}
 use mathlib.Core.List.{List}
 use Prim.Native.Nat.{ℕ, zero, suc, _+_, _-_, _/_, _%_}
@@ -33,11 +39,11 @@ wholePart x = num x / den x
 abbrev pub float : ℤ → Float
 float z = ofInt binary64 z
 
--- z, or -z
+-- -n if negative, else n
 abbrev pub signedOf : Bool → ℕ → ℤ
 signedOf negative n = cond negative (negℤ (pos n)) (pos n)
 
--- a and b of a quadrant at j
+-- 01's a and b, in a quadrant at j
 unfoldable pub startOf : List ℕ → ℕ → ℕ → ℤ
 startOf T zero j = pos (getD T j 0)
 startOf T (suc zero) j = pos (getD T (1024 - j) 0)
@@ -52,11 +58,11 @@ endOf T (suc (suc q)) j = negℤ (endOf T q j)
 abbrev pub lineOf : Float → Float → Float → Float
 lineOf a b f = (a ⊕ (b ⊖ a) ⊗ f) ⊘ scale
 
--- between point i of the wave and the next, at the part f
+-- between point i of the wave and the next, at the fraction f
 abbrev pub betweenOf : List ℕ → ℕ → Float → Float
 betweenOf T i f = lineOf (float (startOf T (i / 1024) (i % 1024))) (float (endOf T (i / 1024) (i % 1024))) f
 
--- at p points from the start
+-- the reading at p points from the start of the wave, which has 4,096
 unfoldable pub pointOf : List ℕ → Float → Float
 pointOf T p = let i = wholePart p in cond (eqb i 4096) (betweenOf T 0 zero64) (betweenOf T i (p ⊖ float (pos i)))
 

@@ -1,5 +1,8 @@
--- The quarter wave. 01: "Its quarter wave T has 1,025 whole numbers from 0 to 1,073,741,824 (A = 2^30) .. entry k is the one nearest to A*sin(k*pi/2048)". Sixteen entries to a line.
--- Made by rounding A*sin(k*pi/2048), worked out to 80 digits; tests/sine-table-is-nearest.test checks each entry again, in whole numbers. Definitions only.
+-- The quarter wave. 01, "Pitch and sine": "Its quarter wave T has 1,025 whole numbers from 0 to 1,073,741,824 (A =
+-- 2^30)"; "entry k is the one nearest to A*sin(k*pi/2048)".
+--
+-- Each entry was computed to 80 digits and rounded; tests/sine-table-is-nearest.test checks each again, in whole
+-- numbers. Sixteen entries to a line. Definitions only.
 use mathlib.Core.List.{List, [], _∷_}
 use Prim.Native.Nat.{ℕ}
 use lib.ListN.{getD}

@@ -99,7 +99,8 @@ fn between(wave: &[u32; 1025], i: u32, f: f64) -> f64
     )
 }
 
-fn line(a: f64, b: f64, f: f64) -> f64
+// The fraction f of the way from a to b, over 2^30.
+pub fn line(a: f64, b: f64, f: f64) -> f64
     ensures { λ r. ⌜ r ≡ lineOf a b f ⌝ }
 {
     (a + (b - a) * f) / 1073741824.0

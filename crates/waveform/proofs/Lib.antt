@@ -1,11 +1,11 @@
--- What the proofs of this crate and of those above cite.
--- one sample more, and a block run on
+-- What is proved of a sample and of a block beyond the contracts; the crates that use this one cite it too.
+-- one sample more, and a block continued
 pub mod Steps
--- what the inner loops share
+-- the invariant of every loop that fills a block
 pub mod Loops
--- the ranges of what is made of radians
+-- the ranges of a normalised phase, of a reduced phase and of dt
 pub mod Normal
--- the remainder of a phase by whole numbers
+-- phase % TAU by integers
 pub mod Remainders
 -- a value is an f64, and every sample of a block is finite
 pub mod Values

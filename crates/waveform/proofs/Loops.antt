@@ -1,4 +1,5 @@
--- What the inner loops share, whatever the value at a phase: how far one has come, that it begins, goes on and ends so. Assumes nothing.
+-- The invariant of every loop that fills a block, for any function from a phase to its value: it holds before the first
+-- sample, each sample written keeps it, and after the last it gives `FilledBy`. Assumes nothing.
 use mathlib.Core.Path.{_≡_, refl, sym, subst, ap, _∙_}
 use mathlib.Core.List.{List}
 use Prim.Native.Nat.{ℕ, _+_, _≤_, _<_}
@@ -14,7 +15,7 @@ use Rattle.waveform.specs.Filled.{phaseFrom, samplesBy, FilledBy}
 use Rattle.waveform.specs.declared.Radians.{Radians}
 use Rattle.waveform.proofs.Steps.{phase-more, samples-more}
 
--- the first i samples are written over what stood before, and the phase stands before sample i
+-- the list was `before` and is `out`: its first i samples are written, and p is the phase before sample i
 pub record FilledUpTo (value : Float → Float) (step scale p₀ : Float) (before out : List Float) (p : Float) (i : ℕ) : Type 0 where
   pub size : length out ≡ length before
   pub within : i ≤ length out
@@ -35,7 +36,7 @@ module _ (value : Float → Float) (step scale p₀ : Float) (before : List Floa
         samples = rw (samples-more value step scale p₀ i, add-one i, take-suc-set, u .samples, e, u .phase) refl;
       }
 
-  -- four of them
+  -- four samples written in one turn
   pub goes-on-four : (out : List Float) (p v₀ v₁ v₂ v₃ : Float) (i : ℕ) → FilledUpTo value step scale p₀ before out p i → i + 4 ≤ length out → v₀ ≡ value p → v₁ ≡ value (p ⊕ step) → v₂ ≡ value (p ⊕ step ⊕ step) → v₃ ≡ value (p ⊕ step ⊕ step ⊕ step)
       → FilledUpTo value step scale p₀ before (set (set (set (set out i (v₀ ⊗ scale)) (i + 1) (v₁ ⊗ scale)) (i + 2) (v₂ ⊗ scale)) (i + 3) (v₃ ⊗ scale)) (p ⊕ step ⊕ step ⊕ step ⊕ step) (i + 4)
   goes-on-four out p v₀ v₁ v₂ v₃ i u h e₀ e₁ e₂ e₃ =
@@ -61,6 +62,6 @@ module _ (value : Float → Float) (step scale p₀ : Float) (before : List Floa
         phase = rw (← u .size, ← e) (ap radians (u .phase));
       }
 
-  -- what is filled so is decided: every sample, and the phase
+  -- `FilledBy` decides every sample, and the phase after the last
   pub filled-same : (a b : List Float) (r t : Radians) → FilledBy value p₀ step scale before a r → FilledBy value p₀ step scale before b t → (a ≡ b) × (r ≡ t)
   filled-same a b r t p q = (p .samples ∙ sym (q .samples), p .phase ∙ sym (q .phase))

@@ -1,5 +1,8 @@
--- What is made of radians lies where a sample asks it: the normalised phase from 0 to 1, for every finite phase that is not negative; dt from 0 to 4, for a frequency to 20,000 Hz and a rate from 8,000 Hz on;
--- a reduced phase, of such a one, from 0 up to, not including, TAU. An upper bound is the same operation at the worst literals, computed. Assumes nothing.
+-- Radians give numbers in the domain of one sample. For every finite phase that is not negative, the normalised phase
+-- lies from 0 to 1, and the reduced phase from 0 up to, not including, TAU. dt lies from 0 to 4, for a frequency up to
+-- 20,000 Hz and a rate of 8,000 Hz or more.
+-- Rounded operations are monotone, so an upper bound is the operation at the extreme arguments, computed. Assumes
+-- nothing.
 use mathlib.Core.Path.{_≡_, refl, subst}
 use mathlib.Core.Bool.{Bool, true, false}
 use Prim.Native.Nat.{ℕ, _≤_, _<_}
@@ -33,7 +36,7 @@ tau-nonneg = unfold ofBits in tt
 pub inv-nonneg : T (nonneg invTau)
 inv-nonneg = unfold ofBits in tt
 
--- 0 ≤ x, by the literal
+-- 0 ≤ x, with the code's literal 0.0 for `plusZero`
 from-zero : (x : Float) → T (le plusZero x) → T (le zero64 x)
 from-zero x h = rw (zeroOf-is binary64) h
 
@@ -50,7 +53,7 @@ module _ (p : Float) (w : T (fits binary64 p)) (h : T (nonneg p)) where
       (fle-trans (normalOf p) (tau ⊗ invTau) one (mul-mono binary64 r tau invTau invTau rem-nonneg tau-nonneg inv-nonneg inv-nonneg (rem-le binary64 p tau tau-fits h tau-positive) (fle-refl invTau (nonneg→finite invTau inv-nonneg)))
       (unfold ofBits in unfold mul in unfold le in tt))
 
-  -- a phase that is not negative: the remainder, below TAU
+  -- a phase that is not negative is reduced to its remainder, which is below TAU
   pub reduce-is : reduceOf p ≡ rem binary64 p tau
   unfolding reduceOf
   reduce-is = rw (not-below (rem binary64 p tau) rem-nonneg) refl
@@ -75,7 +78,7 @@ highest = ofBits binary64 0x40d3_8800_0000_0000
 abbrev lowestRate : Float
 lowestRate = ofBits binary64 0x40bf_4000_0000_0000
 
--- a rate of 8,000 or more as a float
+-- a rate of 8,000 Hz or more is 8,000 or more as a float
 rate-le : (rate : ℕ) → 8000 ≤ rate → T (le lowestRate (ofInt binary64 (pos rate)))
 unfolding ofInt
 rate-le rate h = rw (whole) (round-mono binary64 8000 1 rate 1 (lit< tt) (lit< tt) (nat.mul-le-mul-right 1 h))
@@ -90,7 +93,7 @@ module _ (frequency : Float) (rate : ℕ) (f : T (within zero64 highest frequenc
   frequency-nonneg : T (nonneg frequency)
   frequency-nonneg = within-nonneg highest frequency (unfold ofBits in tt) (subst (λ (z : Float). T (within z highest frequency)) (zeroOf-is binary64) f)
 
-  -- frequency / rate is at most 2.5, and so the rest at most 2.5 * TAU and 2.5 * TAU * INV_TAU
+  -- frequency / rate is at most 2.5, so the increment is at most 2.5 * TAU, and dt at most 2.5 * TAU * INV_TAU
   ratio-le : T (le (frequency ⊘ ofInt binary64 (pos rate)) (highest ⊘ lowestRate))
   ratio-le = div-mono binary64 frequency highest (ofInt binary64 (pos rate)) lowestRate frequency-nonneg (unfold ofBits in tt) rate-positive (unfold ofBits in tt) (and-r (le zero64 frequency) (le frequency highest) f) (rate-le rate r)
 

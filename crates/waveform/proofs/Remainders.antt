@@ -1,4 +1,6 @@
--- A phase's remainder by whole numbers: below TAU the phase is its own, in the next cycle TAU less, and from TAU up to 2^14 the phase and TAU are whole numbers of 2^-50, the phase by its bits. Assumes nothing.
+-- phase % TAU without a remainder of floats: below TAU it is the phase, below 2 TAU the phase less TAU, and from TAU up
+-- to 2^14 a remainder of integers, as TAU and the phase, read from its bits, are whole multiples of 2^-50. Assumes
+-- nothing.
 use mathlib.Core.Path.{_≡_, refl, sym, subst, ap, _∙_}
 use mathlib.Core.Bool.{Bool, true, false, not, _&&_}
 use Prim.Native.Nat.{ℕ, zero, suc, _+_, _-_, _*_, _/_, _%_, _^_, _≤_, _<_}
@@ -61,7 +63,7 @@ module _ (x : Float) (w : T (fits binary64 x)) (h : T (le tau x)) (l : T (lt x f
   abbrev digits : ℕ
   digits = 4503599627370496 + toBits binary64 x % 4503599627370496
 
-  -- the exponent's field is that of 4 or more, and of less than 2^14
+  -- the exponent's field is that of a number from 4 up to, not including, 2^14
   pub field-least : 1025 ≤ field
   field-least = field-ge binary64 x w x-positive 2 (four (num x) (den x) (rw (tau-is .0, tau-is .1) at (le→cross tau x tau-nonneg x-nonneg h)))
     where
@@ -74,14 +76,14 @@ module _ (x : Float) (w : T (fits binary64 x)) (h : T (le tau x)) (l : T (lt x f
       top : (a c : ℕ) → a * 1 < 16384 * c → a < 16384 * c
       top a c h = omega arith
 
-  -- so the digits, shifted up, keep within a word
+  -- so the digits, shifted up, are below 2^64
   pub shifted : digits * 2 ^ (field - 1025) < 18446744073709551616
   shifted = room digits (2 ^ (field - 1025)) (omega arith) (pow-pos (field - 1025)) (pow-mono {j = 11} (omega (arith, field-most)))
     where
       room : (d p : ℕ) → d < 9007199254740992 → 0 < p → p ≤ 2048 → d * p < 18446744073709551616
       room d p h P k = omega (arith, nat.mul-lt-mul-of-pos-right h P)
 
-  -- and are x in units of 2^-50
+  -- the shifted digits are x in units of 2^-50
   pub units-are : num x * 2 ^ 50 ≡ digits * 2 ^ (field - 1025) * den x
   units-are = go field (toBits binary64 x % 4503599627370496) (num x) (den x) field-least (crossed binary64 x w x-positive)
     where
@@ -97,7 +99,7 @@ module _ (x : Float) (w : T (fits binary64 x)) (h : T (le tau x)) (l : T (lt x f
           whole : (y : ℕ) → 1025 ≤ suc y → y ≡ suc y - 1025 + 1024
           whole y h = omega arith
 
--- ---- the tests that the code makes
+-- ---- what the tests of `remainder` show
 module _ (x : Float) (t : (le zero64 x && lt x far) ≡ true) where
   below-far : T (lt x far)
   below-far = and-r (le zero64 x) (lt x far) (subst T (sym t) tt)
@@ -105,18 +107,18 @@ module _ (x : Float) (t : (le zero64 x && lt x far) ≡ true) where
   phase-nonneg : T (nonneg x)
   phase-nonneg = under x far (le→ge0 x (rw zeroOf-is at (and-l (le zero64 x) (lt x far) (subst T (sym t) tt)))) (nonneg→finite far far-nonneg) (lt-le x far below-far)
 
-  -- a phase below TAU
+  -- a phase below TAU is its own remainder
   pub below-tau : T (fits binary64 x) → lt x tau ≡ true → x ≡ rem binary64 x tau
   below-tau w l = sym (rem-below binary64 x tau w phase-nonneg tau-positive (subst T (sym l) tt))
 
-  -- any other
+  -- a phase that is not below TAU lies from TAU up to 2^14
   pub from-tau : lt x tau ≡ false → T (le tau x) × T (lt x far)
   from-tau l = (not-lt-le x tau (nonneg→finite x phase-nonneg) (nonneg→finite tau tau-nonneg) (subst (λ (b : Bool). T (not b)) (sym l) tt), below-far)
 
   x-above : lt x tau ≡ false → T (positive x)
   x-above l = ge0-positive tau x tau-positive (from-tau l .0) (nonneg→finite x phase-nonneg)
 
-  -- a phase in the next cycle
+  -- the remainder of a phase from TAU up to 2 TAU is the phase less TAU
   pub next-cycle : lt x tau ≡ false → lt x twoTau ≡ true → x ⊖ tau ≡ rem binary64 x tau
   next-cycle l k =
       rem-once binary64 x tau (x-above l) tau-positive (le→cross tau x tau-nonneg phase-nonneg (from-tau l .0))

@@ -1,4 +1,4 @@
--- One sample more of a block, sample i of it, and a block run on. Assumes nothing.
+-- One sample more of a block, sample i of a block, and a block continued from where another ends. Assumes nothing.
 use mathlib.Core.Path.{_≡_, refl, ap, _∙_}
 use mathlib.Core.List.{[], _∷_, _++_}
 use Prim.Native.Nat.{ℕ, _+_, _<_}
@@ -10,12 +10,12 @@ use Rattle.floats.specs.Double.{_⊕_, _⊗_}
 use Rattle.waveform.specs.Filled.{phaseFrom, samplesBy}
 
 module _ (step p : Float) where
-  -- the phase of one turn more
+  -- the phase after one sample more
   pub phase-more : (k : ℕ) → phaseFrom step p (k + 1) ≡ phaseFrom step p k ⊕ step
   unfolding phaseFrom
   phase-more = repeated-more (λ (q : Float). q ⊕ step) p
 
-  -- j samples and then k from the phase there are j + k samples: the inner loop may be cut anywhere
+  -- j samples, then k from the phase after those j, are j + k samples: a block may be divided anywhere
   pub phase-on : (j k : ℕ) → phaseFrom step p (j + k) ≡ phaseFrom step (phaseFrom step p j) k
   unfolding phaseFrom
   phase-on = repeated-on (λ (q : Float). q ⊕ step) p
@@ -25,7 +25,7 @@ module _ (value : Float → Float) (step scale p : Float) where
   unfolding samplesBy
   samples-more = listed-more _
 
-  -- as many as were asked for
+  -- the first k samples are k numbers
   pub samples-length : (k : ℕ) → length (samplesBy value step scale p k) ≡ k
   unfolding samplesBy
   samples-length = listed-length _
@@ -39,7 +39,7 @@ module _ (value : Float → Float) (step scale p : Float) where
   unfolding samplesBy
   samples-on j k = listed-on _ j k ∙ ap (_++_ (samplesBy value step scale p j)) (listed-same _ _ k (λ i l. rw (phase-on step p j i) refl))
 
--- the same values give the same samples
+-- two functions that give equal values at every phase give equal samples
 pub samples-same : (value other : Float → Float) (step scale p : Float) → ((q : Float) → value q ≡ other q) → (k : ℕ) → samplesBy value step scale p k ≡ samplesBy other step scale p k
 unfolding samplesBy
 samples-same value other step scale p e k = listed-same _ _ k (λ i l. ap (λ (x : Float). x ⊗ scale) (e (phaseFrom step p i)))

@@ -1,4 +1,5 @@
--- Every sample of a block is finite, however long the block is: the phase grows to 2^60 at most, where a step no longer moves it, so each value is taken in its domain. And a value is an f64. Assumes nothing.
+-- Every sample of a block is finite, however long the block is: the phase grows to 2^60 at most, as 2^60 plus a step
+-- rounds to 2^60, so each value is taken in its domain. And every value is an f64. Assumes nothing.
 use mathlib.Core.Path.{_≡_, refl, subst, sym}
 use mathlib.Core.Bool.{Bool, true, false, not}
 use Prim.Native.Nat.{ℕ, _<_}
@@ -28,7 +29,7 @@ use Rattle.waveform.specs.Filled.{phaseFrom, valueAt, samplesFrom}
 use Rattle.waveform.proofs.Normal.{normal-in}
 use Rattle.waveform.proofs.Steps.{sample-at}
 
--- ---- a value is an f64, of any phase and step
+-- ---- a value is an f64, at any phase and dt
 point-fits : (p : Float) → T (fits binary64 (pointOf quarter p))
 unfolding pointOf
 point-fits p =
@@ -47,7 +48,7 @@ value-fits Sawtooth phase dt = sub-fits binary64 _ _
 value-fits Triangle phase dt = sub-fits binary64 _ _
 value-fits (Pulse duty) phase dt = sub-fits binary64 _ _
 
--- in the domain of one sample it is finite
+-- in the domain of one sample the value is finite
 pub value-finite : (w : Waveform) (phase dt : Float) → T (isWaveform w) → Domain phase dt → T (finite (valueOf w phase dt))
 unfolding valueOf
 value-finite Sine phase dt s h = reading-finite phase
@@ -56,7 +57,7 @@ value-finite Sawtooth phase dt s h = saw-finite phase dt h
 value-finite Triangle phase dt s h = triangle-finite phase dt h
 value-finite (Pulse duty) phase dt s h = pulse-finite phase dt h duty s
 
--- and so it is at any phase in radians that is not negative
+-- the value is finite at every finite phase in radians that is not negative
 pub value-at-finite : (w : Waveform) (step p : Float) → T (isWaveform w) → T (fits binary64 p) → T (nonneg p) → T (within zero64 four (step ⊗ invTau)) → T (finite (valueAt w step p))
 value-at-finite w step p c f n d =
     let u = normalOf p in
@@ -65,7 +66,7 @@ value-at-finite w step p c f n d =
     (record { t-fits = mul-fits binary64 _ invTau; dt-fits = mul-fits binary64 step invTau; in-range = and-i (within zero64 one u) (within zero64 four dt) (normal-in p f n) d })
 
 -- ---- the phase of a long block
--- 2^60, and 16: a step is below the last
+-- 2^60 and 16, in radians: a step of an accepted block is below 16
 abbrev pub far : Float
 far = ofBits binary64 0x43b0_0000_0000_0000
 
@@ -78,7 +79,7 @@ pub record Near (p : Float) : Type 0 where
   pub p-le : T (le p far)
 
 module _ (step p : Float) (s : T (nonneg step)) (l : T (le step sixteen)) (h : Near p) where
-  -- 2^60 + 16 is 2^60
+  -- 2^60 + 16 rounds to 2^60
   grown-le : (q : Float) → Near q → T (le (q ⊕ step) far)
   grown-le q n =
       fle-trans (q ⊕ step) (far ⊕ sixteen) far (add-mono binary64 q far step sixteen (n .p-nonneg) (unfold ofBits in tt) s (unfold ofBits in tt) (n .p-le) l)
@@ -92,7 +93,7 @@ module _ (step p : Float) (s : T (nonneg step)) (l : T (le step sixteen)) (h : N
       grown q n = record { p-fits = add-fits binary64 q step; p-nonneg = under (q ⊕ step) far (add-ge0 binary64 q step (n .p-nonneg) s) (unfold ofBits in tt) (grown-le q n); p-le = grown-le q n }
 
 -- ---- samples
--- x * t for t from 0 to 1
+-- x * t is finite, for a finite x and a t from 0 to 1
 pub scaled-finite : (x t : Float) → T (fits binary64 x) → T (finite x) → T (within zero64 one t) → T (finite (x ⊗ t))
 scaled-finite x t w k h = go (le plusZero x) refl
   where

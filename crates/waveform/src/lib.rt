@@ -1,6 +1,6 @@
-// waveform.rs of the original: one sample of a waveform. Phases are radians here; what a single sample takes is a phase and
-// a step of it as fractions of a cycle, and `normalised` makes the first of radians. Left out, as 01 says: noise and the
-// simd paths.
+// waveform.rs of the original: one sample of a waveform. `sample` and `value_at` take the phase and dt, the step of the
+// phase in one sample, in cycles; a block counts both in radians, which `normalised` and `in_cycles` turn into cycles.
+// Left out, as 01 says: noise and the simd paths.
 ghost use mathlib.Core.Path.{_≡_};
 ghost use Prim.Native.Nat.{_*_, _^_};
 ghost use lib.Dec.{T};
@@ -12,20 +12,20 @@ ghost use Rattle.floats.specs.Double.{_⊗_};
 use answers::Refusal;
 use answers::Value;
 
-// The bits of the original's constants.
+// TAU and INV_TAU have the bits of the original's constants; TWO_TAU is exactly twice TAU.
 pub const TAU: f64 = 6.283185307179586;
 
 const INV_TAU: f64 = 0.15915494309189535;
 
 pub const TWO_TAU: f64 = 12.566370614359172;
 
-// TAU * 2^50.
+// TAU * 2^50, which is a whole number.
 const TAU_IN_FIXED_POINT: u64 = 0x19_21fb_5444_2d18;
 
-// A number of radians; a number of cycles is another type.
+// A number of radians, as a type of its own, so that no number of cycles (a plain f64 here) is taken for radians.
 pub struct Radians(pub f64);
 
-// The shape; a pulse carries its own duty, the fraction of the cycle that it is high.
+// A pulse carries its own duty: the fraction of the cycle, 0 to 1, in which the pulse is high.
 pub enum Waveform {
     Sine,
     Square,
@@ -34,7 +34,7 @@ pub enum Waveform {
     Pulse(f64),
 }
 
-// One sample at a normalised phase and step.
+// One sample; phase (0 to 1) and dt (0 to 4) are in cycles. The duty is refused with 6, else phase or dt with 9.
 pub fn sample(waveform: Waveform, phase: f64, dt: f64) -> Value
     ensures { λ r. ⌜ r ≡ sampleOf waveform phase dt ⌝ }
 {
@@ -48,7 +48,7 @@ pub fn sample(waveform: Waveform, phase: f64, dt: f64) -> Value
     answers::value_if(false, Refusal::Setting, 0.0)
 }
 
-// A duty outside 0 to 1 is no setting.
+// False only for a pulse whose duty is outside 0 to 1 or a NaN.
 pub fn is_waveform(waveform: Waveform) -> bool
     ensures { λ r. ⌜ r ≡ isWaveform waveform ⌝ }
 {
@@ -61,7 +61,7 @@ pub fn is_waveform(waveform: Waveform) -> bool
     }
 }
 
-// What `sample` gives, of any numbers, judged or not.
+// The value that `sample` gives when it accepts; defined for every phase, dt and duty.
 pub fn value_at(waveform: Waveform, phase: f64, dt: f64) -> f64
     ensures { λ r. ⌜ r ≡ valueOf waveform phase dt ⌝ }
 {
@@ -74,28 +74,28 @@ pub fn value_at(waveform: Waveform, phase: f64, dt: f64) -> f64
     }
 }
 
-// One sample of a phase and a step in radians.
+// The value at (phase % TAU) * INV_TAU, with dt = step * INV_TAU.
 pub fn wave_at(waveform: Waveform, phase: Radians, step: Radians) -> f64
     ensures { λ r. ⌜ r ≡ valueAt waveform (step .0) (phase .0) ⌝ }
 {
     value_at(waveform, normalised(phase), in_cycles(step))
 }
 
-// A phase in radians as a fraction of a cycle.
+// (phase % TAU) * INV_TAU: the phase as a fraction of its cycle.
 pub fn normalised(phase: Radians) -> f64
     ensures { λ r. ⌜ r ≡ normalOf (phase .0) ⌝ }
 {
     in_cycles(remainder(phase))
 }
 
-// The one place where radians become fractions of a cycle.
+// The one place where radians become cycles.
 pub fn in_cycles(x: Radians) -> f64
     ensures { λ r. ⌜ r ≡ x .0 ⊗ invTau ⌝ }
 {
     x.0 * INV_TAU
 }
 
-// A phase less its whole cycles; TAU itself for a negative phase too small to move it.
+// The phase modulo TAU, never negative: TAU itself where a negative remainder is so small that the sum rounds to TAU.
 pub fn reduced(phase: Radians) -> Radians
     ensures { λ r. ⌜ r ≡ radians (reduceOf (phase .0)) ⌝ }
 {
@@ -106,8 +106,9 @@ pub fn reduced(phase: Radians) -> Radians
     rest
 }
 
-// phase % TAU, to the bit, with no call of C's function in a phase's usual range: below TAU it is the phase, in the next cycle
-// TAU less, and from there both are whole numbers of 2^-50, whose remainder is taken of integers. Nothing is rounded.
+// phase % TAU, to the bit, without a call of C's `fmod` for a phase from 0 up to 16,384: below TAU it is the phase,
+// below 2 TAU the phase less TAU, and from there phase and TAU are whole multiples of 2^-50, so that integers give the
+// remainder. Nothing is rounded.
 pub fn remainder(phase: Radians) -> Radians
     ensures { λ r. ⌜ r ≡ radians (remainderOf (phase .0)) ⌝ }
 {
@@ -124,7 +125,7 @@ pub fn remainder(phase: Radians) -> Radians
     Radians(x % TAU)
 }
 
-// x * 2^50, from the bits.
+// x * 2^50, from the bits of x: from 4 on, the lowest bit of an f64 is worth 2^-50 or more, so the product is whole.
 fn in_fixed_point(x: f64) -> u64
     requires { ⌜ T (le tau x) × T (lt x (ofBits binary64 0x40d0_0000_0000_0000)) ⌝ }
     ensures { λ r. ⌜ num x * 2 ^ 50 ≡ r * den x ⌝ }
@@ -135,7 +136,7 @@ fn in_fixed_point(x: f64) -> u64
     digits << (field - 1025)
 }
 
-// How far the phase moves in one sample, of a frequency in Hz at a rate in Hz.
+// How far the phase moves in one sample, in radians; frequency and rate are in Hz.
 pub fn increment(frequency: f64, rate: u32) -> Radians
     ensures { λ r. ⌜ r ≡ radians (incrementOf frequency rate) ⌝ }
 {

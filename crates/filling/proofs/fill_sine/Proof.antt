@@ -1,4 +1,5 @@
--- `filling::fill_sine` meets its contract. The loop's invariant is `FilledUpTo` of waveform's proofs/Loops.antt. Assumes nothing.
+-- `filling::fill_sine` meets its contract. The loop's invariant is `FilledUpTo` of waveform's proofs/Loops.antt.
+-- Assumes nothing.
 use borrow.Author.Needs.{needs}
 use mathlib.Core.Path.{_≡_, refl}
 use Prim.Native.Nat.{_-_}

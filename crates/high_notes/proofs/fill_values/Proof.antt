@@ -1,59 +1,31 @@
--- `high_notes::fill_values` meets its contract. The loop's invariant: the first i numbers are made, the others are as they were. Assumes nothing.
+-- `high_notes::fill_values` meets its contract. Assumes nothing.
 use borrow.Author.Needs.{needs}
-use mathlib.Core.Path.{refl}
-use Prim.Native.Nat.{_-_}
-use native.Mathlib.Omega.{arith}
-use lib.ListN.{length}
-use lib.Ieee.{Float}
-use Rattle.floats.specs.Double.{_⊗_}
-use Rattle.waveform.specs.Waveform.{valueOf, invTau}
-use Rattle.high_notes.proofs.Remaking.{Remade, remade-none, remade-more, remade-all, still-fraction}
 use Rattle.high_notes.proofs.fill_values.Statement.{statement}
 use Rattle.high_notes.proofs.fill_values.Tie as tie
 
-abbrev Inv-loop : tie.InvT-loop
-Inv-loop out₀ waveform dt scale i₀ out i = Remade (λ (x : Float). valueOf waveform (x ⊗ invTau) dt ⊗ scale) out₀ out i
+are-apart-requires : tie.Need-are-apart-requires
+are-apart-requires c κs = search needs
 
-abbrev μ-loop : tie.MeasureT-loop
-μ-loop out₀ waveform dt scale i₀ out i = length out₀ - i
+fill-values-apart-requires : tie.Need-fill-values-apart-requires
+fill-values-apart-requires c κs =
+    let then = c .before in
+    let judged = then .before in
+    (judged .before .before .pre, judged .are-apart .ensures (then .if1 .taken))
 
-loop-holds : tie.Need-loop-holds Inv-loop μ-loop
-loop-holds c = remade-none _ _
+same-length : tie.Need-same-length
+same-length c = search needs
 
-mul-x : tie.Need-mul-x Inv-loop μ-loop
-mul-x c = search needs
+returns : tie.Need-returns
+returns c = search needs
 
-slice-read-x : tie.Need-slice-read-x Inv-loop μ-loop
-slice-read-x c = search needs
+fill-values-any-requires : tie.Need-fill-values-any-requires
+fill-values-any-requires c κs = search needs
 
-in-cycles-requires : tie.Need-in-cycles-requires Inv-loop μ-loop
-in-cycles-requires c κs = search needs
+same-length-2 : tie.Need-same-length-2
+same-length-2 c = search needs
 
-branchless-value-requires : tie.Need-branchless-value-requires Inv-loop μ-loop
-branchless-value-requires c κs = let at = c .before .before .before in rw (c .in-cycles .ensures) (still-fraction _ _ (at .loop .out) (at .loop .i) (at .before .before .pre) (c .before .before .loop-test .taken) (at .loop .inv))
-
-mul-out : tie.Need-mul-out Inv-loop μ-loop
-mul-out c = search needs
-
-slice-write-out : tie.Need-slice-write-out Inv-loop μ-loop
-slice-write-out c = search needs
-
-add-i : tie.Need-add-i Inv-loop μ-loop
-add-i c = omega arith
-
-loop-less : tie.Need-loop-less Inv-loop μ-loop
-loop-less c = omega arith
-
-loop-again : tie.Need-loop-again Inv-loop μ-loop
-loop-again c =
-    let at = c .before .before .before .before in
-    remade-more _ _ (at .loop .out) _ (at .loop .i) (c .before .before .before .loop-test .taken) (rw (c .branchless-value .ensures, c .before .in-cycles .ensures) refl) (at .loop .inv)
-
-same-length : tie.Need-same-length Inv-loop μ-loop
-same-length c = c .before .loop .inv .long
-
-returns : tie.Need-returns Inv-loop μ-loop
-returns c = remade-all _ _ (c .before .loop .out) (c .before .loop .i) (omega arith) (c .before .loop .inv)
+returns-2 : tie.Need-returns-2
+returns-2 c = search needs
 
 pub fill-values-spec : {M : Type 1} → statement M
-fill-values-spec = tie.close (tie.spec Inv-loop μ-loop loop-holds mul-x slice-read-x in-cycles-requires branchless-value-requires mul-out slice-write-out add-i loop-less loop-again same-length returns)
+fill-values-spec = tie.close (tie.spec are-apart-requires fill-values-apart-requires same-length returns fill-values-any-requires same-length-2 returns-2)

@@ -1,4 +1,4 @@
--- `low_notes::fill_segment` meets its contract: the two go on, one after the other. Assumes nothing.
+-- `low_notes::fill_segment` meets its contract: `fill_one_by_one` goes on where `fill_by_fours` ends. Assumes nothing.
 use borrow.Author.Needs.{needs}
 use mathlib.Core.Path.{sym, _∙_}
 use native.Mathlib.Nat as nat

@@ -10,7 +10,7 @@ use Rattle.low_notes.proofs.Segments.{guessed}
 use Rattle.low_notes.proofs.guess_from.Statement.{statement}
 use Rattle.low_notes.proofs.guess_from.Tie as tie
 
--- what owning a float tells: its format holds it
+-- an f64 that the code holds is a value of binary64
 held : (c : tie.Start) → T (fits binary64 (c .args .phase .0))
 held c = search needs
 

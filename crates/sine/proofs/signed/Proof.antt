@@ -1,4 +1,4 @@
--- `sine::signed` meets its contract: numbers of this size are their own signed reading, and a float keeps their digits. Assumes nothing.
+-- `sine::signed` meets its contract: a u32 and its negative fit in an i64, and are exact as an f64. Assumes nothing.
 use borrow.Author.Needs.{needs}
 use mathlib.Core.Path.{_≡_, refl}
 use Prim.Native.Nat.{ℕ, zero, suc, _<_}

@@ -1,4 +1,4 @@
--- `waveform::in_fixed_point` meets its contract: the shift loses nothing. Assumes nothing.
+-- `waveform::in_fixed_point` meets its contract: the shift loses no bit. Assumes nothing.
 use borrow.Author.Needs.{needs}
 use native.Mathlib.Nat.{mod-eq-of-lt}
 use native.Mathlib.Omega.{arith}
@@ -8,7 +8,7 @@ use Rattle.waveform.proofs.Remainders.{not-nan, field-least, field-most
 use Rattle.waveform.proofs.in_fixed_point.Statement.{statement}
 use Rattle.waveform.proofs.in_fixed_point.Tie as tie
 
--- what owning a float tells: its format holds it
+-- an f64 that the code holds is a value of binary64
 held : (c : tie.Start) → T (fits binary64 (c .args .x))
 held c = search needs
 

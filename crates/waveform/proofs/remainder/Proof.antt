@@ -11,11 +11,11 @@ use Rattle.waveform.proofs.Remainders.{below-tau, from-tau, next-cycle,
 use Rattle.waveform.proofs.remainder.Statement.{statement}
 use Rattle.waveform.proofs.remainder.Tie as tie
 
--- what owning a float tells: its format holds it
+-- an f64 that the code holds is a value of binary64
 held : (c : tie.Start) → T (fits binary64 (c .args .phase .0))
 held c = search needs
 
--- the remainder of a whole number over TAU's has a float's digits
+-- a remainder by TAU * 2^50 is below 2^53, so it is exact as an f64
 kept : (n : ℕ) → T (inFloat binary64 (pos (n % 7074237752028440)))
 unfolding inFloat
 kept n = le→leb (n % 7074237752028440) 9007199254740992 (omega arith)
