@@ -1,6 +1,6 @@
 -- Two edges that are apart: where the correction of one is due, that of the other is not. The second edge's phase grows
 -- with the fraction of a cycle, so that testing it at four fractions suffices. Assumes nothing.
-use mathlib.Core.Path.{_≡_, refl, sym, subst}
+use mathlib.Core.Path.{_≡_, refl, sym, subst, _∙_}
 use mathlib.Core.Bool.{Bool, true, false, true≢false, not, cond, _&&_, _||_}
 use lib.Dec.{T}
 use lib.Ieee.{Float, binary64, ofBits, add, mul, lt, le, fits}
@@ -68,15 +68,15 @@ module _ (other : Float → Float) (grows : (x y : Float) → InUnit x → InUni
     apart-is u h = (inside u, outside u h (le from u) (lt u to) refl refl)
 
 -- at the half
-pub half-apart : (dt : Float) → isApart quarter threeQuarters half threeQuarters (ofBits binary64 0x3ff4_0000_0000_0000) (ofBits binary64 0x3ff8_0000_0000_0000) dt ≡ true → OneEdge (λ (t : Float). t ⊕ half) dt quarter threeQuarters
-half-apart dt e = apart-is (λ (t : Float). t ⊕ half) half-grows (λ (x : Float). add-fits binary64 x half) quarter threeQuarters dt (rw (sums .0, sums .1, sums .2, sums .3) e)
+pub half-apart : (dt : Float) (r : Bool) → r ≡ isApart quarter threeQuarters half threeQuarters (ofBits binary64 0x3ff4_0000_0000_0000) (ofBits binary64 0x3ff8_0000_0000_0000) dt → r ≡ true → OneEdge (λ (t : Float). t ⊕ half) dt quarter threeQuarters
+half-apart dt r is e = apart-is (λ (t : Float). t ⊕ half) half-grows (λ (x : Float). add-fits binary64 x half) quarter threeQuarters dt (rw (sums .0, sums .1, sums .2, sums .3) (sym is ∙ e))
   where
     sums : (zero64 ⊕ half ≡ half) × (quarter ⊕ half ≡ threeQuarters) × (threeQuarters ⊕ half ≡ ofBits binary64 0x3ff4_0000_0000_0000) × (one ⊕ half ≡ ofBits binary64 0x3ff8_0000_0000_0000)
     sums = (unfold ofBits in unfold add in refl, unfold ofBits in unfold add in refl, unfold ofBits in unfold add in refl, unfold ofBits in unfold add in refl)
 
 -- at a duty
-pub duty-apart : (duty dt : Float) → T (within least most duty) → isApart (duty ⊗ half) (half ⊕ duty ⊗ half) (zero64 ⊖ duty ⊕ one) (duty ⊗ half ⊖ duty ⊕ one) (half ⊕ duty ⊗ half ⊖ duty ⊕ one) (one ⊖ duty ⊕ one) dt ≡ true
+pub duty-apart : (duty dt : Float) (r : Bool) → T (within least most duty) → r ≡ isApart (duty ⊗ half) (half ⊕ duty ⊗ half) (zero64 ⊖ duty ⊕ one) (duty ⊗ half ⊖ duty ⊕ one) (half ⊕ duty ⊗ half ⊖ duty ⊕ one) (one ⊖ duty ⊕ one) dt → r ≡ true
     → OneEdge (λ (t : Float). t ⊖ duty ⊕ one) dt (duty ⊗ half) (half ⊕ duty ⊗ half)
-duty-apart duty dt d e =
+duty-apart duty dt r d is e =
     let unit : InUnit duty = and-i (le zero64 duty) (le duty one) (fle-trans zero64 least duty (unfold ofBits in unfold le in tt) (and-l (le least duty) (le duty most) d)) (fle-trans duty most one (and-r (le least duty) (le duty most) d) (unfold ofBits in unfold le in tt)) in
-    apart-is (λ (t : Float). t ⊖ duty ⊕ one) (duty-grows duty unit) (λ (x : Float). add-fits binary64 (x ⊖ duty) one) (duty ⊗ half) (half ⊕ duty ⊗ half) dt e
+    apart-is (λ (t : Float). t ⊖ duty ⊕ one) (duty-grows duty unit) (λ (x : Float). add-fits binary64 (x ⊖ duty) one) (duty ⊗ half) (half ⊕ duty ⊗ half) dt (sym is ∙ e)

@@ -1,6 +1,6 @@
 -- `high_notes::are_apart` meets its contract. Assumes nothing.
 use borrow.Author.Needs.{needs}
-use mathlib.Core.Path.{sym, _∙_}
+use mathlib.Core.Path.{sym}
 use mathlib.Core.Bool.{true≢false}
 use Rattle.high_notes.proofs.Edges.{half-apart}
 use Rattle.high_notes.proofs.are_apart.Statement.{statement}
@@ -34,13 +34,13 @@ returns : tie.Need-returns
 returns c = λ e. absurd (true≢false (sym e))
 
 returns-2 : tie.Need-returns-2
-returns-2 c = λ e. rw (c .before .enum-told2 .given .1) (half-apart _ (sym (c .is-apart .ensures) ∙ e))
+returns-2 c = λ e. rw (c .before .enum-told2 .given .1) (half-apart _ (c .is-apart .result) (c .is-apart .ensures) e)
 
 returns-3 : tie.Need-returns-3
 returns-3 c = λ e. absurd (true≢false (sym e))
 
 returns-4 : tie.Need-returns-4
-returns-4 c = λ e. rw (c .before .enum-told4 .given .1) (half-apart _ (sym (c .is-apart2 .ensures) ∙ e))
+returns-4 c = λ e. rw (c .before .enum-told4 .given .1) (half-apart _ (c .is-apart2 .result) (c .is-apart2 .ensures) e)
 
 returns-5 : tie.Need-returns-5
 returns-5 c = λ e. rw (c .before .before .waveform .given .1) (c .is-duty-apart .ensures e)

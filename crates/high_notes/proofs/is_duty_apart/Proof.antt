@@ -1,6 +1,6 @@
 -- `high_notes::is_duty_apart` meets its contract. Assumes nothing.
 use borrow.Author.Needs.{needs}
-use mathlib.Core.Path.{sym, subst, _∙_}
+use mathlib.Core.Path.{sym, subst}
 use lib.Dec.{T}
 use Rattle.floats.specs.Range.{within}
 use Rattle.polyblep.proofs.Clear.{both-true}
@@ -17,7 +17,7 @@ returns c = λ e.
     let a = c .before .args in
     let (duty, apart) = both-true (within least most (a .duty)) (c .is-apart .result) e in
     let inside : T (within least most (a .duty)) = subst T (sym duty) tt in
-    (inside, duty-apart (a .duty) (a .dt) inside (sym (c .is-apart .ensures) ∙ apart))
+    (inside, duty-apart (a .duty) (a .dt) (c .is-apart .result) inside (c .is-apart .ensures) apart)
 
 pub is-duty-apart-spec : {M : Type 1} → statement M
 is-duty-apart-spec = tie.close (tie.spec is-apart-requires returns)
