@@ -14,7 +14,7 @@ trap 'rm -rf "$work"' EXIT
 
 # The archive for x86-64 goes with target/, which `rt ci` removes; `make lib` makes it again.
 made=build/libgavberin.a
-[ -f target/staticlib/libdesk.a ] || made=lib
+[ -f target/staticlib/libffi.a ] || made=lib
 make --no-print-directory $made >"$work/log" 2>&1 || {
     tail -n 20 "$work/log"
     exit 1
@@ -40,6 +40,6 @@ run_host_on_x86_64() { # COMPILER-WORD..
     mathematics=$(x86_64-linux-gnu-gcc -print-file-name=libm.so.6)
     guide=$(rt doc)
     # shellcheck disable=SC2086 # flags
-    x86_64-linux-gnu-gcc $strict "$@" library/words.c target/staticlib/libdesk.a "$mathematics" -lpthread -o "$work/host" &&
+    x86_64-linux-gnu-gcc $strict "$@" library/words.c target/staticlib/libffi.a "$mathematics" -lpthread -o "$work/host" &&
         "${guide%/docs/*}/on/$machine/toolchain/bin/qemu-x86_64" -L "${mathematics%/lib/libm.so.6}" "$work/host"
 }
