@@ -129,7 +129,7 @@ build/desk: $(DESK_SOURCES) $(DESK_NEEDS)
 build/desk-sanitized: $(DESK_SOURCES) $(DESK_NEEDS)
 	@$(CC) $(C_FLAGS) $(SANITIZED) -o $@ $(DESK_SOURCES) build/libgavberin.a -lm
 
-build/desk-wrong: $(DESK_SOURCES) tests/desk/wrong_rerender.c $(DESK_NEEDS)
+build/desk-wrong: $(DESK_SOURCES) tests/desk/wrong_rerender.c tests/settings.h $(DESK_NEEDS)
 	@$(CC) $(C_FLAGS) -O2 -Wl,--wrap=gav_rerender -o $@ $(DESK_SOURCES) tests/desk/wrong_rerender.c build/libgavberin.a -lm
 
 build/fuzz: $(READERS) $(FUZZ) tests/desk/fuzz.c $(DESK_NEEDS)

@@ -63,6 +63,7 @@ void report_end(const struct bench *bench);
 /* The parts of the measurement, each with its table. */
 extern const char *const WAVES[5];
 void measure_renders(struct bench *bench);
+void measure_tremolos(struct bench *bench);
 void measure_continuing(struct bench *bench);
 void measure_edits(struct bench *bench);
 void measure_scores(struct bench *bench);

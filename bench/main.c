@@ -39,8 +39,9 @@ int main(int argc, char **argv) {
     for (int i = 1; i < argc; i += 2) {
         if (i + 1 == argc || !read_option(argv[i], argv[i + 1], &b)) return usage();
     }
-    /* A pad. */
-    b.settings = (struct gav_settings){48000, GAV_SINE, 0.25, 0.05, 0.3, 0.6, 0.4};
+    /* A pad, without a tremolo. */
+    b.settings = (struct gav_settings){
+        .rate = 48000, .code = GAV_SINE, .duty = 0.25, .attack = 0.05, .decay = 0.3, .sustain = 0.6, .release = 0.4};
     b.score = make_score(b.seed, USUAL_KEYS, b.records, b.samples);
     b.out = malloc(b.samples * sizeof *b.out);
     b.reference = malloc(b.samples * sizeof *b.reference);
@@ -48,6 +49,7 @@ int main(int argc, char **argv) {
     library_prepare(b.samples);
     best_prepare();
     measure_renders(&b);
+    measure_tremolos(&b);
     measure_continuing(&b);
     measure_edits(&b);
     measure_scores(&b);

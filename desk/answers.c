@@ -85,18 +85,7 @@ static const char *new_score_words(const struct refusal *r, struct why *why) {
 /* Which setting the library refused. */
 static const char *setting_words(const struct refusal *r, struct why *why) {
     const struct gav_settings *s = r->asked->settings;
-    if (!s) {
-        refuse(why, "%s", gav_words(r->said));
-    } else if (s->rate < 8000 || s->rate > 192000) {
-        refuse(why, "the rate, %u Hz, is outside 8000 to 192000 Hz", s->rate);
-    } else if (!wave_name(s->code)) {
-        refuse(why, "the waveform code, %u, is of no waveform", s->code);
-    } else if (s->code == GAV_PULSE && !(s->duty >= 0 && s->duty <= 1)) {
-        refuse(why, "the pulse's duty, %g of a cycle, is outside 0 to 1", s->duty);
-    } else {
-        refuse(why, "an ADSR setting is no number (attack %g s, decay %g s, sustain %g, release %g s)", s->attack,
-               s->decay, s->sustain, s->release);
-    }
+    if (!s || !find_wrong_setting(s, why)) refuse(why, "%s", gav_words(r->said));
     return r->asked->shelf_path;
 }
 

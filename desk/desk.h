@@ -162,6 +162,8 @@ const char *wave_name(uint32_t code);
 void put_settings(FILE *out, const struct gav_settings *settings);
 /* What --help says of the options. */
 void put_settings_help(FILE *out);
+/* Whether a setting is outside its limits: the first such one is kept in words. */
+bool find_wrong_setting(const struct gav_settings *settings, struct why *why);
 /* The settings in the head of a shelf's file. */
 void put_setting_words(uint8_t *head, const struct gav_settings *settings);
 bool get_setting_words(const uint8_t *head, struct gav_settings *settings, struct why *why);
@@ -331,7 +333,7 @@ size_t export_clips(const struct export *export, const double *at, size_t sample
            MOST_SCORE / 8u + 1u))
 
 /* The version of the file's layout. */
-#define SHELF_LAYOUT 2u
+#define SHELF_LAYOUT 3u
 
 /* What the file has beside the words of the entries. */
 struct shelf_file {

@@ -1,5 +1,5 @@
-/* The voice's settings: one table has for each setting its option, its field of the struct, its word of a shelf's head
-   and the words for it. Then the length of a sound. */
+/* The voice's settings: one table has for each setting its option, its field of the struct, its word of a shelf's head,
+   its limits and the words for it, and nothing else at the desk lists them. Then the length of a sound. */
 #include "desk.h"
 
 #include <math.h>
@@ -9,16 +9,24 @@
 enum kind { WHOLE, WAVE, NUMBER, LENGTH };
 
 /* An option with several fields has a row for each, one after the other, and its text has commas between them. The
-   length of a sound is an option beside the settings: it has no field of the struct and no word of the head. */
+   limits are the library's, for words: it refuses what is outside, and a NaN; of a duty only where the waveform in the
+   field `pulse` is one. The length of a sound is an option beside the settings: it has no field of the struct and no
+   word of the head. */
 struct setting {
     const char *option;
     enum kind kind;
     size_t field;
     unsigned word;
-    const char *name, *unit, *form, *help;
+    const char *name, *unit;
+    double lowest, highest;
+    size_t pulse;
+    const char *form, *help;
 };
 
 #define FIELD(of) .field = offsetof(struct gav_settings, of)
+#define WITHIN(low, high) .lowest = (low), .highest = (high)
+#define ANY_NUMBER WITHIN(-INFINITY, INFINITY)
+#define OF_PULSE(of) .pulse = offsetof(struct gav_settings, of)
 
 static const struct setting rows[] = {
     {.option = "--rate",
@@ -27,6 +35,7 @@ static const struct setting rows[] = {
      .word = 8,
      .name = "rate",
      .unit = " Hz",
+     WITHIN(8000, 192000),
      .form = "--rate HZ",
      .help = "samples a second, 8000 to 192000 Hz (48000)"},
     {.option = "--wave",
@@ -43,6 +52,8 @@ static const struct setting rows[] = {
      .word = 10,
      .name = "duty",
      .unit = "",
+     WITHIN(0, 1),
+     OF_PULSE(code),
      .form = "--duty D",
      .help = "of a pulse: the fraction of a cycle that is high, 0 to 1 (0.5)"},
     {.option = "--adsr",
@@ -51,12 +62,46 @@ static const struct setting rows[] = {
      .word = 11,
      .name = "attack",
      .unit = " s",
+     ANY_NUMBER,
      .form = "--adsr A,D,S,R",
      .help = "attack s, decay s, sustain level, release s (0.01,0.1,0.7,0.3);\n"
              "                   times clamp to 0.001 to 10 s, the level to 0 to 1"},
-    {.option = "--adsr", .kind = NUMBER, FIELD(decay), .word = 12, .name = "decay", .unit = " s"},
-    {.option = "--adsr", .kind = NUMBER, FIELD(sustain), .word = 13, .name = "sustain", .unit = ""},
-    {.option = "--adsr", .kind = NUMBER, FIELD(release), .word = 14, .name = "release", .unit = " s"},
+    {.option = "--adsr", .kind = NUMBER, FIELD(decay), .word = 12, .name = "decay", .unit = " s", ANY_NUMBER},
+    {.option = "--adsr", .kind = NUMBER, FIELD(sustain), .word = 13, .name = "sustain", .unit = "", ANY_NUMBER},
+    {.option = "--adsr", .kind = NUMBER, FIELD(release), .word = 14, .name = "release", .unit = " s", ANY_NUMBER},
+    {.option = "--tremolo",
+     .kind = WAVE,
+     FIELD(lfo_code),
+     .word = 15,
+     .name = "tremolo wave",
+     .unit = "",
+     .form = "--tremolo WAVE,HZ,DEPTH",
+     .help = "the loudness swings: by a waveform as of --wave, how often, 0 to 100 Hz, and how deep,\n"
+             "                   0 to 1, where 1 is down to silence (sine,0,0, which is none)"},
+    {.option = "--tremolo",
+     .kind = NUMBER,
+     FIELD(lfo_frequency),
+     .word = 17,
+     .name = "tremolo frequency",
+     .unit = " Hz",
+     WITHIN(0, 100)},
+    {.option = "--tremolo",
+     .kind = NUMBER,
+     FIELD(lfo_depth),
+     .word = 18,
+     .name = "tremolo depth",
+     .unit = "",
+     WITHIN(0, 1)},
+    {.option = "--tremolo-duty",
+     .kind = NUMBER,
+     FIELD(lfo_duty),
+     .word = 16,
+     .name = "tremolo duty",
+     .unit = "",
+     WITHIN(0, 1),
+     OF_PULSE(lfo_code),
+     .form = "--tremolo-duty D",
+     .help = "of a pulse in --tremolo: the fraction of its cycle that is loud, 0 to 1 (0.5)"},
     {.option = "--seconds",
      .kind = LENGTH,
      .form = "--seconds S",
@@ -196,39 +241,69 @@ bool read_settings(const struct setting_texts *texts, struct gav_settings *setti
     return true;
 }
 
-/* As few digits as are read back as the same number. */
-static void put_number(FILE *out, double value) {
-    char text[32];
-    int digits = 1;
+/* A field as a number; of a waveform its code. */
+static double number_of(const struct setting *row, const struct gav_settings *settings) {
+    uint64_t word = get_field(row, settings);
+    return row->kind == NUMBER ? from_bits(word) : (double)word;
+}
+
+#define NUMBER_ROOM 32u
+
+/* A number in as few digits as are read back as the same number; %g writes none that it does not need. */
+static const char *number_words(double value, char room[NUMBER_ROOM]) {
+    int digits = 6;
     do {
-        snprintf(text, sizeof text, "%.*g", digits, value);
-    } while (++digits <= 17 && strtod(text, NULL) != value);
-    fputs(text, out);
+        snprintf(room, NUMBER_ROOM, "%.*g", digits, value);
+    } while (++digits <= 17 && strtod(room, NULL) != value);
+    return room;
 }
 
 void put_settings(FILE *out, const struct gav_settings *settings) {
+    char room[NUMBER_ROOM];
     for (const struct setting *row = rows; row < rows + ROWS && row->kind != LENGTH; row++) {
-        uint64_t word = get_field(row, settings);
-        const char *wave = row->kind == WAVE ? wave_name((uint32_t)word) : NULL;
-        fprintf(out, "%s%s ", row == rows ? "" : ", ", row->name);
-        if (row->kind == NUMBER) {
-            put_number(out, from_bits(word));
-        } else if (wave) {
-            fputs(wave, out);
-        } else {
-            fprintf(out, "%llu", (unsigned long long)word);
-        }
-        fputs(row->unit, out);
+        double value = number_of(row, settings);
+        const char *wave = row->kind == WAVE ? wave_name((uint32_t)value) : NULL;
+        fprintf(out, "%s%s %s%s", row == rows ? "" : ", ", row->name, wave ? wave : number_words(value, room),
+                row->unit);
     }
 }
 
+/* A form that leaves no two blanks in its column, by which library/man knows it, has a line of its own. The list of
+   waveforms is told with the option that has nothing else. */
 void put_settings_help(FILE *out) {
     char room[WAVE_LIST_ROOM];
-    for (size_t i = 0; i < ROWS; i++) {
-        bool wave = rows[i].kind == WAVE;
-        if (!rows[i].help) continue;
-        fprintf(out, "  %-16s %s%s%s\n", rows[i].form, wave ? wave_list(room) : "", wave ? ": " : "", rows[i].help);
+    for (const struct setting *row = rows; row < rows + ROWS; row++) {
+        if (!row->help) continue;
+        bool wave = row->kind == WAVE && !goes_on(row), alone = strlen(row->form) > 15;
+        fprintf(out, "  %-16s%s%s%s%s\n", row->form, alone ? "\n                   " : " ", wave ? wave_list(room) : "",
+                wave ? ": " : "", row->help);
     }
+}
+
+/* Whether the library refuses a setting. */
+static bool is_wrong(const struct setting *row, const struct gav_settings *settings) {
+    double value = number_of(row, settings);
+    uint32_t code = GAV_PULSE;
+    if (row->kind == WAVE) return !wave_name((uint32_t)value);
+    if (row->pulse) memcpy(&code, (const uint8_t *)settings + row->pulse, sizeof code);
+    return code == GAV_PULSE && !(value >= row->lowest && value <= row->highest);
+}
+
+bool find_wrong_setting(const struct gav_settings *settings, struct why *why) {
+    char value[NUMBER_ROOM], low[NUMBER_ROOM], high[NUMBER_ROOM];
+    const struct setting *row = rows;
+    while (row->kind != LENGTH && !is_wrong(row, settings)) row++;
+    if (row->kind == LENGTH) return false;
+    number_words(number_of(row, settings), value);
+    if (row->kind == WAVE) {
+        refuse(why, "the %s's code, %s, is of no waveform", row->name, value);
+    } else if (isinf(row->highest)) {
+        refuse(why, "the %s, %s%s, is no number", row->name, value, row->unit);
+    } else {
+        refuse(why, "the %s, %s%s, is outside %s to %s%s", row->name, value, row->unit, number_words(row->lowest, low),
+               number_words(row->highest, high), row->unit);
+    }
+    return true;
 }
 
 void put_setting_words(uint8_t *head, const struct gav_settings *settings) {

@@ -2,7 +2,7 @@
    bytes, low byte first:
 
        0        "GAVSHELF"
-       1        the version of this layout, 2
+       1        the version of this layout, 3
        2        the version of the voice
        3        N, the samples of the sound
        4        bits of a sample in the WAV, 32 or 64

@@ -11,23 +11,41 @@ import ctypes
 import os
 import sys
 
-VERSION, SECTION, STATE_WORDS = 1, 4096, 12  # GAV_VERSION, GAV_SECTION and GAV_STATE_WORDS of gavberin.h
-SAWTOOTH = 2
+VERSION, SECTION, STATE_WORDS = 2, 4096, 13  # GAV_VERSION, GAV_SECTION and GAV_STATE_WORDS of gavberin.h
+WHOLE, NUMBER = ctypes.c_uint32, ctypes.c_double
+
+# The settings in gav_render's order, each with its type and what GAV_SETTINGS_DEFAULT has.
+SETTINGS = {
+    "rate": (WHOLE, 48000),
+    "code": (WHOLE, 2),
+    "duty": (NUMBER, 0.5),
+    "attack": (NUMBER, 0.01),
+    "decay": (NUMBER, 0.1),
+    "sustain": (NUMBER, 0.7),
+    "release": (NUMBER, 0.3),
+    "lfo_code": (WHOLE, 0),
+    "lfo_duty": (NUMBER, 0.5),
+    "lfo_frequency": (NUMBER, 0.0),
+    "lfo_depth": (NUMBER, 0.0),
+}
 
 library = ctypes.CDLL(os.environ.get("GAVBERIN_SO", f"libgavberin.so.{VERSION}"))
 library.gav_version.restype = ctypes.c_uint32
 library.gav_words.argtypes = [ctypes.c_uint64]
 library.gav_words.restype = ctypes.c_char_p
-library.gav_render.argtypes = [ctypes.c_uint32] * 2 + [ctypes.c_double] * 5 + [ctypes.c_void_p, ctypes.c_size_t] * 3
+library.gav_render.argtypes = [kind for kind, _ in SETTINGS.values()] + [ctypes.c_void_p, ctypes.c_size_t] * 3
 library.gav_render.restype = ctypes.c_uint64
 
 
-def render(score, n, rate=48000, code=SAWTOOTH, duty=0.5, attack=0.01, decay=0.1, sustain=0.7, release=0.3):
-    """The samples of a score, and the words of their shelf."""
+def render(score, n, **given):
+    """The samples of a score, and the words of their shelf. Settings are given by name, as lfo_depth=1."""
     out = (ctypes.c_double * n)()
     shelf = (ctypes.c_uint64 * (-(-n // SECTION) * STATE_WORDS))()
-    settings = rate, code, duty, attack, decay, sustain, release
-    said = library.gav_render(*settings, score, len(score), out, len(out), shelf, len(shelf))
+    settings = {name: value for name, (_, value) in SETTINGS.items()}
+    if given.keys() - settings.keys():
+        raise TypeError(f"no setting: {', '.join(given.keys() - settings.keys())}")
+    settings.update(given)
+    said = library.gav_render(*settings.values(), score, len(score), out, len(out), shelf, len(shelf))
     number, place = said & 0xFF, said >> 8 & 0xFFFFFF
     if number:
         raise ValueError(f"refused {number} at place {place}: {library.gav_words(said).decode()}")

@@ -1,7 +1,7 @@
-/* Gavberin for C and C++: a proved synthesiser voice with one oscillator, an envelope and held notes. What each call
- * does is stated and proved in crates/ffi; docs/INDEX.md is the index. `make lib` builds build/libgavberin.a and
- * build/libgavberin.so, `make install` puts them where a compiler finds them; examples/ has three hosts. Only gav_words
- * and what is inline below are plain C and not proved.
+/* Gavberin for C and C++: a proved synthesiser voice with one oscillator, an envelope, held notes and a tremolo. What
+ * each call does is stated and proved in crates/ffi; docs/INDEX.md is the index. `make lib` builds build/libgavberin.a
+ * and build/libgavberin.so, `make install` puts them where a compiler finds them; examples/ has three hosts. Only
+ * gav_words and what is inline below are plain C and not proved.
  *
  * Compile a host with -ffp-contract=off, which keeps its own arithmetic on samples as it is written (on Arm a compiler
  * fuses by default, and other bits come out), and link it with the library and -lm.
@@ -47,6 +47,7 @@
  *    7       velocity, a float: 0 to 1
  *    8..11   the held keys, oldest first, four a word from bit 0 up, 16 bits each: note in the lower 8, velocity in the
  *            upper 8, each 0 to 127. Past the held keys all bits are 0
+ *    12      phase of the LFO, the tremolo's slow oscillator, a float: radians, 0 or more and below 1,000
  * Words outside these limits are no state. A host may keep words, copy them and hand them back; it need not read them.
  */
 #ifndef GAVBERIN_H
@@ -61,8 +62,8 @@ extern "C" {
 
 /* The version of what this header declares; gav_version gives the library's. It grows with every change of a call's
  * arguments or of the number of words of a state, so a host and a library of one version fit each other. The shared
- * library's name carries the version: libgavberin.so.1. */
-#define GAV_VERSION 1
+ * library's name carries the version: libgavberin.so.2. Since version 2 there is a tremolo. */
+#define GAV_VERSION 2
 
 /* The codes of the waveforms. */
 #define GAV_SINE 0
@@ -71,7 +72,7 @@ extern "C" {
 #define GAV_TRIANGLE 3
 #define GAV_PULSE 4
 
-#define GAV_STATE_WORDS 12         /* words of a state, and of an entry of a shelf */
+#define GAV_STATE_WORDS 13         /* words of a state, and of an entry of a shelf */
 #define GAV_SECTION 4096           /* samples of a section: from one entry of a shelf to the next */
 #define GAV_MARK GAV_SECTION       /* an older name, for hosts that use it */
 #define GAV_MOST_SAMPLES 16777216  /* the most samples of an output */
@@ -85,7 +86,8 @@ enum gav_answer {
     GAV_SCORE_KIND = 3,        /* a record of the score: its kind is not 1, 2 or 3 */
     GAV_SCORE_FIELD = 4,       /* a record of the score: a field is out of range, or the last byte is not 0 */
     GAV_SCORE_ORDER = 5,       /* a record of the score: its position is below that of the record before */
-    GAV_SETTING = 6,           /* a rate, a code, a pulse's duty or an envelope setting outside its limits */
+    GAV_SETTING = 6,           /* a rate, a code, a pulse's duty, an envelope setting, or the LFO's frequency or depth
+                                  outside its limits */
     GAV_SIZE = 7,              /* too many samples, a shelf of the wrong size, or too little room for a listing */
     GAV_START_ENTRY = 8,       /* re-render: the entry to start from is no state, or the new score has another number of
                                   records before it than have acted */
@@ -132,14 +134,30 @@ uint64_t gav_sample_says(uint32_t code, double phase, double dt, double duty);
  * code:    GAV_SINE to GAV_PULSE, 0 to 4; above is 6
  * duty:    the fraction of a cycle that a pulse is high, 0 to 1; else 6. Read for GAV_PULSE alone
  * attack, decay, release: seconds; any number, taken as at least 0.001 and at most 10. A NaN is 6
- * sustain: a level; any number, taken as at least 0 and at most 1. A NaN is 6 */
+ * sustain: a level; any number, taken as at least 0 and at most 1. A NaN is 6
+ * The tremolo: a slow oscillator, the LFO, moves the loudness. Last of all a sample is multiplied by
+ * 1 - lfo_depth / 2 + lfo / 2, where lfo is the LFO's value, -1 to 1, times lfo_depth. The value of a triangle passes 1
+ * near its corners, by up to 0.7 percent, and nothing clamps it. The LFO begins at phase 0, runs in silence too, and
+ * begins again at a reset. At depth 0 the samples are those without a tremolo.
+ * lfo_code:      GAV_SINE to GAV_PULSE, 0 to 4; above is 6
+ * lfo_duty:      the fraction of a cycle that a pulse is high, 0 to 1; else 6. Read where lfo_code is GAV_PULSE alone
+ * lfo_frequency: Hz, 0 to 100; else 6
+ * lfo_depth:     0 to 1; else 6 */
 struct gav_settings {
     uint32_t rate, code;
     double duty, attack, decay, sustain, release;
+    uint32_t lfo_code;
+    double lfo_duty, lfo_frequency, lfo_depth;
 };
 
-/* The settings that the desk takes where no option is given: struct gav_settings settings = GAV_SETTINGS_DEFAULT; */
-#define GAV_SETTINGS_DEFAULT {48000, GAV_SAWTOOTH, 0.5, 0.01, 0.1, 0.7, 0.3}
+/* The settings that the desk takes where no option is given: struct gav_settings settings = GAV_SETTINGS_DEFAULT; They
+ * have no tremolo: 0 Hz and depth 0. */
+#define GAV_SETTINGS_DEFAULT {48000, GAV_SAWTOOTH, 0.5, 0.01, 0.1, 0.7, 0.3, GAV_SINE, 0.5, 0.0, 0.0}
+
+/* The settings of a struct one by one, as the three calls take them. */
+#define GAV_SETTINGS_OF(s) \
+    (s)->rate, (s)->code, (s)->duty, (s)->attack, (s)->decay, (s)->sustain, (s)->release, (s)->lfo_code, \
+    (s)->lfo_duty, (s)->lfo_frequency, (s)->lfo_depth
 
 /* Renders a score: n samples from sample zero, and their shelf. The count is n. The end state is not given: for that
  * use gav_continue.
@@ -147,13 +165,13 @@ struct gav_settings {
  * out, n:           the samples, 0 to GAV_MOST_SAMPLES; else 7. All are written
  * shelf, words:     gav_shelf_words(n) words exactly; else 7. All are written: entry k, from word GAV_STATE_WORDS * k
  *                   on, is the state before sample 4096k */
-uint64_t gav_render(uint32_t rate, uint32_t code, double duty, double attack, double decay, double sustain, double release,
+uint64_t gav_render(uint32_t rate, uint32_t code, double duty, double attack, double decay, double sustain,
+                    double release, uint32_t lfo_code, double lfo_duty, double lfo_frequency, double lfo_depth,
                     const uint8_t *score, size_t score_len, double *out, size_t n, uint64_t *shelf, size_t words);
 
 static inline uint64_t gav_render_with(const struct gav_settings *s, const uint8_t *score, size_t score_len, double *out,
                                        size_t n, uint64_t *shelf, size_t words) {
-    return gav_render(s->rate, s->code, s->duty, s->attack, s->decay, s->sustain, s->release, score, score_len, out, n,
-                      shelf, words);
+    return gav_render(GAV_SETTINGS_OF(s), score, score_len, out, n, shelf, words);
 }
 
 /* Makes the output and shelf of an old score those of a new one, under the same settings: starts at the section that
@@ -163,15 +181,15 @@ static inline uint64_t gav_render_with(const struct gav_settings *s, const uint8
  * new_, new_len:  the score to render now; it may be the same buffer
  * out, n; shelf, words: as for gav_render, holding what gav_render or the last gav_rerender left. What lies before the
  *                       section stays */
-uint64_t gav_rerender(uint32_t rate, uint32_t code, double duty, double attack, double decay, double sustain, double release,
+uint64_t gav_rerender(uint32_t rate, uint32_t code, double duty, double attack, double decay, double sustain,
+                      double release, uint32_t lfo_code, double lfo_duty, double lfo_frequency, double lfo_depth,
                       const uint8_t *old, size_t old_len, const uint8_t *new_, size_t new_len, double *out, size_t n,
                       uint64_t *shelf, size_t words);
 
 static inline uint64_t gav_rerender_with(const struct gav_settings *s, const uint8_t *old, size_t old_len,
                                          const uint8_t *new_, size_t new_len, double *out, size_t n, uint64_t *shelf,
                                          size_t words) {
-    return gav_rerender(s->rate, s->code, s->duty, s->attack, s->decay, s->sustain, s->release, old, old_len, new_,
-                        new_len, out, n, shelf, words);
+    return gav_rerender(GAV_SETTINGS_OF(s), old, old_len, new_, new_len, out, n, shelf, words);
 }
 
 /* Renders the next part, from a state. Parts of any lengths, one after the other from gav_fresh at position 0, under
@@ -182,14 +200,14 @@ static inline uint64_t gav_rerender_with(const struct gav_settings *s, const uin
  *                     after the part
  * position:           the sample that part begins with
  * part, n:            the samples; position + n is at most GAV_MOST_SAMPLES, else 7. All are written */
-uint64_t gav_continue(uint32_t rate, uint32_t code, double duty, double attack, double decay, double sustain, double release,
+uint64_t gav_continue(uint32_t rate, uint32_t code, double duty, double attack, double decay, double sustain,
+                      double release, uint32_t lfo_code, double lfo_duty, double lfo_frequency, double lfo_depth,
                       const uint8_t *score, size_t score_len, uint64_t *state, size_t state_words, uint64_t position,
                       double *part, size_t n);
 
 static inline uint64_t gav_continue_with(const struct gav_settings *s, const uint8_t *score, size_t score_len,
                                          uint64_t *state, size_t state_words, uint64_t position, double *part, size_t n) {
-    return gav_continue(s->rate, s->code, s->duty, s->attack, s->decay, s->sustain, s->release, score, score_len, state,
-                        state_words, position, part, n);
+    return gav_continue(GAV_SETTINGS_OF(s), score, score_len, state, state_words, position, part, n);
 }
 
 /* Writes the state before sample zero, for gav_continue at position 0. The count is 0.

@@ -21,7 +21,9 @@ static const struct {
     {GAV_SCORE_KIND, RECORD KIND},
     {GAV_SCORE_FIELD, RECORD FIELD},
     {GAV_SCORE_ORDER, RECORD ORDER},
-    {GAV_SETTING, "the rate, the waveform, a pulse's duty or an envelope setting is outside its limits"},
+    {GAV_SETTING,
+     "the rate, a waveform, a pulse's duty, an envelope setting, or the tremolo's frequency or depth is outside "
+     "its limits"},
     {GAV_SIZE, "too many samples, a shelf of the wrong size, or too little room for a listing"},
     {GAV_START_ENTRY, "the shelf's entry to start from is no state, or has acted on another number of records than the "
                       "new score has before it"},

@@ -60,6 +60,23 @@ static uint64_t render_of(uint32_t code, size_t n) {
     settings.code = code;
     return gav_render_with(&settings, score, sizeof score, out, n, shelf, gav_shelf_words(n));
 }
+/* With a tremolo; the other calls have none. */
+static uint64_t tremolo_of(uint32_t code, uint32_t lfo_code, uint64_t (*make)(uint32_t)) {
+    const struct gav_settings before = settings;
+    settings.lfo_code = lfo_code;
+    settings.lfo_frequency = 5;
+    settings.lfo_depth = 1;
+    uint64_t said = make(code);
+    settings = before;
+    return said;
+}
+static uint64_t render_some(uint32_t code) { return render_of(code, N); }
+static uint64_t tremolo_sines(void) { return tremolo_of(GAV_SINE, GAV_SINE, render_some); }
+static uint64_t tremolo_sine(void) { return tremolo_of(GAV_SAWTOOTH, GAV_SINE, render_some); }
+static uint64_t tremolo_of_sine(void) { return tremolo_of(GAV_SINE, GAV_TRIANGLE, render_some); }
+static uint64_t tremolo_triangle(void) { return tremolo_of(GAV_SAWTOOTH, GAV_TRIANGLE, render_some); }
+static uint64_t tremolo_pulse(void) { return tremolo_of(GAV_SQUARE, GAV_PULSE, render_some); }
+static uint64_t tremolo_refused(void) { return tremolo_of(GAV_SQUARE, GAV_PULSE + 1, render_some); }
 static uint64_t render_longest(void) { return render_of(GAV_SINE, GAV_MOST_SAMPLES); }
 static uint64_t render_sine(void) { return render_of(GAV_SINE, N); }
 static uint64_t render_square(void) { return render_of(GAV_SQUARE, N); }
@@ -93,6 +110,8 @@ static uint64_t continue_of(uint32_t code) {
 static uint64_t continue_sine(void) { return continue_of(GAV_SINE); }
 static uint64_t continue_triangle(void) { return continue_of(GAV_TRIANGLE); }
 static uint64_t continue_pulse(void) { return continue_of(GAV_PULSE); }
+static uint64_t continue_tremolo(void) { return tremolo_of(GAV_SAWTOOTH, GAV_SINE, continue_of); }
+static uint64_t continue_tremolos(void) { return tremolo_of(GAV_SINE, GAV_TRIANGLE, continue_of); }
 static uint64_t continue_refused(void) {
     return gav_continue_with(&settings, score, sizeof score, state, 1, 0, out, 1);
 }
@@ -101,6 +120,9 @@ static uint64_t continue_refused(void) {
 static const struct call long_sines[] = {
     {"gav_render, the longest sine", render_longest, 0},
     {"gav_render, sine", render_sine, 0},
+    {"gav_render, sine, with a tremolo of a sine", tremolo_sines, 0},
+    {"gav_render, sine, with a tremolo of a triangle", tremolo_of_sine, 0},
+    {"gav_render, sawtooth, with a tremolo of a sine", tremolo_sine, 0},
 };
 
 static const struct call calls[] = {
@@ -118,6 +140,9 @@ static const struct call calls[] = {
     {"gav_render, square", render_square, 0},
     {"gav_render, sawtooth", render_sawtooth, 0},
     {"gav_render, triangle", render_triangle, 0},
+    {"gav_render, sawtooth, with a tremolo of a triangle", tremolo_triangle, 0},
+    {"gav_render, square, with a tremolo of a pulse", tremolo_pulse, 0},
+    {"gav_render, a refused tremolo", tremolo_refused, GAV_SETTING},
     {"gav_render, refused", render_refused, GAV_SETTING},
     {"gav_render, pulse", render_pulse, 0},
     {"gav_rerender, the last record", rerender_late, 0},
@@ -128,6 +153,8 @@ static const struct call calls[] = {
     {"gav_continue, sine", continue_sine, 0},
     {"gav_continue, triangle", continue_triangle, 0},
     {"gav_continue, pulse", continue_pulse, 0},
+    {"gav_continue, sawtooth, with a tremolo of a sine", continue_tremolo, 0},
+    {"gav_continue, sine, with a tremolo of a triangle", continue_tremolos, 0},
     {"gav_continue, refused", continue_refused, GAV_GIVEN_STATE},
 };
 

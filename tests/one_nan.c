@@ -3,10 +3,10 @@
  * three calls; SPOILT is the case in which it does so. */
 #include "gavberin.h"
 
+#include "settings.h"
+
 enum { RENDER_REFUSED, RERENDER_REFUSED, BEFORE_THE_MARK, CONTINUE_REFUSED };
 
-#define SETTINGS uint32_t rate, uint32_t code, double duty, double attack, double decay, double sustain, double release
-#define GIVEN rate, code, duty, attack, decay, sustain, release
 #define SCORE const uint8_t *score, size_t len
 #define NEW const uint8_t *new_, size_t new_len
 #define SOUND double *out, size_t n, uint64_t *shelf, size_t words

@@ -10,7 +10,9 @@
 #define N 5000
 #define RATE 44100
 #define ADSR 0.001, 0.1, 0.7, 0.2
-#define SETTINGS RATE, GAV_SAWTOOTH, NAN, ADSR
+#define NO_LFO GAV_SINE, NAN, 0, 0
+#define SETTINGS RATE, GAV_SAWTOOTH, NAN, ADSR, NO_LFO
+#define WORDS GAV_STATE_WORDS
 #define LEN(a) (sizeof(a) / sizeof *(a))
 
 #define ON_69 0x56, 0x4E, 0, 0, 0, 0, 1, 69, 127, 0
@@ -19,6 +21,8 @@
 static const uint8_t example[] = {ON_69, OFF_69_AT_100};
 /* the example, and note 60 on at 4,500 */
 static const uint8_t longer[] = {ON_69, OFF_69_AT_100, 0x56, 0x4E, 0x94, 0x11, 0, 0, 1, 60, 100, 0};
+/* the longer score, and a reset at 300 */
+static const uint8_t reset[] = {ON_69, OFF_69_AT_100, 0x56, 0x4E, 0x2C, 1, 0, 0, 3, 0, 0, 0, 0x56, 0x4E, 0x94, 0x11, 0, 0, 1, 60, 100, 0};
 static const uint8_t wrong_mark[] = {ON_69, 0x56, 0x4F, 100, 0, 0, 0, 2, 69, 0, 0};
 static const uint8_t wrong_kind[] = {ON_69, 0x56, 0x4E, 100, 0, 0, 0, 4, 69, 0, 0};
 static const uint8_t wrong_note[] = {ON_69, 0x56, 0x4E, 100, 0, 0, 0, 2, 128, 0, 0};
@@ -93,7 +97,7 @@ static void answers(void) {
         int known = number <= 10 || (number >= 17 && number <= 21);
         HOLD((strcmp(gav_words(number), unknown) != 0) == known);
     }
-    HOLD(gav_shelf_words(0) == 0 && gav_shelf_words(1) == 12 && gav_shelf_words(4096) == 12 && gav_shelf_words(4097) == 24);
+    HOLD(gav_shelf_words(0) == 0 && gav_shelf_words(1) == 13 && gav_shelf_words(4096) == 13 && gav_shelf_words(4097) == 26);
 }
 
 static void scores(void) {
@@ -122,19 +126,21 @@ static void samples(void) {
 
 static void renders(void) {
     spoil();
-    HOLD(gav_render(7999, GAV_SAWTOOTH, 0.5, ADSR, example, 20, out, N, shelf, 23) == says(6, 0, 0));
-    HOLD(gav_render(RATE, 5, 0.5, ADSR, example, 19, out, N, shelf, 24) == says(6, 0, 0));
-    HOLD(gav_render(RATE, GAV_PULSE, NAN, ADSR, example, 20, out, N, shelf, 24) == says(6, 0, 0));
-    HOLD(gav_render(RATE, GAV_SINE, 0.5, NAN, 0, 0, 0, example, 20, out, N, shelf, 24) == says(6, 0, 0));
-    HOLD(gav_render(SETTINGS, example, 19, out, N, shelf, 23) == says(7, 0, 0));
-    HOLD(gav_render(SETTINGS, wrong_kind, 20, out, N, shelf, 24) == says(3, 1, 0));
+    HOLD(gav_render(7999, GAV_SAWTOOTH, 0.5, ADSR, NO_LFO, example, 20, out, N, shelf, 25) == says(6, 0, 0));
+    HOLD(gav_render(RATE, 5, 0.5, ADSR, NO_LFO, example, 19, out, N, shelf, 2 * WORDS) == says(6, 0, 0));
+    HOLD(gav_render(RATE, GAV_PULSE, NAN, ADSR, NO_LFO, example, 20, out, N, shelf, 2 * WORDS) == says(6, 0, 0));
+    HOLD(gav_render(RATE, GAV_SINE, 0.5, NAN, 0, 0, 0, NO_LFO, example, 20, out, N, shelf, 2 * WORDS) == says(6, 0, 0));
+    HOLD(gav_render(SETTINGS, example, 19, out, N, shelf, 2 * WORDS - 1) == says(7, 0, 0));
+    HOLD(gav_render(SETTINGS, example, 19, out, N, shelf, 2 * 12) == says(7, 0, 0));
+    HOLD(gav_render(SETTINGS, wrong_kind, 20, out, N, shelf, 2 * WORDS) == says(3, 1, 0));
     HOLD(untouched());
 
     HOLD(gav_render(SETTINGS, NULL, 0, NULL, 0, NULL, 0) == 0);
-    HOLD(gav_render(SETTINGS, example, 20, out, N, shelf, 24) == says(0, 0, N));
+    HOLD(gav_render(SETTINGS, example, 20, out, N, shelf, 2 * WORDS) == says(0, 0, N));
     /* entry 0 is the fresh state; in entry 1 both records have acted, and the note's pitch and velocity are kept */
-    HOLD(shelf[0] == 0 && shelf[1] == 0 && shelf[5] == 255 && shelf[6] == bits(440.0) && shelf[7] == 0);
-    HOLD(shelf[12 + 1] == 4 && shelf[12 + 5] == 255 + 2 * 65536 && shelf[12 + 6] == bits(440.0) && shelf[12 + 7] == bits(1.0));
+    const uint64_t *second = shelf + WORDS;
+    HOLD(shelf[0] == 0 && shelf[1] == 0 && shelf[5] == 255 && shelf[6] == bits(440.0) && shelf[7] == 0 && shelf[12] == 0);
+    HOLD(second[1] == 4 && second[5] == 255 + 2 * 65536 && second[6] == bits(440.0) && second[7] == bits(1.0));
     /* the attack begins at level 0; a sawtooth at phase 0 and every sample before the release ends is no silence */
     HOLD(out[0] == 0 && out[50] != 0 && out[4999] != 0);
     int sound = 1;
@@ -148,15 +154,15 @@ static void rerenders(void) {
     put_nans(out, N);
     memcpy(out_before, out, sizeof out);
     memcpy(shelf_before, shelf, sizeof shelf);
-    HOLD(gav_rerender(SETTINGS, example, 20, example, 20, out, N, shelf, 24) == 0);
-    HOLD(gav_rerender(RATE, 5, 0, ADSR, example, 19, example, 20, out, N, shelf, 24) == says(6, 0, 0));
-    HOLD(gav_rerender(SETTINGS, example, 20, longer, 30, out, N, shelf, 12) == says(7, 0, 0));
-    HOLD(gav_rerender(SETTINGS, example, 19, wrong_kind, 20, out, N, shelf, 24) == says(1, 0, 0));
-    HOLD(gav_rerender(SETTINGS, example, 20, wrong_kind, 20, out, N, shelf, 24) == says(19, 1, 0));
+    HOLD(gav_rerender(SETTINGS, example, 20, example, 20, out, N, shelf, 2 * WORDS) == 0);
+    HOLD(gav_rerender(RATE, 5, 0, ADSR, NO_LFO, example, 19, example, 20, out, N, shelf, 2 * WORDS) == says(6, 0, 0));
+    HOLD(gav_rerender(SETTINGS, example, 20, longer, 30, out, N, shelf, WORDS) == says(7, 0, 0));
+    HOLD(gav_rerender(SETTINGS, example, 19, wrong_kind, 20, out, N, shelf, 2 * WORDS) == says(1, 0, 0));
+    HOLD(gav_rerender(SETTINGS, example, 20, wrong_kind, 20, out, N, shelf, 2 * WORDS) == says(19, 1, 0));
     HOLD(SAME(out, out_before) && SAME(shelf, shelf_before));
-    shelf[12 + 1] = 5;
-    HOLD(gav_rerender(SETTINGS, example, 20, longer, 30, out, N, shelf, 24) == says(8, 0, 0));
-    shelf[12 + 1] = 4;
+    shelf[WORDS + 1] = 5;
+    HOLD(gav_rerender(SETTINGS, example, 20, longer, 30, out, N, shelf, 2 * WORDS) == says(8, 0, 0));
+    shelf[WORDS + 1] = 4;
     HOLD(SAME(out, out_before) && SAME(shelf, shelf_before));
     memcpy(out, played, sizeof out);
     memcpy(out_before, played, sizeof out);
@@ -164,48 +170,53 @@ static void rerenders(void) {
     /* from section 1 on, sample 4,096, it is the new score's render; what lies before stays, here NaNs of every kind */
     put_nans(out, GAV_SECTION);
     memcpy(played, out, sizeof out);
-    HOLD(gav_rerender(SETTINGS, example, 20, longer, 30, out, N, shelf, 24) == says(0, 0, N - GAV_SECTION));
+    HOLD(gav_rerender(SETTINGS, example, 20, longer, 30, out, N, shelf, 2 * WORDS) == says(0, 0, N - GAV_SECTION));
     HOLD(memcmp(out, played, GAV_SECTION * sizeof *out) == 0);
     memcpy(out, out_before, GAV_SECTION * sizeof *out);
-    HOLD(gav_render(SETTINGS, longer, 30, all, N, entries, 24) == says(0, 0, N));
+    HOLD(gav_render(SETTINGS, longer, 30, all, N, entries, 2 * WORDS) == says(0, 0, N));
     HOLD(SAME(out, all) && SAME(shelf, entries));
     HOLD(!SAME(out, out_before));
 }
 
 /* After rerenders(): out is the render of the longer score. The old score and the new one in one buffer. */
 static void overlaps(void) {
-    HOLD(gav_rerender(SETTINGS, longer, 30, longer, 20, out, N, shelf, 24) == says(0, 0, N - GAV_SECTION));
+    HOLD(gav_rerender(SETTINGS, longer, 30, longer, 20, out, N, shelf, 2 * WORDS) == says(0, 0, N - GAV_SECTION));
     HOLD(SAME(out, out_before) && SAME(shelf, shelf_before));
-    HOLD(gav_rerender(SETTINGS, longer, 20, longer, 20, out, N, shelf, 24) == 0);
+    HOLD(gav_rerender(SETTINGS, longer, 20, longer, 20, out, N, shelf, 2 * WORDS) == 0);
     HOLD(SAME(out, out_before) && SAME(shelf, shelf_before));
-    HOLD(gav_rerender(SETTINGS, longer, 20, longer, 30, out, N, shelf, 24) == says(0, 0, N - GAV_SECTION));
+    HOLD(gav_rerender(SETTINGS, longer, 20, longer, 30, out, N, shelf, 2 * WORDS) == says(0, 0, N - GAV_SECTION));
     HOLD(SAME(out, all) && SAME(shelf, entries));
-    HOLD(gav_rerender(SETTINGS, longer, 30, longer + 1, 20, out, N, shelf, 24) == says(18, 0, 0));
+    HOLD(gav_rerender(SETTINGS, longer, 30, longer + 1, 20, out, N, shelf, 2 * WORDS) == says(18, 0, 0));
     HOLD(SAME(out, all) && SAME(shelf, entries));
     /* the second record is the first of the new score, so it begins at entry 0 */
-    HOLD(gav_rerender(SETTINGS, longer, 30, longer + 10, 20, out, N, shelf, 24) == says(0, 0, N));
-    HOLD(gav_render(SETTINGS, longer + 10, 20, played, N, shelf_before, 24) == says(0, 0, N));
+    HOLD(gav_rerender(SETTINGS, longer, 30, longer + 10, 20, out, N, shelf, 2 * WORDS) == says(0, 0, N));
+    HOLD(gav_render(SETTINGS, longer + 10, 20, played, N, shelf_before, 2 * WORDS) == says(0, 0, N));
     HOLD(SAME(out, played) && SAME(shelf, shelf_before));
 }
 
-/* The wrappers hand each setting on in its place: a pulse of its own duty, and settings that all differ. */
+/* The wrappers hand each setting on in its place: pulses of their own duties, and settings that all differ. */
+#define PULSE 9000, GAV_PULSE, 0.25, 0.01, 0.1, 0.7, 0.02, GAV_PULSE, 0.375, 7, 0.875
 static void wrappers(void) {
     struct gav_settings s = GAV_SETTINGS_DEFAULT;
     HOLD(s.rate == 48000 && s.code == GAV_SAWTOOTH && s.duty == 0.5);
     HOLD(s.attack == 0.01 && s.decay == 0.1 && s.sustain == 0.7 && s.release == 0.3);
+    HOLD(s.lfo_code == GAV_SINE && s.lfo_duty == 0.5 && s.lfo_frequency == 0 && s.lfo_depth == 0);
     s.rate = 9000;
-    s.code = GAV_PULSE;
+    s.code = s.lfo_code = GAV_PULSE;
     s.duty = 0.25;
     s.release = 0.02;
-    HOLD(gav_render(9000, GAV_PULSE, 0.25, 0.01, 0.1, 0.7, 0.02, example, 20, out, N, shelf, 24) == says(0, 0, N));
-    HOLD(gav_render_with(&s, example, 20, played, N, shelf_before, 24) == says(0, 0, N));
+    s.lfo_duty = 0.375;
+    s.lfo_frequency = 7;
+    s.lfo_depth = 0.875;
+    HOLD(gav_render(PULSE, example, 20, out, N, shelf, 2 * WORDS) == says(0, 0, N));
+    HOLD(gav_render_with(&s, example, 20, played, N, shelf_before, 2 * WORDS) == says(0, 0, N));
     HOLD(SAME(out, played) && SAME(shelf, shelf_before));
     const uint64_t done = says(0, 0, N - GAV_SECTION);
-    HOLD(gav_rerender(9000, GAV_PULSE, 0.25, 0.01, 0.1, 0.7, 0.02, example, 20, longer, 30, out, N, shelf, 24) == done);
-    HOLD(gav_rerender_with(&s, example, 20, longer, 30, played, N, shelf_before, 24) == done);
+    HOLD(gav_rerender(PULSE, example, 20, longer, 30, out, N, shelf, 2 * WORDS) == done);
+    HOLD(gav_rerender_with(&s, example, 20, longer, 30, played, N, shelf_before, 2 * WORDS) == done);
     HOLD(SAME(out, played) && SAME(shelf, shelf_before));
-    HOLD(gav_fresh(state, 12) == 0);
-    HOLD(gav_continue_with(&s, longer, 30, state, 12, 0, played, N) == says(0, 0, N));
+    HOLD(gav_fresh(state, WORDS) == 0);
+    HOLD(gav_continue_with(&s, longer, 30, state, WORDS, 0, played, N) == says(0, 0, N));
     HOLD(SAME(out, played));
 }
 
@@ -213,39 +224,127 @@ static void wrappers(void) {
 static void continues(void) {
     static const size_t parts[] = {100, 1, 0, 63, 64, 3868, 4, 400, 500};
     spoil();
-    HOLD(gav_fresh(state, 11) == says(9, 0, 0));
-    HOLD(gav_fresh(state, 13) == says(9, 0, 0));
+    HOLD(gav_fresh(state, WORDS - 1) == says(9, 0, 0));
+    HOLD(gav_fresh(state, WORDS + 1) == says(9, 0, 0));
     HOLD(gav_fresh(NULL, 0) == says(9, 0, 0));
     HOLD(untouched());
-    HOLD(gav_fresh(state, 12) == 0);
-    HOLD(memcmp(state, entries, 12 * sizeof *state) == 0 && state[12] == state_before[12]);
+    HOLD(gav_fresh(state, WORDS) == 0);
+    HOLD(memcmp(state, entries, WORDS * sizeof *state) == 0 && state[WORDS] == state_before[WORDS]);
 
     memcpy(state_before, state, sizeof state);
-    HOLD(gav_continue(RATE, 9, 0, ADSR, longer, 29, state, 11, GAV_MOST_SAMPLES, out, N) == says(6, 0, 0));
-    HOLD(gav_continue(SETTINGS, longer, 29, state, 11, GAV_MOST_SAMPLES, out, 1) == says(7, 0, 0));
-    HOLD(gav_continue(SETTINGS, longer, 29, state, 11, UINT64_MAX, out, N) == says(7, 0, 0));
-    HOLD(gav_continue(SETTINGS, falling, 20, state, 11, 0, out, N) == says(5, 1, 0));
-    HOLD(gav_continue(SETTINGS, longer, 30, state, 11, 0, out, N) == says(10, 0, 0));
-    HOLD(gav_continue(SETTINGS, longer, 30, state, 13, 0, out, N) == says(10, 0, 0));
-    HOLD(gav_continue(SETTINGS, longer, 30, state, 12, 1, out, N) == says(10, 0, 0));
+    HOLD(gav_continue(RATE, 9, 0, ADSR, NO_LFO, longer, 29, state, WORDS - 1, GAV_MOST_SAMPLES, out, N) == says(6, 0, 0));
+    HOLD(gav_continue(SETTINGS, longer, 29, state, WORDS - 1, GAV_MOST_SAMPLES, out, 1) == says(7, 0, 0));
+    HOLD(gav_continue(SETTINGS, longer, 29, state, WORDS - 1, UINT64_MAX, out, N) == says(7, 0, 0));
+    HOLD(gav_continue(SETTINGS, falling, 20, state, WORDS - 1, 0, out, N) == says(5, 1, 0));
+    HOLD(gav_continue(SETTINGS, longer, 30, state, WORDS - 1, 0, out, N) == says(10, 0, 0));
+    HOLD(gav_continue(SETTINGS, longer, 30, state, WORDS + 1, 0, out, N) == says(10, 0, 0));
+    HOLD(gav_continue(SETTINGS, longer, 30, state, WORDS, 1, out, N) == says(10, 0, 0));
     HOLD(untouched());
 
     /* the last position there is, and nothing after it */
-    HOLD(gav_continue(SETTINGS, NULL, 0, state, 12, GAV_MOST_SAMPLES, NULL, 0) == 0);
+    HOLD(gav_continue(SETTINGS, NULL, 0, state, WORDS, GAV_MOST_SAMPLES, NULL, 0) == 0);
     HOLD(untouched());
 
     /* the third record comes late, but before its sample */
     size_t position = 0;
     for (size_t i = 0; i < LEN(parts); i++) {
         size_t known = position < 4000 ? 20 : 30;
-        HOLD(gav_continue(SETTINGS, longer, known, state, 12, position, played + position, parts[i]) == says(0, 0, (uint32_t)parts[i]));
+        HOLD(gav_continue(SETTINGS, longer, known, state, WORDS, position, played + position, parts[i]) == says(0, 0, (uint32_t)parts[i]));
         position += parts[i];
-        if (position == 4096) HOLD(memcmp(state, entries + 12, 12 * sizeof *state) == 0);
+        if (position == 4096) HOLD(memcmp(state, entries + WORDS, WORDS * sizeof *state) == 0);
     }
     HOLD(position == N && SAME(played, all));
-    HOLD(state[5] == 60 + 256 + 512 + 3 * 65536 && state[12] == state_before[12]);
+    HOLD(state[5] == 60 + 256 + 512 + 3 * 65536 && state[WORDS] == state_before[WORDS]);
     /* one key is held, note 60 at velocity 100 */
     HOLD(state[8] == 60 + 256 * 100 && state[9] == 0 && state[10] == 0 && state[11] == 0);
+}
+
+/* 02's tremolo, by single samples of the waveform: what the dry samples, in played, are multiplied by. The LFO's phase
+ * is reduced where the oscillator's is, and set to 0 by the reset at 300. */
+static void tremolo_of(uint32_t code, double duty, double frequency, double depth) {
+    const double tau = 6.283185307179586, step = frequency / RATE * tau, dt = step * (1 / tau);
+    double phase = 0, lfo;
+    int right = 1;
+    HOLD(gav_render(RATE, GAV_SAWTOOTH, NAN, ADSR, code, duty, frequency, depth, reset, 40, out, N, shelf, 2 * WORDS) == says(0, 0, N));
+    for (size_t i = 0; i < N; i++) {
+        if (i == GAV_SECTION) HOLD(shelf[WORDS + 12] == bits(phase));
+        if (i % 64 == 0 || i == 100 || i == 300 || i == 4500) phase = i == 300 ? 0 : fmod(phase, tau);
+        lfo = gav_sample(code, fmod(phase, tau) * (1 / tau), dt, duty) * depth;
+        right &= bits(out[i]) == bits(played[i] * (1 - depth / 2 + lfo / 2));
+        phase += step;
+    }
+    HOLD(right);
+    /* all else of the entries is as without a tremolo */
+    shelf[WORDS + 12] = entries[WORDS + 12];
+    HOLD(SAME(shelf, entries));
+}
+
+/* A part of ten samples from position 1 on, whose LFO of 100 Hz begins at some phase. */
+static uint64_t from_phase(uint64_t phase) {
+    HOLD(gav_fresh(state, WORDS) == 0);
+    state[12] = phase;
+    return gav_continue(8000, GAV_SINE, NAN, ADSR, GAV_SINE, NAN, 100, 1, NULL, 0, state, WORDS, 1, out, 10);
+}
+
+#define SLOW RATE, GAV_SQUARE, NAN, ADSR, GAV_TRIANGLE, NAN, 12.5, 0.9
+static void tremolos(void) {
+    HOLD(gav_render(SETTINGS, reset, 40, played, N, entries, 2 * WORDS) == says(0, 0, N));
+    tremolo_of(GAV_SINE, NAN, 5, 1);
+    tremolo_of(GAV_SQUARE, 2, 33.3, 0.5);
+    tremolo_of(GAV_SAWTOOTH, NAN, 100, 1);
+    tremolo_of(GAV_TRIANGLE, -1, 100, 1);
+    tremolo_of(GAV_PULSE, 0.25, 99.9, 0.75);
+    /* past TAU just before the entry, and just before the record at 4,500 */
+    tremolo_of(GAV_TRIANGLE, NAN, 93.33, 1);
+    tremolo_of(GAV_SAWTOOTH, NAN, 94.61, 1);
+    tremolo_of(GAV_SINE, NAN, -0.0, 1);
+    tremolo_of(GAV_TRIANGLE, NAN, 7, 0);
+    HOLD(SAME(out, played));
+    tremolo_of(GAV_PULSE, 1, 7, -0.0);
+    HOLD(SAME(out, played));
+
+    /* an edit with a tremolo, and parts of any lengths */
+    HOLD(gav_render(SLOW, example, 20, out, N, shelf, 2 * WORDS) == says(0, 0, N));
+    HOLD(gav_rerender(SLOW, example, 20, longer, 30, out, N, shelf, 2 * WORDS) == says(0, 0, N - GAV_SECTION));
+    HOLD(gav_render(SLOW, longer, 30, all, N, entries, 2 * WORDS) == says(0, 0, N));
+    HOLD(SAME(out, all) && SAME(shelf, entries));
+    HOLD(gav_fresh(state, WORDS) == 0);
+    for (size_t at = 0; at < N; at += 250) {
+        HOLD(gav_continue(SLOW, longer, 30, state, WORDS, at, played + at, 250) == says(0, 0, 250));
+    }
+    HOLD(SAME(played, all));
+}
+
+/* Each of the three calls is 6, before all else: the score, the shelf and the state are wrong too. */
+static int is_six(uint32_t code, double duty, double frequency, double depth) {
+#define WRONG RATE, GAV_SAWTOOTH, NAN, ADSR, code, duty, frequency, depth
+    return gav_render(WRONG, example, 19, out, N, shelf, 1) == says(6, 0, 0) &&
+           gav_rerender(WRONG, example, 19, example, 19, out, N, shelf, 1) == says(6, 0, 0) &&
+           gav_continue(WRONG, example, 19, state, 1, UINT64_MAX, out, N) == says(6, 0, 0);
+}
+
+static void refused_tremolos(void) {
+    spoil();
+    HOLD(is_six(5, 0.5, 0, 0) && is_six(UINT32_MAX, 0.5, 0, 0));
+    HOLD(is_six(GAV_SINE, 0.5, 101, 0) && is_six(GAV_SINE, 0.5, nextafter(100, 101), 0) && is_six(GAV_SINE, 0.5, -1, 0));
+    HOLD(is_six(GAV_SINE, 0.5, NAN, 0) && is_six(GAV_SINE, 0.5, INFINITY, 0));
+    HOLD(is_six(GAV_SINE, 0.5, 0, 1.5) && is_six(GAV_SINE, 0.5, 0, nextafter(1, 2)) && is_six(GAV_SINE, 0.5, 0, -1));
+    HOLD(is_six(GAV_SINE, 0.5, 0, NAN));
+    HOLD(is_six(GAV_PULSE, 2, 0, 0) && is_six(GAV_PULSE, -1, 0, 0) && is_six(GAV_PULSE, NAN, 0, 0));
+    HOLD(untouched());
+
+    /* word 12 of a state; past 1,000 it is handed back all the same, and then no state */
+    HOLD(from_phase(bits(-1)) == says(10, 0, 0) && from_phase(bits(1000)) == says(10, 0, 0));
+    HOLD(from_phase(bits(NAN)) == says(10, 0, 0) && from_phase(bits(INFINITY)) == says(10, 0, 0));
+    HOLD(from_phase(bits(-0.0)) == says(0, 0, 10) && from_phase(bits(nextafter(1000, 0))) == says(0, 0, 10));
+    HOLD(from_phase(bits(999.9)) == says(0, 0, 10) && state[12] > bits(1000.0) && state[12] < bits(1001.0));
+    HOLD(gav_continue(8000, GAV_SINE, NAN, ADSR, GAV_SINE, NAN, 100, 1, NULL, 0, state, WORDS, 11, out, 1) == says(10, 0, 0));
+    /* and of the entry that a re-render starts from */
+    HOLD(gav_render(SETTINGS, example, 20, out, N, shelf, 2 * WORDS) == says(0, 0, N));
+    memcpy(out_before, out, sizeof out);
+    shelf[WORDS + 12] = bits(1000.0);
+    HOLD(gav_rerender(SETTINGS, example, 20, longer, 30, out, N, shelf, 2 * WORDS) == says(8, 0, 0));
+    HOLD(SAME(out, out_before));
 }
 
 static void lists(void) {
@@ -272,6 +371,8 @@ int main(void) {
     continues();
     lists();
     wrappers();
+    tremolos();
+    refused_tremolos();
     printf("%d facts held, %d faults\n", held - faults, faults);
     return faults != 0;
 }

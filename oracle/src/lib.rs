@@ -27,7 +27,7 @@ mod waveform_rows;
 use std::slice::{from_raw_parts, from_raw_parts_mut};
 
 use polyblep::{polyblamp_triangle, polyblep_pulse, polyblep_saw, polyblep_square};
-use render::{play_untouched, Player, Record, Settings, Words};
+use render::{play_untouched, Lfo, Player, Record, Settings, Words};
 use waveform_rows::{SAWTOOTH, SINE, SQUARE, TAU, TRIANGLE};
 
 #[no_mangle]
@@ -44,12 +44,18 @@ pub struct Given {
     decay: f64,
     sustain: f64,
     release: f64,
+    lfo_code: u32,
+    lfo_duty: f64,
+    lfo_frequency: f64,
+    lfo_depth: f64,
 }
 
 impl Given {
     fn settings(&self) -> Settings {
         let adsr = [self.attack, self.decay, self.sustain, self.release];
-        Settings { rate: self.rate as u64, wave: (self.code as u64, self.duty), adsr }
+        let wave = (self.lfo_code as u64, self.lfo_duty);
+        let lfo = Lfo { wave, frequency: self.lfo_frequency, depth: self.lfo_depth };
+        Settings { rate: self.rate as u64, wave: (self.code as u64, self.duty), adsr, lfo }
     }
 }
 
@@ -73,11 +79,13 @@ pub unsafe extern "C" fn original_render(given: &Given, score: *const u8, len: u
     play_untouched(given.settings(), records(score, len), from_raw_parts_mut(out, n));
 }
 
-/// From a state at a position on, with level times velocity of each sample, and, where a shelf is lent, the entry of
-/// each section that begins in the part, in order; the state is afterwards the one after the samples.
+/// From a state at a position on, with each sample's scale (how far our sines may move it, in millionths), and, where a
+/// shelf is lent, the entry of each section that begins in the part, in order; the state is afterwards the one after
+/// the samples.
 ///
 /// # Safety
-/// As above; the state has twelve words, and a shelf that is not null twelve for each section that begins in the part.
+/// As above; the state has thirteen words, and a shelf that is not null thirteen for each section that begins in the
+/// part.
 #[no_mangle]
 pub unsafe extern "C" fn original_play(
     given: &Given,

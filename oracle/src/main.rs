@@ -25,6 +25,7 @@ mod render_edges;
 mod render_edits;
 mod render_random;
 mod render_rows;
+mod render_tremolo;
 mod rows;
 mod sine_rows;
 mod voice_rows;

@@ -1,12 +1,15 @@
-//! The original driven span by span, as 01 says under "Making sample n": its voice, its envelope, and its oscillator.
+//! The original driven span by span, as 01 says under "Making sample n": its voice, its envelope, its oscillator, and,
+//! as 02 says under "Tremolo", its LFO.
 //!
 //! `Player` goes on from any state within the limits and shows its states: it has the opened copies, and makes a span's
-//! values one by one, since the original's block has one duty only. `Plain` has the untouched copies alone, from sample
-//! 0 on, and calls whole blocks into the output: its speed is measured. Where both can be asked they are compared.
+//! values one by one, since the original's blocks have one duty only. `Plain` has the untouched copies alone, from
+//! sample 0 on, and calls whole blocks into the output: its speed is measured. Where both can be asked they are
+//! compared.
 
 use crate::block::Block;
 use crate::blocks::generators::oscillator::OscillatorBlock;
 use crate::blocks::modulators::envelope::EnvelopeBlock;
+use crate::blocks::modulators::lfo::LfoBlock;
 use crate::check_copies::run;
 use crate::context::DspContext;
 use crate::envelope_rows::{self, opened_block};
@@ -17,7 +20,7 @@ use crate::random::XorShiftRng;
 use crate::voice::VoiceState;
 use crate::voice_rows::{self, Pair, NOTE_OFF, NOTE_ON, RESET};
 use crate::waveform::{generate_waveform_sample, Waveform, DEFAULT_DUTY_CYCLE};
-use crate::waveform_rows::{waveform, PULSE, TAU};
+use crate::waveform_rows::{waveform, PULSE, SINE, TAU};
 
 /// The samples from one reduction to the next where no record acts, and from one shelf entry to the next.
 const BLOCK: u64 = 64;
@@ -31,18 +34,51 @@ pub const KIND_RESET: u8 = 3;
 /// A shape and its duty.
 pub type Wave = (u64, f64);
 
+/// Whether the original's blocks have this waveform.
+fn is_a_block((shape, duty): Wave) -> bool {
+    shape != PULSE || duty == DEFAULT_DUTY_CYCLE
+}
+
+#[derive(Clone, Copy)]
+pub struct Lfo {
+    pub wave: Wave,
+    pub frequency: f64,
+    pub depth: f64,
+}
+
+impl Lfo {
+    /// What a sample is multiplied by last, of the block's scaled value: 02's "1 - depth/2 + lfo/2".
+    fn factor(self, value: f64) -> f64 {
+        1.0 - self.depth / 2.0 + value / 2.0
+    }
+
+    /// Whether its sine is heard: at depth 0, of either sign, the factor is 1.
+    fn is_heard_sine(self) -> bool {
+        self.wave.0 == SINE && self.depth != 0.0
+    }
+}
+
 #[derive(Clone, Copy)]
 pub struct Settings {
     pub rate: u64,
     pub wave: Wave,
     /// Attack, decay, sustain, release.
     pub adsr: [f64; 4],
+    pub lfo: Lfo,
 }
 
 impl Settings {
-    /// Whether the original's block has this waveform.
-    fn is_a_block(self) -> bool {
-        self.wave.0 != PULSE || self.wave.1 == DEFAULT_DUTY_CYCLE
+    /// Whether a sine is heard in the samples, which then are measured.
+    pub fn has_sine(self) -> bool {
+        self.wave.0 == SINE || self.lfo.is_heard_sine()
+    }
+
+    /// How far our sines may move a sample, in millionths: the oscillator's by a millionth of its scale and factor, the
+    /// LFO's, of which half is taken, by half a millionth of the depth, times the sample without tremolo.
+    fn scale(self, dry: f64, loudness: f64, factor: f64) -> f64 {
+        let own = if self.wave.0 == SINE { (loudness * factor).abs() } else { 0.0 };
+        let slow = if self.lfo.is_heard_sine() { 0.5 * self.lfo.depth * dry.abs() } else { 0.0 };
+        own + slow
     }
 }
 
@@ -67,11 +103,12 @@ pub fn reset(position: u64) -> Record {
     Record { position, kind: KIND_RESET, note: 0, velocity: 0 }
 }
 
-/// The twelve words of a state, in a shelf entry's order.
-pub type Words = [u64; 12];
+/// The thirteen words of a state, in a shelf entry's order.
+pub const STATE_WORDS: usize = 13;
+pub type Words = [u64; STATE_WORDS];
 
-/// What was played: each sample's bits, the bits of level times velocity, and the entries of the sections that begin in
-/// it.
+/// What was played: each sample's bits, the bits of its scale (how far it may be off, in millionths), and the entries
+/// of the sections that begin in it.
 #[derive(Default)]
 pub struct Played {
     pub samples: Vec<u64>,
@@ -88,34 +125,36 @@ pub struct Player {
     frequency: f64,
     velocity: f64,
     acted: u64,
+    lfo_phase: f64,
 }
 
 impl Player {
     pub fn fresh(settings: Settings) -> Self {
-        let envelope = opened_block(settings.adsr);
-        let mut player =
-            Self { settings, phase: 0.0, envelope, voice: Pair::new(), frequency: 0.0, velocity: 0.0, acted: 0 };
+        let (envelope, voice) = (opened_block(settings.adsr), Pair::new());
+        let (frequency, velocity) = (0.0, 0.0);
+        let mut player = Self { settings, phase: 0.0, envelope, voice, frequency, velocity, acted: 0, lfo_phase: 0.0 };
         player.hear();
         player
     }
 
     /// From a state within the limits.
     pub fn at(settings: Settings, words: &Words) -> Self {
-        let [phase, frequency, velocity] = [0, 6, 7].map(|at| f64::from_bits(words[at]));
+        let [phase, frequency, velocity, lfo_phase] = [0, 6, 7, 12].map(|at| f64::from_bits(words[at]));
         let mut envelope = opened_block(settings.adsr);
         let (stage, level, stage_time, release_level) = envelope_rows::state_of(&words[1..5]);
         envelope.set_fields(stage, level, stage_time, release_level);
         let voice = Pair::at(keys_of(words));
-        Self { settings, phase, envelope, voice, frequency, velocity, acted: words[5] >> 16 }
+        Self { settings, phase, envelope, voice, frequency, velocity, acted: words[5] >> 16, lfo_phase }
     }
 
     pub fn words(&self) -> Words {
         let keys = self.voice.state();
         let [stage, level, stage_time, release_level] = envelope_rows::state_words(self.envelope.fields());
-        let [phase, frequency, velocity] = [self.phase, self.frequency, self.velocity].map(f64::to_bits);
+        let [phase, frequency, velocity, lfo_phase] =
+            [self.phase, self.frequency, self.velocity, self.lfo_phase].map(f64::to_bits);
         let [a, b, c, d] = [0, 4, 8, 12].map(|at| four_pairs(&keys, at));
         let packed = packed_word(&keys, self.acted);
-        [phase, stage, level, stage_time, release_level, packed, frequency, velocity, a, b, c, d]
+        [phase, stage, level, stage_time, release_level, packed, frequency, velocity, a, b, c, d, lfo_phase]
     }
 
     /// The samples from a position on. Nothing is reduced at their end.
@@ -127,6 +166,7 @@ impl Player {
             }
             if n % BLOCK == 0 || self.next(score).is_some_and(|record| record.position == n) {
                 self.phase = Real::rem_euclid(self.phase, TAU);
+                self.lfo_phase = Real::rem_euclid(self.lfo_phase, TAU);
             }
             while let Some(record) = self.next(score).filter(|record| record.position == n) {
                 self.act(record);
@@ -162,7 +202,7 @@ impl Player {
             _ => {
                 self.voice.call(RESET, 0, 0);
                 self.envelope.reset();
-                self.phase = 0.0;
+                (self.phase, self.lfo_phase) = (0.0, 0.0);
                 self.hear();
             }
         }
@@ -176,34 +216,55 @@ impl Player {
 
     /// A span, or the part of one that is asked for.
     fn sound(&mut self, length: usize, played: &mut Played) {
-        let rate = self.settings.rate as f64;
-        let values = self.values(length);
-        let levels = run(&mut self.envelope, rate, length).into_iter().map(f64::from_bits);
-        for (value, level) in values.into_iter().zip(levels) {
-            played.samples.push((value * level * self.velocity).to_bits());
-            played.scales.push((level * self.velocity).to_bits());
+        let Settings { rate, lfo, .. } = self.settings;
+        let (values, slow) = (self.values(length), self.slow_values(length));
+        let levels = run(&mut self.envelope, rate as f64, length).into_iter().map(f64::from_bits);
+        for ((value, level), slow) in values.into_iter().zip(levels).zip(slow) {
+            let (dry, factor) = (value * level * self.velocity, lfo.factor(slow));
+            played.samples.push((dry * factor).to_bits());
+            played.scales.push(self.settings.scale(dry, level * self.velocity, factor).to_bits());
         }
     }
 
-    /// The oscillator's values one by one; the block agrees, but reduces the phase after them.
+    /// The oscillator's values; its block agrees.
     fn values(&mut self, length: usize) -> Vec<f64> {
-        let Settings { rate, wave: (shape, duty), .. } = self.settings;
-        let (rate, shape) = (rate as f64, waveform(shape));
-        let mut block = opened::oscillator::OscillatorBlock::<f64>::new(self.frequency, shape, None);
+        let Settings { rate, wave, .. } = self.settings;
+        let mut block = opened::oscillator::OscillatorBlock::<f64>::new(self.frequency, waveform(wave.0), None);
         block.set_opened_phase(self.phase);
-        let (increment, rng) = (self.frequency / rate * TAU, &mut XorShiftRng::new(0));
-        let mut values = Vec::new();
-        for _ in 0..length {
-            values.push(generate_waveform_sample(shape, self.phase, increment, duty, rng));
-            self.phase += increment;
-        }
-        if self.settings.is_a_block() {
-            let same = run(&mut block, rate, length);
-            assert!(same.into_iter().eq(values.iter().map(|value| value.to_bits())), "the block parts ways");
-            assert_eq!(block.opened_phase().to_bits(), Real::rem_euclid(self.phase, TAU).to_bits());
+        let values = one_by_one(wave, self.frequency / rate as f64 * TAU, 1.0, &mut self.phase, length);
+        if is_a_block(wave) {
+            agrees(&values, self.phase, run(&mut block, rate as f64, length), block.opened_phase());
         }
         values
     }
+
+    /// The LFO's scaled values; its block agrees.
+    fn slow_values(&mut self, length: usize) -> Vec<f64> {
+        let Settings { rate, lfo: Lfo { wave, frequency, depth }, .. } = self.settings;
+        let mut block = opened::lfo::LfoBlock::<f64>::new(frequency, depth, waveform(wave.0), None);
+        block.set_opened_phase(self.lfo_phase);
+        let values = one_by_one(wave, frequency / rate as f64 * TAU, depth, &mut self.lfo_phase, length);
+        if is_a_block(wave) {
+            agrees(&values, self.lfo_phase, run(&mut block, rate as f64, length), block.opened_phase());
+        }
+        values
+    }
+}
+
+/// The values of a block one by one. The phase is not reduced after them.
+fn one_by_one((shape, duty): Wave, increment: f64, scale: f64, phase: &mut f64, length: usize) -> Vec<f64> {
+    let (shape, rng, mut values) = (waveform(shape), &mut XorShiftRng::new(0), Vec::new());
+    for _ in 0..length {
+        values.push(generate_waveform_sample(shape, *phase, increment, duty, rng) * scale);
+        *phase += increment;
+    }
+    values
+}
+
+/// A block's values are those made one by one; it reduces the phase after them.
+fn agrees(values: &[f64], phase: f64, by_block: Vec<u64>, after: f64) {
+    assert!(by_block.into_iter().eq(values.iter().map(|value| value.to_bits())), "the block parts ways");
+    assert_eq!(after.to_bits(), Real::rem_euclid(phase, TAU).to_bits());
 }
 
 /// Where the span that holds n ends: at the next multiple of 64, at the next record, or where no more is asked for.
@@ -212,50 +273,64 @@ fn span_end(n: u64, next: Option<Record>, asked: u64) -> u64 {
     next.map_or(block, |record| record.position.min(block)).min(asked)
 }
 
-/// The untouched copies of voice and envelope, and the untouched oscillator.
+/// The untouched copies of voice and envelope, the untouched oscillator and the untouched LFO. At depth 0 there is no
+/// LFO, as before there was a tremolo: `Player` has one, whose factor is 1.
 struct Plain {
     voice: VoiceState,
     envelope: EnvelopeBlock<f64>,
     source: Source,
+    tremolo: Option<(Lfo, Source)>,
 }
 
-/// The original's block; a pulse of another duty is the block's loop over the original's single sample.
+/// The original's blocks; a pulse of another duty is a block's loop over the original's single sample.
 enum Source {
-    Block(OscillatorBlock<f64>),
-    Pulse { duty: f64, frequency: f64, phase: f64 },
+    Oscillator(OscillatorBlock<f64>),
+    Lfo(LfoBlock<f64>),
+    Pulse { duty: f64, frequency: f64, scale: f64, phase: f64 },
 }
 
 impl Source {
-    fn new(settings: Settings) -> Self {
-        let (shape, duty) = settings.wave;
-        if settings.is_a_block() {
-            Self::Block(OscillatorBlock::new(440.0, waveform(shape), None))
+    fn oscillator(wave: Wave) -> Self {
+        if is_a_block(wave) {
+            Self::Oscillator(OscillatorBlock::new(440.0, waveform(wave.0), None))
         } else {
-            Self::Pulse { duty, frequency: 440.0, phase: 0.0 }
+            Self::Pulse { duty: wave.1, frequency: 440.0, scale: 1.0, phase: 0.0 }
+        }
+    }
+
+    fn lfo(Lfo { wave, frequency, depth }: Lfo) -> Self {
+        if is_a_block(wave) {
+            Self::Lfo(LfoBlock::new(frequency, depth, waveform(wave.0), None))
+        } else {
+            Self::Pulse { duty: wave.1, frequency, scale: depth, phase: 0.0 }
         }
     }
 
     fn reset(&mut self) {
         match self {
-            Self::Block(block) => block.reset(),
+            Self::Oscillator(block) => block.reset(),
+            Self::Lfo(block) => block.reset(),
             Self::Pulse { phase, .. } => *phase = 0.0,
         }
     }
 
+    /// Of a note, for the oscillator.
     fn set_frequency(&mut self, new: f64) {
         match self {
-            Self::Block(block) => block.set_midi_frequency(new),
+            Self::Oscillator(block) => block.set_midi_frequency(new),
+            Self::Lfo(_) => {}
             Self::Pulse { frequency, .. } => *frequency = new,
         }
     }
 
     fn process(&mut self, out: &mut [f64], context: &DspContext) {
         match self {
-            Self::Block(block) => block.process(&[], &mut [out], &ModulationValues::none(), context),
-            Self::Pulse { duty, frequency, phase } => {
+            Self::Oscillator(block) => block.process(&[], &mut [out], &ModulationValues::none(), context),
+            Self::Lfo(block) => block.process(&[], &mut [out], &ModulationValues::none(), context),
+            Self::Pulse { duty, frequency, scale, phase } => {
                 let (increment, rng) = (*frequency / context.sample_rate * TAU, &mut XorShiftRng::new(0));
                 for sample in out {
-                    *sample = generate_waveform_sample(Waveform::Pulse, *phase, increment, *duty, rng);
+                    *sample = generate_waveform_sample(Waveform::Pulse, *phase, increment, *duty, rng) * *scale;
                     *phase += increment;
                 }
                 *phase = Real::rem_euclid(*phase, TAU);
@@ -277,11 +352,12 @@ impl Plain {
                 self.voice.reset();
                 self.envelope.reset();
                 self.source.reset();
+                self.tremolo.iter_mut().for_each(|(_, slow)| slow.reset());
             }
         }
     }
 
-    /// One span. The blocks reduce the phase after it, which is where the next one begins.
+    /// One span. The blocks reduce their phases after it, which is where the next one begins.
     fn sound(&mut self, rate: f64, out: &mut [f64]) {
         let mut levels = [0.0; BLOCK as usize];
         let levels = &mut levels[..out.len()];
@@ -293,6 +369,12 @@ impl Plain {
         for (sample, level) in out.iter_mut().zip(levels.iter()) {
             *sample = *sample * *level * velocity;
         }
+        let Some((lfo, slow)) = &mut self.tremolo else { return };
+        let mut values = [0.0; BLOCK as usize];
+        slow.process(&mut values[..out.len()], &context);
+        for (sample, value) in out.iter_mut().zip(values) {
+            *sample *= lfo.factor(value);
+        }
     }
 }
 
@@ -300,7 +382,8 @@ impl Plain {
 pub fn play_untouched(settings: Settings, score: impl Iterator<Item = Record>, out: &mut [f64]) {
     let [attack, decay, sustain, release] = settings.adsr;
     let envelope = EnvelopeBlock::new(attack, decay, sustain, release);
-    let mut plain = Plain { voice: VoiceState::new(), envelope, source: Source::new(settings) };
+    let tremolo = (settings.lfo.depth != 0.0).then(|| (settings.lfo, Source::lfo(settings.lfo)));
+    let mut plain = Plain { voice: VoiceState::new(), envelope, source: Source::oscillator(settings.wave), tremolo };
     let (mut rest, mut n) = (score.peekable(), 0);
     while n < out.len() {
         while let Some(record) = rest.next_if(|record| record.position == n as u64) {
@@ -314,7 +397,7 @@ pub fn play_untouched(settings: Settings, score: impl Iterator<Item = Record>, o
 
 /// The bits of a score's first samples by the untouched copies; none for a waveform that their block does not have.
 pub fn untouched(settings: Settings, score: &[Record], length: u64) -> Option<Vec<u64>> {
-    if !settings.is_a_block() {
+    if !is_a_block(settings.wave) || !is_a_block(settings.lfo.wave) {
         return None;
     }
     let mut samples = vec![0.0; length as usize];

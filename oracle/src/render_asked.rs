@@ -1,15 +1,15 @@
 //! What a row of the render asks for, by the names of its words, and what the original or 01 answers.
 
-use crate::render::{untouched, Player, Record, Settings, Wave, Words, KIND_RESET, SECTION};
+use crate::render::{untouched, Lfo, Player, Record, Settings, Wave, Words, KIND_RESET, SECTION, STATE_WORDS};
 use crate::rows::says;
-use crate::waveform_rows::{PULSE, SINE, UNWRITTEN};
+use crate::waveform_rows::{PULSE, SAWTOOTH, SINE, SQUARE, TRIANGLE, UNWRITTEN};
 
 pub const RENDER: u64 = 0;
 pub const CONTINUE: u64 = 1;
 pub const RERENDER: u64 = 2;
 
 /// The given words before the score.
-pub const GIVEN: usize = 25;
+pub const GIVEN: usize = 30;
 
 const RECORD: usize = 10;
 pub const MOST_RECORDS: usize = 4096;
@@ -39,12 +39,27 @@ type Refusal = (u64, usize);
 /// Attack, decay, sustain and release within some hundred samples.
 const QUICK: [f64; 4] = [0.001, 0.002, 0.5, 0.003];
 
+/// An LFO that is not heard: depth 0 of either sign, any waveform, still and at work.
+fn unheard(number: u64) -> Lfo {
+    let pick = |count: u64| (number % count) as usize;
+    let wave = [(SINE, 0.0), (SQUARE, 0.0), (SAWTOOTH, 0.0), (TRIANGLE, 0.0), (PULSE, 0.3)][pick(5)];
+    Lfo { wave, frequency: [0.0, 5.5, 100.0][pick(3)], depth: [0.0, -0.0][pick(2)] }
+}
+
 impl Asked {
-    /// A whole render, with the shelf that it takes.
+    /// A whole render, with the shelf that it takes, and no tremolo.
     pub fn whole(rate: u64, wave: Wave, samples: u64, score: &[Record]) -> Self {
-        let settings = Settings { rate, wave, adsr: QUICK };
+        let lfo = unheard(rate + samples + score.len() as u64);
+        let settings = Settings { rate, wave, adsr: QUICK, lfo };
         let (score, shelf) = (score.iter().flat_map(bytes_of).collect(), shelf_words(samples));
-        Self { op: RENDER, settings, samples, score, shelf, position: 0, state: [0; 12], old: vec![], left: vec![] }
+        let (state, old, left) = ([0; STATE_WORDS], vec![], vec![]);
+        Self { op: RENDER, settings, samples, score, shelf, position: 0, state, old, left }
+    }
+
+    /// The same with a tremolo; what was made of it before it had one stays.
+    pub fn with_lfo(mut self, lfo: Lfo) -> Self {
+        self.settings.lfo = lfo;
+        self
     }
 
     /// A part of a render, from the original's own state at its position. The original that goes on from there must
@@ -72,14 +87,16 @@ impl Asked {
     }
 
     pub fn words(&self) -> Vec<u64> {
-        let Settings { rate, wave: (shape, duty), adsr } = self.settings;
-        let duty = if shape == PULSE { duty } else { 0.0 };
+        let Settings { rate, wave, adsr, lfo } = self.settings;
         let mut given: Vec<u64> = self.score.chunks(8).chain(self.old.chunks(8)).map(word_of).collect();
         given.extend(&self.left);
         let more = given.len() as u64 + self.samples + self.scales() + self.shelf;
         let position = if self.op == RERENDER { self.old.len() as u64 } else { self.position };
-        let mut row = vec![self.op, more, rate, shape, duty.to_bits()];
+        let mut row = vec![self.op, more, rate];
+        row.extend(wave_words(wave));
         row.extend(adsr.map(f64::to_bits));
+        row.extend(wave_words(lfo.wave));
+        row.extend([lfo.frequency, lfo.depth].map(f64::to_bits));
         row.extend([self.samples, self.score.len() as u64, self.shelf, position]);
         row.extend(self.state);
         row.extend(given);
@@ -88,19 +105,21 @@ impl Asked {
 
     pub fn of(row: &[u64]) -> Self {
         let adsr = [5, 6, 7, 8].map(|at| f64::from_bits(row[at]));
-        let settings = Settings { rate: row[2], wave: (row[3], f64::from_bits(row[4])), adsr };
-        let [op, samples, shelf, position] = [0, 9, 11, 12].map(|at| row[at]);
+        let [duty, lfo_duty, frequency, depth] = [4, 10, 11, 12].map(|at| f64::from_bits(row[at]));
+        let lfo = Lfo { wave: (row[9], lfo_duty), frequency, depth };
+        let settings = Settings { rate: row[2], wave: (row[3], duty), adsr, lfo };
+        let [op, samples, shelf, position] = [0, 13, 15, 16].map(|at| row[at]);
         let (position, size) = if op == RERENDER { (0, position) } else { (position, 0) };
-        let (score, rest) = bytes_and_rest(&row[GIVEN..], row[10]);
+        let (score, rest) = bytes_and_rest(&row[GIVEN..], row[14]);
         let (old, rest) = bytes_and_rest(rest, size);
-        let (state, left) = (row[13..GIVEN].try_into().unwrap(), rest.to_vec());
+        let (state, left) = (row[17..GIVEN].try_into().unwrap(), rest.to_vec());
         Self { op, settings, samples, score, shelf, position, state, old, left }
     }
 
     /// How many scales the row has: numbers that say how far a sine may be off.
     fn scales(&self) -> u64 {
         match self.refusal() {
-            None if self.settings.wave.0 == SINE => self.samples,
+            None if self.settings.has_sine() => self.samples,
             _ => 0,
         }
     }
@@ -127,8 +146,8 @@ impl Asked {
     fn is_lost(&self) -> bool {
         start_of(&self.old, &self.score, self.samples).is_some_and(|from| {
             let below = records(&self.score).iter().filter(|record| record.position < from).count();
-            let entry = (self.samples + 12 * (from / SECTION)) as usize;
-            let words: &Words = self.left[entry..entry + 12].try_into().unwrap();
+            let entry = (self.samples + entry_at(from)) as usize;
+            let words: &Words = self.left[entry..entry + STATE_WORDS].try_into().unwrap();
             !(is_state(words) && words[5] >> 16 == below as u64)
         })
     }
@@ -137,7 +156,7 @@ impl Asked {
     fn start(&self) -> (u64, u64) {
         match start_of(&self.old, &self.score, self.samples) {
             _ if self.op != RERENDER => (0, 0),
-            Some(from) => (from, 12 * (from / SECTION)),
+            Some(from) => (from, entry_at(from)),
             None => (self.samples, self.shelf),
         }
     }
@@ -148,7 +167,7 @@ impl Asked {
         self.op == CONTINUE && !(is_state(&self.state) && self.state[5] >> 16 == below as u64)
     }
 
-    /// Answer, state after; of a sine the samples' scales; samples, shelf.
+    /// Answer, state after; where a sine is heard the samples' scales; samples, shelf.
     pub fn answer(&self) -> Vec<u64> {
         match self.refusal() {
             Some(refusal) => self.refused(refusal),
@@ -183,7 +202,7 @@ impl Asked {
         }
         let (from, entry) = self.start();
         let (samples, shelf) = self.left.split_at(if self.op == RERENDER { self.samples as usize } else { 0 });
-        let first = entry as usize..shelf.len().min(entry as usize + 12);
+        let first = entry as usize..shelf.len().min(entry as usize + STATE_WORDS);
         assert!(shelf[first.clone()] == played.shelf[first], "an entry parts ways");
         played.samples.splice(..from as usize, samples[..from as usize].iter().copied());
         played.shelf.splice(..entry as usize, shelf[..entry as usize].iter().copied());
@@ -197,9 +216,19 @@ impl Asked {
     }
 }
 
-/// The words of the shelf that 01 asks for.
+/// The words of the shelf that 02 asks for.
 pub fn shelf_words(samples: u64) -> u64 {
-    12 * samples.div_ceil(SECTION)
+    entry_at(samples.next_multiple_of(SECTION))
+}
+
+/// The first word of a section's entry, of the section's first sample.
+pub fn entry_at(from: u64) -> u64 {
+    STATE_WORDS as u64 * (from / SECTION)
+}
+
+/// A waveform and its duty, which only Pulse has.
+fn wave_words((shape, duty): Wave) -> [u64; 2] {
+    [shape, if shape == PULSE { duty.to_bits() } else { 0 }]
 }
 
 /// The sample at which a re-render starts, by 01; none where it writes nothing.
@@ -227,9 +256,10 @@ fn word_of(bytes: &[u8]) -> u64 {
     bytes.iter().rev().fold(0, |word, &byte| word << 8 | byte as u64)
 }
 
-fn is_settings(Settings { rate, wave: (shape, duty), adsr }: Settings) -> bool {
-    let has_duty = shape != PULSE || (0.0..=1.0).contains(&duty);
-    (8000..=192000).contains(&rate) && has_duty && adsr.iter().all(|x| !x.is_nan())
+fn is_settings(Settings { rate, wave, adsr, lfo }: Settings) -> bool {
+    let is_wave = |(shape, duty): Wave| shape != PULSE || (0.0..=1.0).contains(&duty);
+    let is_lfo = is_wave(lfo.wave) && (0.0..=100.0).contains(&lfo.frequency) && (0.0..=1.0).contains(&lfo.depth);
+    (8000..=192000).contains(&rate) && is_wave(wave) && adsr.iter().all(|x| !x.is_nan()) && is_lfo
 }
 
 /// The records of a score, which need not be accepted.
@@ -268,13 +298,14 @@ pub fn score_fault(score: &[u8]) -> Option<Refusal> {
 
 /// The shelf's limits.
 pub fn is_state(words: &Words) -> bool {
-    let [phase, level, stage_time, release_level] = [0, 2, 3, 4].map(|at| f64::from_bits(words[at]));
+    let [phase, lfo_phase] = [0, 12].map(|at| f64::from_bits(words[at]));
+    let [level, stage_time, release_level] = [2, 3, 4].map(|at| f64::from_bits(words[at]));
     let [frequency, velocity] = [6, 7].map(|at| f64::from_bits(words[at]));
     let unit = 0.0..=1.0;
     let [active, gate, count] = [words[5] & 255, words[5] >> 8 & 1, words[5] >> 9 & 127];
-    let pairs: Vec<u8> = words[8..].iter().flat_map(|word| word.to_le_bytes()).collect();
+    let pairs: Vec<u8> = words[8..12].iter().flat_map(|word| word.to_le_bytes()).collect();
     let (held, unused) = pairs.split_at((2 * count as usize).min(pairs.len()));
-    (0.0..1000.0).contains(&phase)
+    [phase, lfo_phase].iter().all(|x| (0.0..1000.0).contains(x))
         && words[1] <= 4
         && [level, release_level, velocity].iter().all(|x| unit.contains(x))
         && (0.0..=11.0).contains(&stage_time)

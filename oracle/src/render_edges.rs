@@ -2,8 +2,9 @@
 
 use crate::envelope_rows::RATES;
 use crate::patterns::near;
-use crate::render::{off, on, reset, Record, Settings, Wave};
+use crate::render::{off, on, reset, Lfo, Record, Settings, Wave};
 use crate::render_asked::{packed_words, Asked, CONTINUE, LAST, MOST_SAMPLES};
+use crate::render_tremolo::{self, strong};
 use crate::waveform_rows::{duties, not_a_unit, TINY};
 use crate::waveform_rows::{PULSE, SAWTOOTH, SINE, SQUARE, TRIANGLE};
 
@@ -22,6 +23,7 @@ pub fn all() -> Vec<Vec<u64>> {
     list.extend(edges_of_parts());
     list.extend(edges_of_states());
     list.extend(edges_of_far());
+    list.extend(render_tremolo::edges());
     list.iter().map(Asked::words).collect()
 }
 
@@ -53,7 +55,9 @@ fn edges_of_length() -> Vec<Asked> {
     }
     list.push(Asked::whole(48000, WAVES[4], 4096, &at_marks(4096)));
     list.push(Asked::whole(8000, WAVES[1], 4097, &over_marks()));
-    list.push(Asked::whole(44100, WAVES[3], 10000, &over_marks()));
+    // An LFO that goes on from section to section.
+    let lfo = Lfo { wave: WAVES[4], frequency: 7.0, depth: 0.6 };
+    list.push(Asked::whole(44100, WAVES[3], 10000, &over_marks()).with_lfo(lfo));
     list
 }
 
@@ -174,7 +178,7 @@ fn edges_of_settings() -> Vec<Asked> {
 /// A shelf that is too short or too long, by a word and by an entry.
 fn edges_of_size() -> Vec<Asked> {
     let mut list = Vec::new();
-    for (samples, shelves) in [(0, vec![1, 12]), (3, vec![0, 1, 11, 13, 24]), (4096, vec![24]), (4097, vec![12])] {
+    for (samples, shelves) in [(0, vec![1, 13]), (3, vec![0, 1, 12, 14, 26]), (4096, vec![26]), (4097, vec![13, 24])] {
         list.extend(shelves.into_iter().map(|shelf| Asked { shelf, ..Asked::whole(44100, SAW, samples, &tune()) }));
     }
     list
@@ -208,18 +212,18 @@ fn edges_of_faults() -> Vec<Asked> {
     for size in [1, 9, 11, 79] {
         list.push(Asked { score: usual.score[..size].to_vec(), ..usual.clone() });
     }
-    let small: Vec<Asked> = list.iter().step_by(3).map(|asked| Asked { shelf: 13, ..asked.clone() }).collect();
+    let small: Vec<Asked> = list.iter().step_by(3).map(|asked| Asked { shelf: 14, ..asked.clone() }).collect();
     let mut unset: Vec<Asked> = list.iter().chain(&small).step_by(4).cloned().collect();
     unset.iter_mut().for_each(|asked| asked.settings.rate = 7999);
     let parts = list.iter().step_by(2).map(|asked| Asked { op: CONTINUE, shelf: 0, position: 9, ..asked.clone() });
     [list.clone(), small, unset, parts.collect(), empty(&list, 5)].concat()
 }
 
-/// Renders cut into parts, at records, at the starts of sections and between them.
+/// Renders cut into parts, at records, at the starts of sections and between them; the shorter ones with a tremolo.
 fn edges_of_parts() -> Vec<Asked> {
     let mut list = Vec::new();
     for (i, wave) in WAVES.into_iter().enumerate() {
-        let render = Asked::whole(RATES[i], wave, 0, &tune());
+        let render = Asked::whole(RATES[i], wave, 0, &tune()).with_lfo(strong(i + 1));
         let mut position = 0;
         for samples in [0, 1, 2, 17, 63, 0, 7, 64, 65, 1] {
             list.push(render.part(position, samples));

@@ -2,10 +2,11 @@
 //! original's render of the first leaves, or over rubbish where a re-render does not read.
 
 use crate::chance::Chance;
-use crate::render::{on, reset, Record, KIND_RESET, SECTION};
-use crate::render_asked::{start_of, Asked, LAST};
+use crate::render::{on, reset, Record, KIND_RESET, SECTION, STATE_WORDS};
+use crate::render_asked::{entry_at, start_of, Asked, LAST};
 use crate::render_edges::{over_marks, tune, SAW, WAVES};
 use crate::render_random::{self, moved, random_render, random_score, spoil_score};
+use crate::render_tremolo::{spoilt_lfo, strong};
 use crate::rows::{each, Rows};
 
 /// The longest random one: with two scores and a sine its row is no longer than a render's.
@@ -34,8 +35,8 @@ fn with(score: &[Record], record: Record) -> Vec<Record> {
 /// score.
 fn edges_of_position() -> Vec<Asked> {
     let mut list = Vec::new();
-    for wave in WAVES {
-        let render = Asked::whole(44100, wave, 130, &tune());
+    for (i, wave) in WAVES.into_iter().enumerate() {
+        let render = Asked::whole(44100, wave, 130, &tune()).with_lfo(strong(i + 2));
         list.extend([0, 64, 100, 129, 130, LAST].map(|at| render.edited(&with(&tune(), on(at, 50, 77)))));
         list.extend([render.edited(&tune()[1..]), render.edited(&tune()), render.edited(&[])]);
     }
@@ -44,15 +45,15 @@ fn edges_of_position() -> Vec<Asked> {
     list
 }
 
-/// Edits beside the starts of sections, over the old render and over rubbish.
+/// Edits beside the starts of sections, over the old render and over rubbish; two of them with a tremolo.
 fn edges_of_marks() -> Vec<Asked> {
     let (score, mut chance) = (over_marks(), Chance::new(0));
-    let edited = |wave, samples, record| Asked::whole(48000, wave, samples, &score).edited(&with(&score, record));
+    let whole = |wave, samples| Asked::whole(48000, wave, samples, &score);
     let mut list = vec![
-        edited(WAVES[4], 4200, on(4095, 50, 77)),
-        edited(WAVES[1], 4200, on(4096, 50, 77)),
-        edited(WAVES[0], 4200, reset(4150)),
-        edited(SAW, 8200, on(8192, 50, 77)),
+        whole(WAVES[4], 4200).edited(&with(&score, on(4095, 50, 77))),
+        whole(WAVES[1], 4200).with_lfo(strong(3)).edited(&with(&score, on(4096, 50, 77))),
+        whole(WAVES[0], 4200).edited(&with(&score, reset(4150))),
+        whole(SAW, 8200).with_lfo(strong(4)).edited(&with(&score, on(8192, 50, 77))),
     ];
     let over_rubbish = list.iter_mut().skip(1).step_by(2);
     over_rubbish.for_each(|asked| spoil_left(asked, &mut chance));
@@ -65,8 +66,10 @@ fn edges_of_refusals() -> Vec<Asked> {
     // From the last in the order to the first: each fault added must be given before those that are there.
     let faults = [(2, 2, 0), (2, 9, 1), (2, 7, 128), (2, 6, 9), (2, 0, 0x57)];
     let mut list = Vec::new();
+    let far = 1000f64.to_bits();
+    let nan = f64::NAN.to_bits();
     for (word, value) in
-        [(0, 1000f64.to_bits()), (1, 5), (2, f64::NAN.to_bits()), (5, 1 << 16 | 255), (5, 511), (8, 128)]
+        [(0, far), (1, 5), (2, nan), (5, 1 << 16 | 255), (5, 511), (8, 128), (12, far), (12, nan), (12, 1 << 63 | 1)]
     {
         let mut asked = usual.clone();
         asked.left[3 + word] = value;
@@ -86,11 +89,13 @@ fn edges_of_refusals() -> Vec<Asked> {
         add(&|asked| asked.old[10 * place + byte] = value);
     }
     add(&|asked| asked.old.truncate(79));
-    for shelf in [0, 11, 13, 24] {
+    for shelf in [0, 12, 14, 26] {
         add(&|asked| resize_shelf(asked, shelf));
     }
     add(&|asked| asked.settings.rate = 7999);
     add(&|asked| asked.settings.adsr[2] = f64::NAN);
+    add(&|asked| asked.settings.lfo.frequency = 101.0);
+    add(&|asked| asked.settings.lfo.depth = f64::NAN);
     list
 }
 
@@ -102,11 +107,11 @@ fn resize_shelf(asked: &mut Asked, words: u64) {
 /// Rubbish everywhere but in the entry that the re-render starts from.
 fn spoil_left(asked: &mut Asked, chance: &mut Chance) {
     let (samples, from) = (asked.samples as usize, start_of(&asked.old, &asked.score, asked.samples));
-    let entry = from.map(|from| samples + 12 * (from / SECTION) as usize);
+    let entry = from.map(|from| samples + entry_at(from) as usize);
     for at in 0..asked.left.len() {
         if at < samples {
             asked.left[at] = (1000.0 * chance.unit()).to_bits();
-        } else if entry.is_none_or(|entry| !(entry..entry + 12).contains(&at)) {
+        } else if entry.is_none_or(|entry| !(entry..entry + STATE_WORDS).contains(&at)) {
             asked.left[at] = chance.word();
         }
     }
@@ -149,21 +154,21 @@ fn random_edit(render: &Asked, chance: &mut Chance) -> Vec<Record> {
 
 /// One thing moved out of its domain, most often.
 fn spoil(asked: &mut Asked, chance: &mut Chance) {
-    let entry =
-        start_of(&asked.old, &asked.score, asked.samples).map(|from| (asked.samples + 12 * (from / SECTION)) as usize);
-    match (chance.below(5), entry) {
+    let entry = start_of(&asked.old, &asked.score, asked.samples).map(|from| (asked.samples + entry_at(from)) as usize);
+    match (chance.below(6), entry) {
         (0, _) => asked.settings.rate = chance.pick(&[0, 7999, 192001, LAST]),
+        (5, _) => asked.settings.lfo = spoilt_lfo(asked.settings.lfo, chance),
         (1, _) => spoil_score(&mut asked.score, chance),
         (2, _) => spoil_score(&mut asked.old, chance),
         (3, Some(at)) => {
             let kept = asked.left.clone();
-            let state = moved(kept[at..at + 12].try_into().unwrap(), chance);
-            asked.left[at..at + 12].copy_from_slice(&state);
+            let state = moved(kept[at..at + STATE_WORDS].try_into().unwrap(), chance);
+            asked.left[at..at + STATE_WORDS].copy_from_slice(&state);
             // Another state within the limits, which the new score does not lead to.
             if asked.refusal().is_none() {
                 asked.left = kept;
             }
         }
-        _ => resize_shelf(asked, chance.pick(&[asked.shelf + 1, asked.shelf.saturating_sub(1), asked.shelf + 12])),
+        _ => resize_shelf(asked, chance.pick(&[asked.shelf + 1, asked.shelf.saturating_sub(1), asked.shelf + 13])),
     }
 }

@@ -3,8 +3,9 @@
 use crate::chance::Chance;
 use crate::envelope_rows::{random_rate, random_settings};
 use crate::patterns::near;
-use crate::render::{off, on, reset, Record, Settings, Wave, Words};
+use crate::render::{off, on, reset, Record, Settings, Wave, Words, STATE_WORDS};
 use crate::render_asked::{is_state, packed_words, Asked, CONTINUE, LAST, MOST_SAMPLES, RENDER};
+use crate::render_tremolo::{random_lfo, spoilt_lfo};
 use crate::waveform_rows::{duties, not_a_unit, TINY};
 use crate::waveform_rows::{PULSE, SAWTOOTH, SINE, SQUARE, TRIANGLE};
 
@@ -25,6 +26,7 @@ pub fn random_render(chance: &mut Chance) -> Asked {
     let wave = random_wave(chance);
     let mut asked = Asked::whole(random_rate(chance), wave, samples, &random_score(samples, chance));
     asked.settings.adsr = random_settings(chance);
+    asked.settings.lfo = random_lfo(chance);
     audible(&mut asked.settings);
     asked
 }
@@ -40,8 +42,8 @@ pub fn random_wave(chance: &mut Chance) -> Wave {
 
 /// A sine is measured, and a millionth of its level must be a float.
 pub fn audible(settings: &mut Settings) {
-    let sustain = &mut settings.adsr[2];
-    if settings.wave.0 == SINE && 0.0 < *sustain && *sustain < 1e-9 {
+    let (has_sine, sustain) = (settings.has_sine(), &mut settings.adsr[2]);
+    if has_sine && 0.0 < *sustain && *sustain < 1e-9 {
         *sustain = 0.25;
     }
 }
@@ -152,9 +154,9 @@ fn random_part(render: &Asked, chance: &mut Chance) -> Asked {
 /// A state with one thing changed, within its range or not.
 pub fn moved(mut state: Words, chance: &mut Chance) -> Words {
     let outside = [-TINY, -1.0, near(1.0, 1), 11.5, 1000.0, 12544.5, f64::INFINITY, f64::NAN];
-    let word = chance.below(12) as usize;
+    let word = chance.below(STATE_WORDS as u64) as usize;
     let most = match word {
-        0 => near(1000.0, -1),
+        0 | 12 => near(1000.0, -1),
         3 => 11.0,
         6 => 12544.0,
         _ => 1.0,
@@ -162,10 +164,11 @@ pub fn moved(mut state: Words, chance: &mut Chance) -> Words {
     state[word] = match word {
         1 => chance.below(5),
         5 if chance.below(2) == 0 => chance.pick(&packed_words(state[5])),
-        5 | 8.. => state[word] ^ 1 << chance.below(64),
+        5 | 8..=11 => state[word] ^ 1 << chance.below(64),
         _ => match chance.below(8) {
             0 => chance.pick(&outside),
             1 => most,
+            2 => -0.0,
             _ => most * chance.dense(),
         }
         .to_bits(),
@@ -176,12 +179,13 @@ pub fn moved(mut state: Words, chance: &mut Chance) -> Words {
 /// One thing moved out of its domain, most often.
 fn spoil(asked: &mut Asked, chance: &mut Chance) {
     let Asked { settings, samples, shelf, .. } = asked;
-    match chance.below(8) {
+    match chance.below(9) {
+        8 => settings.lfo = spoilt_lfo(settings.lfo, chance),
         0 => settings.rate = chance.pick(&[0, 7999, 192001, LAST]),
         1 => settings.wave = (PULSE, chance.pick(&not_a_unit())),
         2 => settings.adsr[chance.below(4) as usize] = f64::NAN,
         3 | 4 if asked.op == RENDER => {
-            *shelf = chance.pick(&[*shelf + 1, shelf.saturating_sub(1), *shelf + 12]).min(48)
+            *shelf = chance.pick(&[*shelf + 1, shelf.saturating_sub(1), *shelf + 13]).min(52)
         }
         3 => {
             asked.position = chance.pick(&[

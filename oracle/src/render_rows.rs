@@ -1,8 +1,12 @@
-//! Rows of the render: op, how many words follow the row's first 38, rate, waveform (0 Sine to 4 Pulse, in the
-//! original's order), duty, the four settings, samples asked for, bytes of the score, words of the shelf, position, the
-//! given state; then answer, the state after. Then the score's bytes, with zeros up to a whole word, of a
-//! sine that was played level times velocity at every sample, every sample, and every word of the shelf.
-//! All are u64, every float as its bits; a state is the twelve words of a shelf entry.
+//! Rows of the render: op, how many words follow the row's first 44, rate, waveform (0 Sine to 4 Pulse, in the
+//! original's order), duty, the envelope's four settings, the LFO's waveform, duty, frequency and depth, samples asked
+//! for, bytes of the score, words of the shelf, position, the given state; then answer, the state after. Then the
+//! score's bytes, with zeros up to a whole word, where a sine was heard every sample's scale, every sample, and every
+//! word of the shelf. All are u64, every float as its bits; a state is the thirteen words of a shelf entry.
+//!
+//! A sine is heard where the call is done and the oscillator is one, or the LFO at a depth other than 0. A scale says
+//! how far a sample may be off, in millionths: of the oscillator's sine level times velocity times the tremolo's
+//! factor, without its sign, and of the LFO's half the depth times the sample without tremolo, without its sign.
 //!
 //! `continue` takes a position and a state and has no shelf; only Pulse has a duty. The samples are 42 each before
 //! the call, the bytes of the shelf 42 too. A NaN in a given state is 7FF8000000000000, and comes back so.
@@ -17,7 +21,7 @@ use crate::{render_edges, render_edits};
 pub const PART: Part = Part {
     name: "render",
     word: 8,
-    words: 38,
+    words: 44,
     more_at: Some(1),
     answer_at: Some(GIVEN),
     ops: &["render", "continue", "re-render"],

@@ -17,9 +17,17 @@ os.chdir(ROOT)
 WORDS = {1: "on", 2: "off", 3: "reset"}
 LAST = 2**32 - 1
 SOUNDS = {"sine": 0, "square": 1, "saw": 2, "triangle": 3, "pulse": 4}
-SHELF_HEAD = struct.Struct("<8s9Q5d17Q")
-SHELF_NAMES = "magic layout voice samples bits score_len entry beside rate code duty attack decay sustain release".split()
-STATE_WORDS = 12
+# The settings of gavberin.h in their order, as they are without an option: a whole number or a float.
+SETTINGS = {
+    "rate": 48000, "code": 2, "duty": 0.5, "attack": 0.01, "decay": 0.1, "sustain": 0.7, "release": 0.3,
+    "lfo_code": 0, "lfo_duty": 0.5, "lfo_frequency": 0.0, "lfo_depth": 0.0,
+}  # fmt: skip
+SETTING_WORDS = 24  # of a shelf's head, in use or free
+FREE_WORDS = SETTING_WORDS - len(SETTINGS)
+SHELF_LAYOUT = 3
+SHELF_NAMES = ["magic", "layout", "voice", "samples", "bits", "score_len", "entry", "beside", *SETTINGS]
+SHELF_HEAD = struct.Struct("<8s7Q" + "".join("d" if isinstance(x, float) else "Q" for x in SETTINGS.values()) + f"{FREE_WORDS}Q")
+STATE_WORDS = 13
 ENTRY = 8 * STATE_WORDS
 
 faults = []
@@ -190,7 +198,7 @@ class Shelf:
         self.score = data[end : end + head["score_len"]]
         filled = self.score + b"\0" * (-len(self.score) % 8)
         fixed = tuple(head[name] for name in ("magic", "layout", "voice", "entry", "beside"))
-        hold(f"{path}: its head", fixed == (b"GAVSHELF", 2, voice_version(), STATE_WORDS, 1), f"{fixed}")
+        hold(f"{path}: its head", fixed == (b"GAVSHELF", SHELF_LAYOUT, voice_version(), STATE_WORDS, 1), f"{fixed}")
         hold(f"{path}: free words", not any(SHELF_HEAD.unpack_from(data)[len(SHELF_NAMES) :]))
         hold(f"{path}: its end", data[end:] == filled + struct.pack("<Q", sum_of(data[:-8])), f"{len(data)} bytes")
 
@@ -218,9 +226,15 @@ def temporary_name(name):
     return f".desk-{sum_of(name.encode()):016x}"
 
 
-def library(score, samples, rate=48000, wave="saw", duty=0.5, adsr=(0.01, 0.1, 0.7, 0.3)):
+def settings_of(rate=48000, wave="saw", duty=0.5, adsr=(0.01, 0.1, 0.7, 0.3), **others):
+    """Every setting in its order; others by their names in gavberin.h."""
+    named = dict(zip(SETTINGS, (rate, SOUNDS[wave], duty, *adsr)))
+    return tuple({**SETTINGS, **named, **others}.values())
+
+
+def library(score, samples, *some, **others):
     """What the library renders by itself: samples as bytes of f64, and the shelf's words."""
-    given = map(str, (rate, SOUNDS[wave], duty, *adsr, samples))
+    given = map(str, (*settings_of(*some, **others), samples))
     ran = subprocess.run([ROOT / "build/samples", *given], input=score, capture_output=True, check=True)
     answer = struct.unpack_from("<Q", ran.stdout)[0]
     if answer != samples << 32:

@@ -93,6 +93,9 @@ static void good_shelf(struct dice *dice, struct bytes *file) {
     struct sound sound;
     settings.rate = 8000 + (uint32_t)roll(dice, 184001);
     settings.code = (uint32_t)roll(dice, 6);
+    settings.lfo_code = (uint32_t)roll(dice, 6);
+    settings.lfo_frequency = (double)roll(dice, 102);
+    settings.lfo_depth = (double)roll(dice, 6) / 4;
     about.settings = settings;
     about.samples = roll(dice, 4) ? roll(dice, 300) : roll(dice, 13000);
     about.bits = roll(dice, 2) ? 32 : 64;

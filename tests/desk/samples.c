@@ -1,21 +1,36 @@
-/* What the library renders, for comparing: samples RATE CODE DUTY ATTACK DECAY SUSTAIN RELEASE N <SCORE
-   Writes the answer, N samples and the shelf's words to standard output, 8 bytes each as this machine has them. */
+/* What the library renders, for comparing: samples SETTING.. N <SCORE
+   The settings are those of struct gav_settings, in its order. Writes the answer, N samples and the shelf's words to
+   standard output, 8 bytes each as this machine has them. */
 #include "gavberin.h"
 
 #include <stdio.h>
 #include <stdlib.h>
 
+static uint32_t whole(const char *text) { return (uint32_t)strtoul(text, NULL, 10); }
+static double number(const char *text) { return strtod(text, NULL); }
+
 int main(int argc, char **argv) {
     static uint8_t score[40961];
-    if (argc != 9) return 2;
+    if (argc != 13) return 2;
+    const struct gav_settings settings = {
+        .rate = whole(argv[1]),
+        .code = whole(argv[2]),
+        .duty = number(argv[3]),
+        .attack = number(argv[4]),
+        .decay = number(argv[5]),
+        .sustain = number(argv[6]),
+        .release = number(argv[7]),
+        .lfo_code = whole(argv[8]),
+        .lfo_duty = number(argv[9]),
+        .lfo_frequency = number(argv[10]),
+        .lfo_depth = number(argv[11]),
+    };
     size_t len = fread(score, 1, sizeof score, stdin);
-    size_t n = strtoul(argv[8], NULL, 10), words = (n + 4095) / 4096 * 12;
+    size_t n = strtoul(argv[12], NULL, 10), words = (n + 4095) / 4096 * GAV_STATE_WORDS;
     double *out = calloc(n + 1, sizeof *out);
     uint64_t *shelf = calloc(words + 1, sizeof *shelf);
     if (!out || !shelf) return 1;
-    uint64_t said = gav_render((uint32_t)strtoul(argv[1], NULL, 10), (uint32_t)strtoul(argv[2], NULL, 10),
-                               strtod(argv[3], NULL), strtod(argv[4], NULL), strtod(argv[5], NULL),
-                               strtod(argv[6], NULL), strtod(argv[7], NULL), score, len, out, n, shelf, words);
+    uint64_t said = gav_render_with(&settings, score, len, out, n, shelf, words);
     fwrite(&said, sizeof said, 1, stdout);
     fwrite(out, sizeof *out, n, stdout);
     fwrite(shelf, sizeof *shelf, words, stdout);

@@ -1,8 +1,9 @@
 /* A live host under JACK, as a judge of the library: it plays a score in the buffers that jackd asks for, each from the
    state that the one before it left, and gives the library a record only with the buffer that holds its position.
-     jack_host CODE DUTY ATTACK DECAY SUSTAIN RELEASE N <SCORE
-   Its port is gavberin:sound. Once that is connected it has jackd freewheel, is silent for some samples, plays a click
-   of 1, which tells a recording where sample zero comes, then the N samples, and ends the freewheeling. */
+     jack_host SETTING.. N <SCORE
+   The settings are those of struct gav_settings, in its order, but for the rate, which is jackd's. Its port is
+   gavberin:sound. Once that is connected it has jackd freewheel, is silent for some samples, plays a click of 1, which
+   tells a recording where sample zero comes, then the N samples, and ends the freewheeling. */
 #include "gavberin.h"
 
 #include <jack/jack.h>
@@ -18,8 +19,7 @@
 
 struct host {
     jack_port_t *port;
-    uint32_t rate, code;
-    double duty, attack, decay, sustain, release;
+    struct gav_settings settings;
     uint8_t score[40960];
     size_t score_len, heard;
     uint64_t state[GAV_STATE_WORDS], position, samples;
@@ -37,9 +37,8 @@ static void play(struct host *host, float *to, size_t n) {
     static double part[MOST_BUFFER];
     while (host->heard < host->score_len && position_of(host->score + host->heard) < host->position + n)
         host->heard += RECORD;
-    uint64_t said =
-        gav_continue(host->rate, host->code, host->duty, host->attack, host->decay, host->sustain, host->release,
-                     host->score, host->heard, host->state, GAV_STATE_WORDS, host->position, part, n);
+    uint64_t said = gav_continue_with(&host->settings, host->score, host->heard, host->state, GAV_STATE_WORDS,
+                                      host->position, part, n);
     host->calls++;
     if (gav_number(said) != 0) host->refused++;
     for (size_t i = 0; i < n; i++) to[i] = (float)part[i];
@@ -76,7 +75,7 @@ static bool is_done(const struct host *host) { return host->done; }
 static bool is_slow(const struct host *host) { return !host->freewheels; }
 
 static bool run(struct host *host, jack_client_t *client) {
-    host->rate = jack_get_sample_rate(client);
+    host->settings.rate = jack_get_sample_rate(client);
     host->silence = SILENCE;
     host->port = jack_port_register(client, "sound", JACK_DEFAULT_AUDIO_TYPE, JackPortIsOutput, 0);
     if (!host->port || jack_get_buffer_size(client) > MOST_BUFFER) return false;
@@ -86,13 +85,25 @@ static bool run(struct host *host, jack_client_t *client) {
            wait_for(is_done, host) && jack_set_freewheel(client, 0) == 0 && wait_for(is_slow, host);
 }
 
+static uint32_t whole(const char *text) { return (uint32_t)strtoul(text, NULL, 10); }
+static double number(const char *text) { return strtod(text, NULL); }
+
 int main(int argc, char **argv) {
     static struct host host;
-    if (argc != 8) return 2;
-    host.code = (uint32_t)strtoul(argv[1], NULL, 10);
-    double *numbers[] = {&host.duty, &host.attack, &host.decay, &host.sustain, &host.release};
-    for (int i = 0; i < 5; i++) *numbers[i] = strtod(argv[2 + i], NULL);
-    host.samples = strtoul(argv[7], NULL, 10);
+    if (argc != 12) return 2;
+    host.settings = (struct gav_settings){
+        .code = whole(argv[1]),
+        .duty = number(argv[2]),
+        .attack = number(argv[3]),
+        .decay = number(argv[4]),
+        .sustain = number(argv[5]),
+        .release = number(argv[6]),
+        .lfo_code = whole(argv[7]),
+        .lfo_duty = number(argv[8]),
+        .lfo_frequency = number(argv[9]),
+        .lfo_depth = number(argv[10]),
+    };
+    host.samples = strtoul(argv[11], NULL, 10);
     host.score_len = fread(host.score, 1, sizeof host.score, stdin);
     gav_fresh(host.state, GAV_STATE_WORDS);
     jack_client_t *client = jack_client_open("gavberin", JackNoStartServer, NULL);

@@ -39,10 +39,16 @@ static bool is_wave(uint32_t code, double duty) {
 
 static bool is_rate(uint32_t rate) { return rate >= 8000 && rate <= 192000; }
 
-/* "ADSR settings may be anything but NaN." */
+/* "frequency 0 to 20,000 Hz (LFO 0 to 100), depth 0 to 1" */
+static bool is_lfo(const struct gav_settings *s) {
+    return is_wave(s->lfo_code, s->lfo_duty) && is_within(0.0, s->lfo_frequency, 100.0) &&
+           is_within(0.0, s->lfo_depth, 1.0);
+}
+
+/* "ADSR settings may be anything but NaN." Of the LFO's: "6 covers the new settings". */
 static bool are_settings(const struct gav_settings *s) {
     return is_rate(s->rate) && is_wave(s->code, s->duty) && !isnan(s->attack) && !isnan(s->decay) &&
-           !isnan(s->sustain) && !isnan(s->release);
+           !isnan(s->sustain) && !isnan(s->release) && is_lfo(s);
 }
 
 /* "Order: 6, 7, the old or only score, the new score (same numbers plus 16), then 8 or 10" */
@@ -52,7 +58,7 @@ static uint64_t judged(const struct gav_settings *s, bool fits, const uint8_t *s
     return reference_check_score(score, len);
 }
 
-/* "N above 16,777,216, or shelf not 12 words per entry" */
+/* "N above 16,777,216, or shelf not 12 words per entry"; then "7 asks for 13 words an entry". */
 static bool is_room(size_t n, size_t words) { return n <= GAV_MOST_SAMPLES && words == gav_shelf_words(n); }
 
 /* "A continuing call that would pass 16,777,216 is 7." */

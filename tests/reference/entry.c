@@ -1,4 +1,4 @@
-/* A state as the twelve words of a shelf's entry: 01's "The shelf". */
+/* A state as the thirteen words of a shelf's entry: 01's "The shelf", 02's "Tremolo". */
 #include "voice.h"
 
 /* "active note (255 for none) + 256*gate + 512*held count + 65,536*records acted" */
@@ -18,6 +18,7 @@ void voice_words(const struct voice *v, uint64_t *words) {
         uint64_t pair = v->notes[i] + 256u * v->velocities[i];
         words[8 + i / 4] |= pair << 16 * (i % 4);
     }
+    words[12] = bits(v->lfo_phase);
 }
 
 /* "16 pairs (note, velocity), oldest first, low byte first, unused pairs 0" */
@@ -30,6 +31,10 @@ static bool read_pairs(struct voice *v, const uint64_t *words) {
     }
     return v->held <= MOST_HELD;
 }
+
+/* "phase is at least 0 and below 1,000"; the LFO's is "kept as a thirteenth word in each shelf entry, under the limits
+ * of the first". */
+static bool is_phase(double phase) { return phase >= 0.0 && phase < 1000.0; }
 
 static bool read_keys(struct voice *v, uint64_t word, const uint64_t *pairs) {
     unsigned gate = word >> 8 & 1;
@@ -48,7 +53,8 @@ bool voice_read(struct voice *v, const uint64_t *words) {
     v->phase = number(words[0]);
     v->frequency = number(words[6]);
     v->velocity = number(words[7]);
-    return v->phase >= 0.0 && v->phase < 1000.0 && is_within(0.0, v->envelope.time, 11.0) &&
+    v->lfo_phase = number(words[12]);
+    return is_phase(v->phase) && is_phase(v->lfo_phase) && is_within(0.0, v->envelope.time, 11.0) &&
            is_within(0.0, v->envelope.level, 1.0) && is_within(0.0, v->envelope.release_level, 1.0) &&
            is_within(0.0, v->velocity, 1.0) && v->frequency > 0.0 && v->frequency <= 12544.0;
 }

@@ -10,8 +10,9 @@ extern const bool original_is_here;
 /* The original's untouched copies, by whole spans, from sample zero on. */
 void original_render(const struct gav_settings *settings, const uint8_t *score, size_t len, double *out, size_t n);
 
-/* From a state at a position on, with level times velocity of each sample, and, where a shelf is lent, the entry of
- * each section that begins in the part, in order. The state is afterwards the one after the samples. */
+/* From a state at a position on, with each sample's scale (how far our sines may move it, in millionths), and, where a
+ * shelf is lent, the entry of each section that begins in the part, in order. The state is afterwards the one after the
+ * samples. */
 void original_play(const struct gav_settings *settings, const uint8_t *score, size_t len, uint64_t *state,
                    uint64_t position, double *out, double *scales, size_t n, uint64_t *shelf);
 

@@ -1,7 +1,8 @@
 /* Compares the reference voice with the rows that the original wrote: rows PART FILE, PART being pitch, blocks or
  * render; oracle/README.md has their layout; the file has no head (oracle/parts.py). Every word is compared; the
- * samples of a sine, which is ours, lie within a millionth of their scale, since the row's are the sines of another
- * library. Says how many rows are equal; exit status 1 where one is not, or where an op lacks one of its numbers. */
+ * samples in which a sine is heard, which is ours, lie within a millionth of their scale, since the row's are the sines
+ * of another library. Says how many rows are equal; exit status 1 where one is not, or where an op lacks one of its
+ * numbers. */
 #include "voice.h"
 
 #include <math.h>
@@ -64,12 +65,15 @@ static bool same_words(const void *ours, const uint64_t *theirs, size_t words) {
     return memcmp(ours, theirs, words * sizeof *theirs) == 0;
 }
 
-/* A sample of a sine, at a phase in radians and to a scale. */
-static bool near(struct tally *tally, double ours, double theirs, double phase, double scale) {
+/* A sample in which a sine is heard. */
+static bool near(struct tally *tally, double ours, double theirs, double scale) {
     double off = fabs(ours - theirs);
     if (off > tally->largest) tally->largest = off;
-    return off <= 0.000001 * scale && fabs(theirs - sin(phase) * scale) <= 1e-15;
+    return off <= 0.000001 * scale;
 }
+
+/* Two numbers that are made with sines of two C libraries. */
+static bool alike(double x, double y) { return fabs(x - y) <= 1e-15; }
 
 static void pitch_row(struct rows *rows, struct tally *tally) {
     const uint64_t *row = take(rows, 4);
@@ -85,7 +89,8 @@ static bool near_block(struct tally *tally, const struct block *b, double phase,
                        const uint64_t *theirs, size_t n) {
     bool fine = true;
     for (size_t i = 0; i < n; i++) {
-        fine &= near(tally, out[i], number(theirs[i]), phase, b->depth);
+        double theirs_i = number(theirs[i]);
+        fine &= near(tally, out[i], theirs_i, b->depth) && alike(theirs_i, sin(phase) * b->depth);
         phase += b->frequency / b->rate * TAU;
     }
     return fine;
@@ -128,13 +133,14 @@ static uint8_t *take_bytes(const uint64_t **here, size_t len) {
 }
 
 static void read_asked(struct rows *rows, struct asked *a) {
-    const uint64_t *row = take(rows, 38), *here = take(rows, row[1]);
-    bool is_sine = row[3] == GAV_SINE && gav_number(row[25]) == 0, is_edit = row[0] == RERENDER;
+    const uint64_t *row = take(rows, 44), *here = take(rows, row[1]);
     a->settings = (struct gav_settings){(uint32_t)row[2], (uint32_t)row[3], number(row[4]), number(row[5]),
-                                        number(row[6]),   number(row[7]),   number(row[8])};
-    a->n = (size_t)row[9], a->len = (size_t)row[10], a->words = (size_t)row[11];
-    a->position = row[12], a->state = row + 13, a->answer = row + 25;
-    a->old_len = is_edit ? (size_t)row[12] : 0;
+                                        number(row[6]),   number(row[7]),   number(row[8]), (uint32_t)row[9],
+                                        number(row[10]),  number(row[11]),  number(row[12])};
+    a->n = (size_t)row[13], a->len = (size_t)row[14], a->words = (size_t)row[15];
+    a->position = row[16], a->state = row + 17, a->answer = row + 30;
+    bool is_sine = has_sine(&a->settings) && gav_number(a->answer[0]) == 0, is_edit = row[0] == RERENDER;
+    a->old_len = is_edit ? (size_t)a->position : 0;
     a->score = take_bytes(&here, a->len);
     a->old = take_bytes(&here, a->old_len);
     a->found = here;
@@ -145,6 +151,23 @@ static void read_asked(struct rows *rows, struct asked *a) {
     a->records = (struct records){a->score, a->len / RECORD};
 }
 
+/* A waveform's value with the C library's sine. */
+static double heard(uint32_t code, double duty, double phase, double step) {
+    return code == GAV_SINE ? sin(phase) : wave_in(code, duty, phase, step);
+}
+
+/* The row's sample and its scale, worked out again with the C library's sines from the voice before the sample and the
+ * level after it. */
+static bool is_heard(const struct gav_settings *s, const struct voice *before, double level, double sample,
+                     double scale) {
+    double value = heard(s->code, s->duty, before->phase, before->frequency / s->rate * TAU);
+    double lfo = heard(s->lfo_code, s->lfo_duty, before->lfo_phase, s->lfo_frequency / s->rate * TAU) * s->lfo_depth;
+    double dry = value * level * before->velocity, factor = 1.0 - s->lfo_depth / 2.0 + lfo / 2.0;
+    double own = s->code == GAV_SINE ? fabs(level * before->velocity * factor) : 0.0;
+    double slow = s->lfo_code == GAV_SINE ? 0.5 * s->lfo_depth * fabs(dry) : 0.0;
+    return alike(sample, dry * factor) && alike(scale, own + slow);
+}
+
 /* The samples one by one from a state, beside those that the call made; and the state after them. */
 static bool same_walk(struct tally *tally, const struct asked *a, uint64_t *state, const double *out) {
     const struct gav_settings s = clamped(&a->settings);
@@ -152,10 +175,12 @@ static bool same_walk(struct tally *tally, const struct asked *a, uint64_t *stat
     bool fine = voice_read(&voice, state);
     for (size_t i = 0; i < a->n; i++) {
         voice_begin(&voice, a->records, a->position + i);
-        double phase = voice.phase, sample = voice_make(&s, &voice), scale = voice.envelope.level * voice.velocity;
+        struct voice before = voice;
+        double sample = voice_make(&s, &voice);
         fine &= bits(sample) == bits(out[i]);
         if (!a->scales) continue;
-        fine &= bits(scale) == a->scales[i] && near(tally, sample, number(a->samples[i]), phase, scale);
+        double theirs = number(a->samples[i]), scale = number(a->scales[i]);
+        fine &= near(tally, sample, theirs, scale) && is_heard(&s, &before, voice.envelope.level, theirs, scale);
     }
     voice_words(&voice, state);
     return fine;
@@ -188,9 +213,7 @@ static bool same_edit(struct tally *tally, const struct asked *a, double *out, u
     size_t start = a->n - gav_count(answer);
     fine &= same_words(out, a->samples, a->scales ? start : a->n);
     for (size_t i = start; a->scales && i < a->n; i++) {
-        double off = fabs(out[i] - number(a->samples[i]));
-        if (off > tally->largest) tally->largest = off;
-        fine &= off <= 0.000001 * number(a->scales[i]);
+        fine &= near(tally, out[i], number(a->samples[i]), number(a->scales[i]));
     }
     return fine;
 }

@@ -1,5 +1,5 @@
-/* Making a sample: 01's "Steps", "Pitch and sine" and "Making sample n". Each operation is rounded once, in the order
- * in which it is written (compile with -ffp-contract=off). */
+/* Making a sample: 01's "Steps", "Pitch and sine" and "Making sample n", 02's "Tremolo". Each operation is rounded
+ * once, in the order in which it is written (compile with -ffp-contract=off). */
 #include "voice.h"
 
 #include "pitches.h"
@@ -229,7 +229,7 @@ void put_record(uint8_t *record, uint32_t position, enum kind kind, uint8_t note
 }
 
 /* "On: voice and envelope `note_on`. Off: voice `note_off`, and the envelope's where it returned true. Reset: voice,
- * envelope and phase to their fresh state." */
+ * envelope and phase to their fresh state." The LFO's phase is "set to 0 by a reset record". */
 void voice_act(struct voice *v, const uint8_t *record) {
     uint64_t acted = v->acted + 1;
     if (record[6] == ON) {
@@ -248,16 +248,23 @@ static bool is_due(const struct voice *v, struct records score, uint64_t n) {
     return v->acted < score.count && record_position(score.bytes + RECORD * v->acted) == n;
 }
 
-/* "If n is a multiple of 64 or a record has position n, phase is reduced by TAU. Then the records at n act." */
+/* "If n is a multiple of 64 or a record has position n, phase is reduced by TAU. Then the records at n act." The LFO's
+ * "phase is reduced at the same moments as the oscillator's". */
 void voice_begin(struct voice *v, struct records score, uint64_t n) {
-    if (n % BLOCK == 0 || is_due(v, score, n)) v->phase = reduced(v->phase);
+    if (n % BLOCK == 0 || is_due(v, score, n)) {
+        v->phase = reduced(v->phase);
+        v->lfo_phase = reduced(v->lfo_phase);
+    }
     while (is_due(v, score, n)) voice_act(v, score.bytes + RECORD * v->acted);
 }
 
-/* "Then the sample is oscillator value * envelope level * velocity, left to right, and both advance." */
+/* "Then the sample is oscillator value * envelope level * velocity, left to right, and both advance." It "is multiplied
+ * last by (1 - depth/2 + lfo/2), where lfo is the ported block's scaled value". */
 double voice_make(const struct gav_settings *s, struct voice *v) {
-    double step = v->frequency / s->rate * TAU;
+    double step = v->frequency / s->rate * TAU, lfo_step = s->lfo_frequency / s->rate * TAU;
     double value = wave_in(s->code, s->duty, v->phase, step), level = envelope_step(s, &v->envelope);
+    double lfo = wave_in(s->lfo_code, s->lfo_duty, v->lfo_phase, lfo_step) * s->lfo_depth;
     v->phase += step;
-    return value * level * v->velocity;
+    v->lfo_phase += lfo_step;
+    return value * level * v->velocity * (1.0 - s->lfo_depth / 2.0 + lfo / 2.0);
 }

@@ -1,4 +1,4 @@
-/* The reference voice: what document 01 says of the voice, and the texts of the original that 01 points to
+/* The reference voice: what documents 01 and 02 say of the voice, and the texts of the original that 01 points to
  * (polyblep.rs, envelope.rs, voice.rs), written down a second time in plain C, as the judge of the library on a host.
  * It is slow on purpose: every sample is made by 01's steps one after the other, and each rule is written once.
  *
@@ -44,6 +44,7 @@ struct voice {
     uint64_t acted; /* how many records have */
     double frequency, velocity;
     uint8_t notes[MOST_HELD], velocities[MOST_HELD];
+    double lfo_phase; /* in radians */
 };
 
 /* The records of an accepted score. */
@@ -72,6 +73,12 @@ static inline uint64_t says(unsigned number, uint64_t place, uint64_t count) {
     return number | place << 8 | count << 32;
 }
 
+/* Whether a sine is heard, which is ours and beside the original's only near: the oscillator's, or the LFO's at a depth
+ * other than 0. */
+static inline bool has_sine(const struct gav_settings *s) {
+    return s->code == GAV_SINE || (s->lfo_code == GAV_SINE && s->lfo_depth != 0.0);
+}
+
 /* voice.c: making a sample. Settings are clamped ones. voice_begin reduces and lets the records at n act; voice_make
  * gives the sample and advances, and leaves the level that it was made with. */
 struct voice voice_fresh(void);
@@ -87,7 +94,7 @@ double pitch(uint8_t note);
 uint32_t record_position(const uint8_t *record);
 void put_record(uint8_t *record, uint32_t position, enum kind kind, uint8_t note, uint8_t velocity);
 
-/* entry.c: a state as the twelve words of an entry; words that are no state are told by false. */
+/* entry.c: a state as the thirteen words of an entry; words that are no state are told by false. */
 void voice_words(const struct voice *voice, uint64_t *words);
 bool voice_read(struct voice *voice, const uint64_t *words);
 

@@ -4,6 +4,7 @@
 #include <math.h>
 
 #define TINY 0x1p-1074
+#define HIGHEST 12544.0 /* the highest frequency of a state, which is not 0 */
 
 double odd_unit(struct chance *c) {
     const double outside[] = {-TINY, -1.0, nextafter(1.0, 2.0), 2.0, INFINITY, -INFINITY, NAN, number(UINT64_MAX)};
@@ -38,58 +39,119 @@ static double random_time(struct chance *c) {
     }
 }
 
-/* Of a sine none that is tiny: beside the original it is measured, and a millionth of its level must be a float. */
-static double random_sustain(struct chance *c, uint32_t code) {
+/* With a sine none that is tiny: beside the original it is measured, and a millionth of its level must be a float. */
+static double random_sustain(struct chance *c, bool is_sine) {
     const double ends[] = {-INFINITY, -1.0, -TINY, TINY, nextafter(1.0, 0.0), nextafter(1.0, 2.0), 2.0, INFINITY};
     static const double USUAL[] = {0.0, -0.0, 0.1, 0.3, 1.0};
     uint64_t kind = below(c, 4);
     double level = kind == 0 ? PICK(c, ends) : kind == 1 ? PICK(c, USUAL) : dense(c);
-    return code == GAV_SINE && level > 0.0 && level < 1e-9 ? 0.25 : level;
+    return is_sine && level > 0.0 && level < 1e-9 ? 0.25 : level;
+}
+
+static uint32_t random_code(struct chance *c) {
+    static const uint32_t CODES[] = {GAV_SINE, GAV_SQUARE, GAV_SAWTOOTH, GAV_TRIANGLE, GAV_PULSE, GAV_PULSE};
+    return PICK(c, CODES);
+}
+
+/* Still, slow and fast. */
+static double random_hertz(struct chance *c) {
+    const double ends[] = {0.0, -0.0, TINY, nextafter(100.0, 0.0), 100.0};
+    uint64_t kind = below(c, 4);
+    return kind == 0 ? PICK(c, ends) : kind == 1 ? scaled(c, -60, 5) : 100.0 * dense(c);
+}
+
+/* In two rounds of five there is no tremolo. A sine's depth is not tiny: half a millionth of it must be more than the
+ * last bit of what a sample is multiplied by. */
+static double random_depth(struct chance *c, uint32_t code) {
+    static const double ENDS[] = {0.0, 0.0, 0.0, -0.0, 1.0};
+    double depth = one_in(c, 2) ? PICK(c, ENDS) : dense(c);
+    return code == GAV_SINE && depth > 0.0 && depth < 1e-6 ? 0.5 : depth;
 }
 
 /* Only a pulse's duty is read: another waveform's may be anything. */
 struct gav_settings random_settings(struct chance *c) {
-    static const uint32_t CODES[] = {GAV_SINE, GAV_SQUARE, GAV_SAWTOOTH, GAV_TRIANGLE, GAV_PULSE, GAV_PULSE};
     static const uint32_t RATES[] = {8000, 16384, 44100, 48000, 192000};
     struct gav_settings s;
-    s.code = PICK(c, CODES);
+    s.code = random_code(c);
     s.rate = one_in(c, 4) ? 8000 + (uint32_t)below(c, 184001) : PICK(c, RATES);
     s.duty = s.code == GAV_PULSE ? random_duty(c) : odd_unit(c);
+    s.lfo_code = random_code(c);
+    s.lfo_duty = s.lfo_code == GAV_PULSE ? random_duty(c) : odd_unit(c);
+    s.lfo_frequency = random_hertz(c);
+    s.lfo_depth = random_depth(c, s.lfo_code);
     s.attack = random_time(c);
     s.decay = random_time(c);
-    s.sustain = random_sustain(c, s.code);
+    s.sustain = random_sustain(c, has_sine(&s));
     s.release = random_time(c);
     return s;
 }
 
-struct gav_settings bad_settings(struct chance *c, struct gav_settings s) {
-    static const uint32_t RATES[] = {0, 7999, 192001, UINT32_MAX}, CODES[] = {5, 6, 256, UINT32_C(1) << 31, UINT32_MAX};
-    double *const times[] = {&s.attack, &s.decay, &s.sustain, &s.release};
+static double random_nan(struct chance *c) {
+    return number(UINT64_C(0x7FF0000000000001) | chance_word(c) << 52 | chance_word(c) >> 12);
+}
+
+/* No frequency of an LFO. */
+static double odd_hertz(struct chance *c) {
+    const double outside[] = {-TINY, -1.0, nextafter(100.0, 101.0), 101.0, 20000.0, INFINITY, -INFINITY, random_nan(c)};
+    return PICK(c, outside);
+}
+
+static const uint32_t NO_CODES[] = {5, 6, 256, UINT32_C(1) << 31, UINT32_MAX};
+
+static struct gav_settings bad_lfo(struct chance *c, struct gav_settings s) {
     switch (below(c, 4)) {
+    case 0:
+        s.lfo_code = PICK(c, NO_CODES);
+        break;
+    case 1:
+        s.lfo_code = GAV_PULSE;
+        s.lfo_duty = odd_unit(c);
+        break;
+    case 2:
+        s.lfo_frequency = odd_hertz(c);
+        break;
+    default:
+        s.lfo_depth = odd_unit(c);
+    }
+    return s;
+}
+
+struct gav_settings bad_settings(struct chance *c, struct gav_settings s) {
+    static const uint32_t RATES[] = {0, 7999, 192001, UINT32_MAX};
+    double *const times[] = {&s.attack, &s.decay, &s.sustain, &s.release};
+    switch (below(c, 8)) {
     case 0:
         s.rate = PICK(c, RATES);
         break;
     case 1:
-        s.code = PICK(c, CODES);
+        s.code = PICK(c, NO_CODES);
         break;
     case 2:
         s.code = GAV_PULSE;
         s.duty = odd_unit(c);
         break;
+    case 3:
+        *PICK(c, times) = random_nan(c);
+        break;
     default:
-        *PICK(c, times) = number(UINT64_C(0x7FF0000000000001) | chance_word(c) << 52 | chance_word(c) >> 12);
+        return bad_lfo(c, s);
     }
     return s;
 }
 
-/* One number of a state within its range, its end now and then. */
-static double moved(struct chance *c, double most) { return one_in(c, 8) ? most : most * dense(c); }
+/* One number of a state within its range, an end of it now and then. */
+static double moved(struct chance *c, double most) {
+    uint64_t kind = below(c, 8);
+    return kind == 0 ? most : kind == 1 && most != HIGHEST ? -0.0 : most * dense(c);
+}
 
 void move_state(struct chance *c, uint64_t *state) {
-    static const double MOST[8] = {999.9999, 0, 1, 11, 1, 0, 12544, 1};
-    for (uint64_t times = 1 + below(c, 3); times > 0; times--) {
-        size_t at = below(c, 8);
-        if (at == 1)
+    static const double MOST[8] = {999.9999, 0, 1, 11, 1, 0, HIGHEST, 1};
+    for (uint64_t times = 1 + below(c, 4); times > 0; times--) {
+        size_t at = below(c, 9);
+        if (at == 8)
+            state[12] = bits(moved(c, nextafter(1000.0, 0.0)));
+        else if (at == 1)
             state[1] = below(c, 5);
         else if (at != 5)
             state[at] = bits(moved(c, MOST[at]));
@@ -100,9 +162,9 @@ void doctor_state(struct chance *c, uint64_t *state) {
     const double outside[] = {-1.0, nextafter(1.0, 2.0), INFINITY, NAN}, phases[] = {-TINY, -1.0, 1000.0, NAN};
     const double times[] = {-1.0, nextafter(11.0, 12.0), NAN}, hertz[] = {0.0, -440.0, nextafter(12544.0, 1e9), NAN};
     static const uint64_t STAGES[] = {5, 256, UINT64_MAX};
-    uint64_t which = below(c, 12);
-    if (which == 0)
-        state[0] = bits(PICK(c, phases));
+    uint64_t which = below(c, 13);
+    if (which == 0 || which == 12)
+        state[which] = bits(PICK(c, phases));
     else if (which == 1)
         state[1] = PICK(c, STAGES);
     else if (which == 2 || which == 4)

@@ -4,7 +4,7 @@
 #include <math.h>
 
 static void walk(const struct gav_settings *settings, const struct score *score, uint64_t *state, uint64_t position,
-                 double *out, double *scales, size_t n, uint64_t *shelf) {
+                 double *out, size_t n, uint64_t *shelf) {
     const struct gav_settings s = clamped(settings);
     const struct records records = {score->bytes, score_count(score)};
     struct voice voice;
@@ -16,17 +16,17 @@ static void walk(const struct gav_settings *settings, const struct score *score,
         }
         voice_begin(&voice, records, position + i);
         out[i] = voice_make(&s, &voice);
-        scales[i] = voice.envelope.level * voice.velocity;
     }
     voice_words(&voice, state);
 }
 
+/* Beside the reference voice no sine is measured, so that there are no scales. */
 void judge_play(const struct gav_settings *settings, const struct score *score, uint64_t *state, uint64_t position,
                 double *out, double *scales, size_t n, uint64_t *shelf) {
     if (original_is_here) {
         original_play(settings, score->bytes, score->len, state, position, out, scales, n, shelf);
     } else {
-        walk(settings, score, state, position, out, scales, n, shelf);
+        walk(settings, score, state, position, out, n, shelf);
     }
 }
 
@@ -44,5 +44,5 @@ void judge_hear(struct round *r, const struct score *score, struct heard *heard)
 
 bool is_judged(const struct round *r, double ours, double judged, double scale) {
     if (bits(ours) == bits(judged)) return true;
-    return original_is_here && r->settings.code == GAV_SINE && fabs(ours - judged) <= 0.000001 * scale;
+    return original_is_here && has_sine(&r->settings) && fabs(ours - judged) <= 0.000001 * scale;
 }

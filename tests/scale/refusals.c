@@ -27,9 +27,10 @@ static uint64_t lend_faulty(struct round *r, enum lent which, const struct score
     return due;
 }
 
+/* A word too few or too many, an entry too many, or a word too few in each entry. */
 static void lend_shelf(struct round *r, struct faults f) {
-    size_t words = gav_shelf_words(r->n);
-    const size_t others[] = {words > 0 ? words - 1 : 1, words + 1, words + GAV_STATE_WORDS};
+    size_t words = gav_shelf_words(r->n), fewer = words - words / GAV_STATE_WORDS;
+    const size_t others[] = {words > 0 ? words - 1 : 1, words + 1, words + GAV_STATE_WORDS, words > 0 ? fewer : 1};
     resize(&r->chance, &r->lent, SHELF, 8 * (has(f, SIZE) ? PICK(&r->chance, others) : words));
 }
 

@@ -84,7 +84,7 @@ void judge_play(const struct gav_settings *settings, const struct score *score, 
                 double *out, double *scales, size_t n, uint64_t *shelf);
 /* A score from sample zero. */
 void judge_hear(struct round *r, const struct score *score, struct heard *heard);
-/* Whether a sample is the judge's; an original's sine is another one and only near. */
+/* Whether a sample is the judge's; where a sine is heard the original's is another one and only near. */
 bool is_judged(const struct round *r, double ours, double judged, double scale);
 
 /* calls.c: one call, of the library and of the reference. */

@@ -7,8 +7,10 @@
 #include <stdio.h>
 #include <stdlib.h>
 
-#define SETTINGS uint32_t rate, uint32_t code, double duty, double attack, double decay, double sustain, double release
-#define GIVEN rate, code, duty, attack, decay, sustain, release
+#define SETTINGS                                                                                                       \
+    uint32_t rate, uint32_t code, double duty, double attack, double decay, double sustain, double release,            \
+        uint32_t lfo_code, double lfo_duty, double lfo_frequency, double lfo_depth
+#define GIVEN rate, code, duty, attack, decay, sustain, release, lfo_code, lfo_duty, lfo_frequency, lfo_depth
 
 uint64_t __real_gav_check_score(const uint8_t *score, size_t len);
 uint64_t __real_gav_list(const uint8_t *score, size_t len, uint8_t *text, size_t text_len);
@@ -49,6 +51,15 @@ enum wrong {
     CONTINUE_REDUCES,     /* the end of the part reduces the phase */
     CONTINUE_STATE,       /* the state after counts one record too many */
     CONTINUE_REFUSED,     /* a refused part hands back another state */
+    RENDER_LFO_HERTZ,     /* an LFO above 100 Hz is taken for one of 100 */
+    RENDER_LFO_DUTY,      /* the duty of an LFO that is no pulse is judged */
+    RENDER_LFO_ZERO,      /* a depth of -0 is refused */
+    RENDER_LFO_DEPTH,     /* a tremolo is half as deep */
+    RENDER_TWELVE,        /* a shelf of twelve words an entry is taken */
+    CONTINUE_LFO_REDUCES, /* the end of the part reduces the LFO's phase */
+    CONTINUE_LFO_RESTART, /* the LFO begins anew with every part */
+    CONTINUE_LFO_TAKEN,   /* word 12 is not judged */
+    CONTINUE_TWELVE,      /* a state of twelve words is taken */
     WRONGS
 };
 
@@ -103,12 +114,22 @@ static void spoil_render(double *out, size_t n, uint64_t *shelf) {
     if (wrong() == RENDER_ENTRY_WORD && n > 4096) shelf[GAV_STATE_WORDS + 3] ^= 1;
 }
 
+static bool is_lfo_wrongly_refused(uint32_t lfo_code, double lfo_duty, double lfo_depth) {
+    if (wrong() == RENDER_LFO_DUTY) return lfo_code != GAV_PULSE && !is_within(0.0, lfo_duty, 1.0);
+    return wrong() == RENDER_LFO_ZERO && bits(lfo_depth) == bits(-0.0);
+}
+
 uint64_t __wrap_gav_render(SETTINGS, const uint8_t *score, size_t len, double *out, size_t n, uint64_t *shelf,
                            size_t words) {
     if (wrong() == RENDER_ORDER && words != gav_shelf_words(n)) return 7;
     if (wrong() == RENDER_SCORE && len > 0) ((uint8_t *)score)[len - 1] ^= 1;
+    if (is_lfo_wrongly_refused(lfo_code, lfo_duty, lfo_depth)) return 6;
+    if (wrong() == RENDER_LFO_HERTZ && lfo_frequency > 100.0) lfo_frequency = 100.0;
+    if (wrong() == RENDER_LFO_DEPTH) lfo_depth /= 2.0;
     double last = n > 0 ? out[n - 1] : 0.0;
     uint64_t answer = __real_gav_render(GIVEN, score, len, out, n, shelf, words);
+    if (wrong() == RENDER_TWELVE && gav_number(answer) == 7 && 13 * words == 12 * gav_shelf_words(n))
+        return says(0, 0, n);
     if (gav_number(answer) == 0) spoil_render(out, n, shelf);
     if (wrong() == RENDER_NAN_REFUSED && gav_number(answer) != 0) one_payload(out, n);
     if (wrong() == RENDER_LAST_LEFT && gav_number(answer) == 0 && n > 0) out[n - 1] = last;
@@ -136,13 +157,28 @@ uint64_t __wrap_gav_rerender(SETTINGS, const uint8_t *old, size_t old_len, const
     return gav_number(answer) == 0 ? spoil_rerender(answer, out, n, shelf) : answer;
 }
 
-uint64_t __wrap_gav_continue(SETTINGS, const uint8_t *score, size_t len, uint64_t *state, size_t state_words,
-                             uint64_t position, double *part, size_t n) {
-    uint64_t answer = __real_gav_continue(GIVEN, score, len, state, state_words, position, part, n);
-    if (wrong() == CONTINUE_REFUSED && gav_number(answer) == 10) state[0] = 0;
-    if (gav_number(answer) != 0) return answer;
+/* A phase of the LFO that is given, or the one that is taken for it. */
+static uint64_t taken_phase(uint64_t given) {
+    bool is_phase = number(given) >= 0.0 && number(given) < 1000.0;
+    if (wrong() == CONTINUE_LFO_RESTART && is_phase) return 0;
+    return wrong() == CONTINUE_LFO_TAKEN && !is_phase ? 0 : given;
+}
+
+static void spoil_continue(double *part, size_t n, uint64_t *state) {
     if (wrong() == CONTINUE_GUARD && n > 0) part[n] = 0.0;
     if (wrong() == CONTINUE_REDUCES) state[0] = bits(fmod(number(state[0]), TAU));
     if (wrong() == CONTINUE_STATE) state[5] += 1 << 16;
+    if (wrong() == CONTINUE_LFO_REDUCES) state[12] = bits(fmod(number(state[12]), TAU));
+}
+
+uint64_t __wrap_gav_continue(SETTINGS, const uint8_t *score, size_t len, uint64_t *state, size_t state_words,
+                             uint64_t position, double *part, size_t n) {
+    uint64_t given = state_words == GAV_STATE_WORDS ? state[12] : 0;
+    if (state_words == GAV_STATE_WORDS) state[12] = taken_phase(given);
+    uint64_t answer = __real_gav_continue(GIVEN, score, len, state, state_words, position, part, n);
+    if (wrong() == CONTINUE_REFUSED && gav_number(answer) == 10) state[0] = 0;
+    if (wrong() == CONTINUE_TWELVE && gav_number(answer) == 10 && state_words == 12) return says(0, 0, n);
+    if (gav_number(answer) == 0) spoil_continue(part, n, state);
+    if (gav_number(answer) != 0 && state_words == GAV_STATE_WORDS) state[12] = given;
     return answer;
 }

@@ -9,7 +9,7 @@ use Prim.Native.Nat.{ℕ, _≤_}
 use native.Mathlib.Omega.{arith}
 use lib.Dec.{T}
 use lib.ListN.{replicate}
-use lib.Ieee.{binary64, ofBits, fits, isNan}
+use lib.Ieee.{binary64, ofBits, le, fits, isNan}
 use lib.Ieee.Bits.{ofBits-fits}
 use Rattle.shelf.specs.Shelf.{entryWords}
 use Rattle.floats.specs.Double.{half}
@@ -32,9 +32,10 @@ use Rattle.demands.proofs.Link.{late, chain-step, first-done}
 use Rattle.demands.proofs.Chain.{chain, chain-done}
 
 -- ---- the chains
--- a square wave at 8,000 Hz; attack, decay and release half a second each, sustain one half
-abbrev pub plain : Settings
-plain = record { rate = 8000; waveform = Square; adsr = record { attack = half; decay = half; sustain = half; release = half } }
+-- a square wave at 8,000 Hz; attack, decay and release half a second each, sustain one half; a tremolo of one half that
+-- is a square wave of half a Hz
+abbrev pub trembling : Settings
+trembling = record { rate = 8000; waveform = Square; adsr = record { attack = half; decay = half; sustain = half; release = half }; lfo = record { waveform = Square; frequency = half; depth = half } }
 
 -- note 69 on at 0
 abbrev pub begins : List ℕ
@@ -48,9 +49,9 @@ endsAt at = 0x56 ∷ 0x4E ∷ at ∷ 0 ∷ 0 ∷ 0 ∷ 2 ∷ 69 ∷ 0 ∷ 0 ∷ 
 abbrev pub played : ℕ → List Step
 played at = record { score = begins; part = replicate 100 half } ∷ record { score = begins ++ endsAt at; part = replicate 28 half } ∷ []
 
-pub plain-ok : settingsOk plain ≡ true
-unfolding isAdsr isRate ofBits isNan
-plain-ok = refl
+pub trembling-ok : settingsOk trembling ≡ true
+unfolding isAdsr isRate ofBits isNan le
+trembling-ok = refl
 
 pub begins-accepted : verdictOf begins ≡ Accepted 1
 unfolding positionAt markRight kindRight fieldsRight inOrder faultsAt faultsFrom faultsOf verdictOf
@@ -76,10 +77,10 @@ pub record OnTime : Type 0 where
   pub accepted : AllAccepted (played 100)
   pub growing : Grows [] (played 100)
   pub none-below : NoneAddedBelow [] 0 (played 100)
-  pub answers : chainFrom plain (freshOf 0) 0 (played 100) .answers ≡ Done 100 ∷ Done 28 ∷ []
-  pub one-render : OneRender plain (played 100) (replicate 128 half) (replicate entryWords 0)
+  pub answers : chainFrom trembling (freshOf 0) 0 (played 100) .answers ≡ Done 100 ∷ Done 28 ∷ []
+  pub one-render : OneRender trembling (played 100) (replicate 128 half) (replicate entryWords 0)
 
-sustain-fits : T (fits binary64 (plain .adsr .sustain))
+sustain-fits : T (fits binary64 (trembling .adsr .sustain))
 sustain-fits = ofBits-fits binary64 0x3fe0_0000_0000_0000
 
 none-100 : NoneAddedBelow [] 0 (played 100)
@@ -88,8 +89,8 @@ none-100 = ((λ i a b. omega arith), ((λ i a b. let e : i ≡ 1 = omega arith i
 all-100 : AllAccepted (played 100)
 all-100 = ((1, begins-accepted), ((2, accepted-100), tt))
 
-done-100 : AllDone plain (freshOf 0) 0 (played 100)
-done-100 = chain-done plain plain-ok sustain-fits (played 100) all-100 (grows 100) (omega arith) .done-if none-100
+done-100 : AllDone trembling (freshOf 0) 0 (played 100)
+done-100 = chain-done trembling trembling-ok sustain-fits (played 100) all-100 (grows 100) (omega arith) .done-if none-100
 
 pub on-time : OnTime
 on-time =
@@ -98,7 +99,7 @@ on-time =
       growing = grows 100;
       none-below = none-100;
       answers = done-100;
-      one-render = chain plain _ _ (grows 100) done-100 (replicate 128 half) (replicate entryWords 0) refl refl;
+      one-render = chain trembling _ _ (grows 100) done-100 (replicate 128 half) (replicate entryWords 0) refl refl;
     }
 
 -- ---- too late
@@ -106,9 +107,9 @@ pub record TooLate : Type 0 where
   pub accepted : AllAccepted (played 50)
   pub growing : Grows [] (played 50)
   pub one-below : NoneAddedBelow [] 0 (played 50) → ⊥
-  pub answers : chainFrom plain (freshOf 0) 0 (played 50) .answers ≡ Done 100 ∷ Refused GivenState ∷ []
-  pub heard : chainFrom plain (freshOf 0) 0 (played 50) .heard ≡ samplesFrom plain begins 0 (freshOf 0) 100 ++ replicate 28 half
-  pub state : chainFrom plain (freshOf 0) 0 (played 50) .state ≡ stateFrom plain begins 0 (freshOf 0) 100
+  pub answers : chainFrom trembling (freshOf 0) 0 (played 50) .answers ≡ Done 100 ∷ Refused GivenState ∷ []
+  pub heard : chainFrom trembling (freshOf 0) 0 (played 50) .heard ≡ samplesFrom trembling begins 0 (freshOf 0) 100 ++ replicate 28 half
+  pub state : chainFrom trembling (freshOf 0) 0 (played 50) .state ≡ stateFrom trembling begins 0 (freshOf 0) 100
 
 abbrev first : Step
 first = record { score = begins; part = replicate 100 half }
@@ -118,21 +119,21 @@ second = record { score = begins ++ endsAt 50; part = replicate 28 half }
 
 -- the state that the first call answers
 abbrev reached : State
-reached = stateFrom plain begins 0 (freshOf 0) 100
+reached = stateFrom trembling begins 0 (freshOf 0) 100
 
-first-call : continueOf plain begins (freshOf 0) 0 (replicate 100 half) .result .answer ≡ Done 100
+first-call : continueOf trembling begins (freshOf 0) 0 (replicate 100 half) .result .answer ≡ Done 100
 first-call =
-    let d = chain-done plain plain-ok sustain-fits (first ∷ []) ((1, begins-accepted), tt) (record { added = begins; grown = refl }, tt) (omega arith) .done-if ((λ i a b. omega arith), tt) in
-    first-done plain (freshOf 0) 0 first [] d
+    let d = chain-done trembling trembling-ok sustain-fits (first ∷ []) ((1, begins-accepted), tt) (record { added = begins; grown = refl }, tt) (omega arith) .done-if ((λ i a b. omega arith), tt) in
+    first-done trembling (freshOf 0) 0 first [] d
 
-second-call : continueOf plain (begins ++ endsAt 50) reached 100 (replicate 28 half) ≡ keptPart reached (replicate 28 half) GivenState
+second-call : continueOf trembling (begins ++ endsAt 50) reached 100 (replicate 28 half) ≡ keptPart reached (replicate 28 half) GivenState
 second-call =
-    late begins (begins ++ endsAt 50) 1 2 begins-accepted accepted-50 (record { added = endsAt 50; grown = refl }) 100 plain reached refl plain-ok (replicate 28 half) (omega arith) 1 (omega arith) (omega arith)
+    late begins (begins ++ endsAt 50) 1 2 begins-accepted accepted-50 (record { added = endsAt 50; grown = refl }) 100 trembling reached refl trembling-ok (replicate 28 half) (omega arith) 1 (omega arith) (omega arith)
     (rw (position-1 50) (omega arith))
 
-whole : chainFrom plain (freshOf 0) 0 (played 50) ≡ record { answers = Done 100 ∷ Refused GivenState ∷ []; heard = samplesFrom plain begins 0 (freshOf 0) 100 ++ replicate 28 half; state = reached }
+whole : chainFrom trembling (freshOf 0) 0 (played 50) ≡ record { answers = Done 100 ∷ Refused GivenState ∷ []; heard = samplesFrom trembling begins 0 (freshOf 0) 100 ++ replicate 28 half; state = reached }
 unfolding chainFrom
-whole = chain-step plain (freshOf 0) 0 first (second ∷ []) first-call ∙ rw second-call refl
+whole = chain-step trembling (freshOf 0) 0 first (second ∷ []) first-call ∙ rw second-call refl
 
 pub too-late : TooLate
 too-late =

@@ -21,7 +21,7 @@ use Rattle.shelf.specs.Shelf.{entryWords, wordsFor, entryOf}
 use Rattle.shelf.proofs.There.{entry-length}
 use Rattle.demands.specs.Demand3.{Taken, Edit, Lent, Buffers}
 use Rattle.demands.specs.Edits.{editsFrom, Editing, Edited}
-use Rattle.demands.proofs.ChainExamples.{plain, plain-ok, begins, begins-accepted}
+use Rattle.demands.proofs.ChainExamples.{trembling, trembling-ok, begins, begins-accepted}
 use Rattle.sections.specs.Outcome.{leaves}
 use Rattle.rerender.specs.Rerender.{entryAt, rerenderOf}
 use Rattle.demands.proofs.Demand3.{soundOf, shelvedOf, atSection, demand-3, heard-is, stored-is}
@@ -41,10 +41,10 @@ differs : differenceOf begins edited ≡ At 5000
 unfolding positionAt sameTo firstFrom
 differs = refl
 
-an-edit : Edit plain begins edited
+an-edit : Edit trembling begins edited
 an-edit =
     record {
-      settings = plain-ok;
+      settings = trembling-ok;
       sustain-fits = ofBits-fits binary64 0x3fe0_0000_0000_0000;
       old-taken = record { records = 1; accepted = begins-accepted };
       new-taken = record { records = 2; accepted = edited-accepted };
@@ -55,7 +55,7 @@ abbrev pub out : List Float
 out = replicate 6000 half
 
 abbrev pub shelf : List ℕ
-shelf = replicate entryWords 7 ++ entryOf (atSection plain begins 1)
+shelf = replicate entryWords 7 ++ entryOf (atSection trembling begins 1)
 
 long : length out ≡ 6000
 long = length-replicate 6000 half
@@ -64,36 +64,36 @@ lent : Lent out shelf
 lent =
     record {
       short = omega (arith, long);
-      fits = length-append (replicate entryWords 7) (entryOf (atSection plain begins 1)) ∙ ap (λ (n : ℕ). entryWords + n) (entry-length (atSection plain begins 1)) ∙ sym (ap wordsFor long);
+      fits = length-append (replicate entryWords 7) (entryOf (atSection trembling begins 1)) ∙ ap (λ (n : ℕ). entryWords + n) (entry-length (atSection trembling begins 1)) ∙ sym (ap wordsFor long);
     }
 
-kept : entryAt shelf 1 ≡ entryOf (atSection plain begins 1)
-kept = take-all entryWords (entryOf (atSection plain begins 1)) (omega (arith, entry-length (atSection plain begins 1)))
+kept : entryAt shelf 1 ≡ entryOf (atSection trembling begins 1)
+kept = take-all entryWords (entryOf (atSection trembling begins 1)) (omega (arith, entry-length (atSection trembling begins 1)))
 
-pub an-edit-over-rubbish : rerenderOf plain begins edited out shelf
-    ≡ leaves (Done 1904) (take 4096 out ++ drop 4096 (soundOf plain edited 6000)) (take entryWords shelf ++ drop entryWords (shelvedOf plain edited 6000))
-an-edit-over-rubbish = rw long at (demand-3 plain begins edited an-edit 5000 differs out shelf lent (omega (arith, long)) kept)
+pub an-edit-over-rubbish : rerenderOf trembling begins edited out shelf
+    ≡ leaves (Done 1904) (take 4096 out ++ drop 4096 (soundOf trembling edited 6000)) (take entryWords shelf ++ drop entryWords (shelvedOf trembling edited 6000))
+an-edit-over-rubbish = rw long at (demand-3 trembling begins edited an-edit 5000 differs out shelf lent (omega (arith, long)) kept)
 
 -- ---- the off added and taken away again, over rubbish: section 0 holds rubbish in output and shelf; from section 1 on
 -- both hold what a render of the note alone left
 abbrev pub spoilt : List Float
-spoilt = take 4096 out ++ drop 4096 (soundOf plain begins 6000)
+spoilt = take 4096 out ++ drop 4096 (soundOf trembling begins 6000)
 
 abbrev sevens : List ℕ
 sevens = replicate (2 * entryWords) 7
 
 abbrev pub spoiltShelf : List ℕ
-spoiltShelf = take entryWords sevens ++ drop entryWords (shelvedOf plain begins 6000)
+spoiltShelf = take entryWords sevens ++ drop entryWords (shelvedOf trembling begins 6000)
 
 spoilt-long : length spoilt ≡ 6000
-spoilt-long = over-length 4096 out (soundOf plain begins 6000) (omega (arith, long)) (long ∙ sym (sound-length plain begins 6000)) ∙ sound-length plain begins 6000
+spoilt-long = over-length 4096 out (soundOf trembling begins 6000) (omega (arith, long)) (long ∙ sym (sound-length trembling begins 6000)) ∙ sound-length trembling begins 6000
 
 sevens-long : length sevens ≡ 2 * entryWords
 sevens-long = length-replicate {A = ℕ} (2 * entryWords) 7
 
 spoilt-fits : length spoiltShelf ≡ wordsFor 6000
 spoilt-fits =
-    over-length entryWords sevens (shelvedOf plain begins 6000) (omega (arith, sevens-long)) (sevens-long ∙ sym (shelved-length plain begins 6000)) ∙ shelved-length plain begins 6000
+    over-length entryWords sevens (shelvedOf trembling begins 6000) (omega (arith, sevens-long)) (sevens-long ∙ sym (shelved-length trembling begins 6000)) ∙ shelved-length trembling begins 6000
 
 -- some buffers that the note alone was rendered in
 some : (n : ℕ) → 6000 ≡ n → Buffers n
@@ -109,27 +109,27 @@ heard-from p q e f = omega (arith, at-inj e)
 note-taken : Taken begins
 note-taken = an-edit .old-taken
 
-pub over-rubbish : Editing plain begins (edited ∷ begins ∷ []) 1 spoilt spoiltShelf
+pub over-rubbish : Editing trembling begins (edited ∷ begins ∷ []) 1 spoilt spoiltShelf
 over-rubbish =
     let n = length spoilt in
     let r : Buffers n = some n (sym spoilt-long) in
     record {
-      settings = plain-ok;
+      settings = trembling-ok;
       sustain-fits = an-edit .sustain-fits;
       old-taken = note-taken;
       news-taken = (an-edit .new-taken, (note-taken, tt));
       lent = record { short = omega (arith, spoilt-long); fits = spoilt-fits ∙ ap wordsFor (sym spoilt-long) };
       honest = record {
         buffers = r;
-        samples = back 4096 out (drop 4096 (soundOf plain begins 6000)) (omega (arith, long)) ∙ ap (λ (k : ℕ). drop 4096 (soundOf plain begins k)) (sym spoilt-long) ∙ sym (ap (drop 4096) (heard-is plain plain-ok begins note-taken n r));
+        samples = back 4096 out (drop 4096 (soundOf trembling begins 6000)) (omega (arith, long)) ∙ ap (λ (k : ℕ). drop 4096 (soundOf trembling begins k)) (sym spoilt-long) ∙ sym (ap (drop 4096) (heard-is trembling trembling-ok begins note-taken n r));
         entries =
-            back entryWords sevens (drop entryWords (shelvedOf plain begins 6000)) (omega (arith, sevens-long)) ∙ ap (λ (k : ℕ). drop entryWords (shelvedOf plain begins k)) (sym spoilt-long)
-            ∙ sym (ap (drop entryWords) (stored-is plain plain-ok begins note-taken n r));
+            back entryWords sevens (drop entryWords (shelvedOf trembling begins 6000)) (omega (arith, sevens-long)) ∙ ap (λ (k : ℕ). drop entryWords (shelvedOf trembling begins k)) (sym spoilt-long)
+            ∙ sym (ap (drop entryWords) (stored-is trembling trembling-ok begins note-taken n r));
       };
       none-before = ((λ p e l. heard-from 5000 p (sym differs ∙ e) refl), ((λ p e l. heard-from 5000 p (sym back-again ∙ e) refl), tt));
     }
 
 -- both calls are done; from section 1 on output and shelf are those of the note alone again, and rubbish before section
 -- 1
-pub edits-over-rubbish : Edited plain begins (edited ∷ begins ∷ []) 1 spoilt spoiltShelf (editsFrom plain begins (edited ∷ begins ∷ []) spoilt spoiltShelf)
-edits-over-rubbish = any-edits .over-rubbish plain begins (edited ∷ begins ∷ []) 1 spoilt spoiltShelf over-rubbish
+pub edits-over-rubbish : Edited trembling begins (edited ∷ begins ∷ []) 1 spoilt spoiltShelf (editsFrom trembling begins (edited ∷ begins ∷ []) spoilt spoiltShelf)
+edits-over-rubbish = any-edits .over-rubbish trembling begins (edited ∷ begins ∷ []) 1 spoilt spoiltShelf over-rubbish

@@ -47,13 +47,13 @@ use Rattle.render.proofs.Outcomes.{render-decided}
 pub fresh-fitting : (acted : ℕ) → Fitting (freshOf acted)
 fresh-fitting acted =
     let f = fresh-fits acted in
-    record { phase-fits = f .phase-fits; envelope-fits = f .envelope-held; frequency-fits = f .frequency-fits; velocity-fits = f .velocity-fits; notes-long = refl; velocities-long = refl }
+    record { phase-fits = f .phase-fits; envelope-fits = f .envelope-held; frequency-fits = f .frequency-fits; velocity-fits = f .velocity-fits; notes-long = refl; velocities-long = refl; lfo-fits = f .lfo-fits }
 
 pub fitting-kept : (g : Settings) (s : List ℕ) (n : ℕ) (v : State) → T (fits binary64 (g .adsr .sustain)) → Fitting v → (k : ℕ) → Fitting (stateFrom g s n v k)
 fitting-kept g s n v w f k =
-    let x = state-fits g s n v w (record { phase-fits = f .phase-fits; frequency-fits = f .frequency-fits; velocity-fits = f .velocity-fits; envelope-held = f .envelope-fits }) k in
+    let x = state-fits g s n v w (record { phase-fits = f .phase-fits; frequency-fits = f .frequency-fits; velocity-fits = f .velocity-fits; envelope-held = f .envelope-fits; lfo-fits = f .lfo-fits }) k in
     let y = state-sixteen g s n v (record { notes-long = f .notes-long; velocities-long = f .velocities-long }) k in
-    record { phase-fits = x .phase-fits; envelope-fits = x .envelope-held; frequency-fits = x .frequency-fits; velocity-fits = x .velocity-fits; notes-long = y .notes-long; velocities-long = y .velocities-long }
+    record { phase-fits = x .phase-fits; envelope-fits = x .envelope-held; frequency-fits = x .frequency-fits; velocity-fits = x .velocity-fits; notes-long = y .notes-long; velocities-long = y .velocities-long; lfo-fits = x .lfo-fits }
 
 -- the words ws are those of the state v and are read as v, with as many records acted as s has below n
 pub record HonestEntry (s : List ℕ) (n : ℕ) (v : State) (ws : List ℕ) : Type 0 where

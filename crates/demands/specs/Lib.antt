@@ -2,3 +2,4 @@ pub mod Demand1
 pub mod Chain
 pub mod Demand3
 pub mod Edits
+pub mod Tremolo

@@ -27,7 +27,7 @@ use Rattle.rerender.specs.Rerender.{rerenderOf}
 use Rattle.shelf.specs.declared.Entry.{Entry}
 use Rattle.shelf.specs.Shelf as shelf
 use Rattle.shelf.specs.Shelf.{entryWords, stateOf, isEntry, decodedOf}
-use Rattle.shelf.proofs.There.{kept-twelve}
+use Rattle.shelf.proofs.There.{kept-thirteen}
 use Rattle.shelf.proofs.Back.{entry-is-long, entry-is-state}
 use Rattle.state.specs.declared.Settings.{Settings}
 use Rattle.state.specs.declared.State.{State}
@@ -122,14 +122,14 @@ module _ (g : Settings) (s ws : List ℕ) (p : ℕ) (part : List Float) (d : Ent
         let answer : r .answer ≡ Done n = ap (λ (o : PartOutcome). o .result .answer) made in
         let heard : ys ≡ samplesFrom g s p (stateOf ws) n = ap (λ (o : PartOutcome). o .heard) made in
         let state : r .state ≡ stateFrom g s p (stateOf ws) n = ap (λ (o : PartOutcome). o .result .state) made in
-        rw (none, q, answer, heard, v ∙ kept-twelve ws (r .state) (entry-is-long ws entry), state) refl
+        rw (none, q, answer, heard, v ∙ kept-thirteen ws (r .state) (entry-is-long ws entry), state) refl
 
 -- ---- the fresh state
 pub fresh-refused : (ws : List ℕ) → (length ws ≡ entryWords → ⊥) → (word : ℕ) → word ≡ packedOf (Refused Argument) → fills word ws ≡ freshFor ws
 fresh-refused ws h word q = rw (ne-eqb (length ws) entryWords h, q) refl
 
 pub fresh-made : (ws : List ℕ) → length ws ≡ entryWords → (v : State) (vs : List ℕ) → v ≡ freshOf 0 → vs ≡ shelf.storedIn ws v → (word : ℕ) → word ≡ packedOf (Done 0) → fills word vs ≡ freshFor ws
-fresh-made ws h v vs e f word q = rw (eq-eqb (length ws) entryWords h, q, f, kept-twelve ws v h, e) refl
+fresh-made ws h v vs e f word q = rw (eq-eqb (length ws) entryWords h, q, f, kept-thirteen ws v h, e) refl
 
 -- ---- the listing
 module _ (s text after : List ℕ) (n : ℕ) (x : Listed s text after n) where

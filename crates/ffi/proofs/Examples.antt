@@ -1,4 +1,5 @@
--- The desk by worked examples: words, and which of code, duty, phase and dt is judged. Computed. Assumes nothing.
+-- The desk by worked examples: words, which of code, duty, phase and dt is judged, and which codes are settings.
+-- Computed. Assumes nothing.
 use mathlib.Core.Path.{_≡_, refl}
 use mathlib.Core.List.{[], _∷_, map}
 use lib.Ieee.{Float, binary64, ofBits, le, lt, eq}
@@ -7,7 +8,8 @@ use Rattle.answers.specs.declared.Refusal.the-variants.{Score, NewScore, Settin
 use Rattle.answers.specs.declared.ScoreFault.the-variants.{Kind, Order}
 use Rattle.floats.specs.Double.{zero64}
 use Rattle.ffi.specs.Packed.{packedOf}
-use Rattle.ffi.specs.Ffi.{shapeOf, singleOf}
+use Rattle.ffi.specs.declared.Choice.the-variants.{Unknown}
+use Rattle.ffi.specs.Ffi.{asks, shapeOf, choiceOf, singleOf}
 
 -- done with count 0, done with count 4,096; position of record 1 below that of record 0; the new score's record 3 has a
 -- wrong kind; 6
@@ -27,3 +29,8 @@ pub judged : (singleOf 9 nan zero64 zero64 .answer ∷ singleOf 4 zero64 zero64 
     ≡ Refused Setting ∷ Refused Setting ∷ Done 0 ∷ Refused Argument ∷ []
 unfolding shapeOf ofBits le lt eq
 judged = refl
+
+-- an LFO's code of 5 is unknown beside a waveform that is known, as a waveform's of 5 is beside an LFO
+pub unknown : (choiceOf (asks 8000 0 zero64 zero64 zero64 zero64 zero64 5 zero64 zero64 zero64) ∷ choiceOf (asks 8000 5 zero64 zero64 zero64 zero64 zero64 0 zero64 zero64 zero64) ∷ []) ≡ Unknown ∷ Unknown ∷ []
+unfolding shapeOf choiceOf
+unknown = refl

@@ -2,7 +2,8 @@
 -- 01, "What a call says": "The arranger's desk is a C program: score check and single waveform samples are exported to
 -- it, on numbers and byte slices. Sine to Pulse are codes 0 to 4 there, in the Rust's order. A single sample takes
 -- code, normalised phase, dt and a duty that is read and judged for Pulse only; for Sine u is the phase"; number 6: "at
--- the desk also a waveform code above 4".
+-- the desk also a waveform code above 4". 02, R-7: "Settings gain an LFO"; "6 covers the new settings", and so a code
+-- of the LFO's waveform above 4.
 -- Beyond 01: render, re-render, continuing call, fresh state and listing, on slices of f64 and u64 too.
 -- Each outcome is that of the call of the crate below, with its answer packed into one word, and what is left in every
 -- lent buffer. Definitions only.
@@ -34,6 +35,7 @@ use Rattle.state.specs.Heart.{stateFrom, samplesFrom}
 use Rattle.waveform.specs.declared.Waveform.{Waveform}
 use Rattle.waveform.specs.declared.Waveform.the-variants.{Sine, Square, Sawtooth, Triangle, Pulse}
 use Rattle.waveform.specs.Waveform.{sampleOf}
+use Rattle.ffi.specs.declared.Asked.{Asked}
 use Rattle.ffi.specs.declared.Shape.{Shape}
 use Rattle.ffi.specs.declared.Shape.the-variants as shape
 use Rattle.ffi.specs.declared.Choice.{Choice}
@@ -60,17 +62,21 @@ continues result part ws = record { result = result; heard = part; words = ws }
 
 -- ---- the settings
 -- what a host asks for, in its own numbers
-pub record Asked : Type 0 where
-  pub rate : ℕ
-  pub code : ℕ
-  pub duty : Float
-  pub attack : Float
-  pub decay : Float
-  pub sustain : Float
-  pub release : Float
-
-abbrev pub asks : ℕ → ℕ → Float → Float → Float → Float → Float → Asked
-asks rate code duty attack decay sustain release = record { rate = rate; code = code; duty = duty; attack = attack; decay = decay; sustain = sustain; release = release }
+abbrev pub asks : ℕ → ℕ → Float → Float → Float → Float → Float → ℕ → Float → Float → Float → Asked
+asks rate code duty attack decay sustain release lfoCode lfoDuty lfoFrequency lfoDepth =
+    record {
+      rate = rate;
+      code = code;
+      duty = duty;
+      attack = attack;
+      decay = decay;
+      sustain = sustain;
+      release = release;
+      «lfo_code» = lfoCode;
+      «lfo_duty» = lfoDuty;
+      «lfo_frequency» = lfoFrequency;
+      «lfo_depth» = lfoDepth;
+    }
 
 -- the table of codes: 0 to 4 in the Rust's order, every other code is unknown; only Pulse reads the duty
 unfoldable pub shapeOf : ℕ → Float → Shape
@@ -81,16 +87,23 @@ shapeOf code duty =
     (cond (eqb code 3) (shape.Known Triangle)
     (cond (eqb code 4) (shape.Known (Pulse duty)) shape.Unknown))))
 
--- the settings that a host asks for, or unknown
-abbrev pub settingsOf : Asked → Waveform → Settings
-settingsOf a w = record { rate = a .rate; waveform = w; adsr = record { attack = a .attack; decay = a .decay; sustain = a .sustain; release = a .release } }
+-- the settings that a host asks for, with the waveforms of its two codes
+abbrev pub settingsOf : Asked → Waveform → Waveform → Settings
+settingsOf a w l =
+    record {
+      rate = a .rate;
+      waveform = w;
+      adsr = record { attack = a .attack; decay = a .decay; sustain = a .sustain; release = a .release };
+      lfo = record { waveform = l; frequency = a .«lfo_frequency»; depth = a .«lfo_depth» };
+    }
 
-abbrev pub choiceFor : Shape → Asked → Choice
-choiceFor (shape.Known w) a = Known (settingsOf a w)
-choiceFor shape.Unknown a = Unknown
+abbrev pub choiceFor : Shape → Shape → Asked → Choice
+choiceFor (shape.Known w) (shape.Known l) a = Known (settingsOf a w l)
+choiceFor (shape.Known w) shape.Unknown a = Unknown
+choiceFor shape.Unknown l a = Unknown
 
 unfoldable pub choiceOf : Asked → Choice
-choiceOf a = choiceFor (shapeOf (a .code) (a .duty)) a
+choiceOf a = choiceFor (shapeOf (a .code) (a .duty)) (shapeOf (a .«lfo_code») (a .«lfo_duty»)) a
 
 -- ---- the score's check
 abbrev pub checkOf : List ℕ → ℕ
@@ -124,9 +137,9 @@ abbrev pub rerenderFor : Choice → List ℕ → List ℕ → List Float → Lis
 rerenderFor (Known g) old new out shelf = rerendered (rerenderOf g old new out shelf)
 rerenderFor Unknown old new out shelf = keptOf out shelf Setting
 
--- ---- continue: the state comes in twelve words, and the state after the part is left in them
--- the words are an entry, with as many records acted as the score has below p; twelve words that are no state, and any
--- other number of words, are 10, in the order's place of 10
+-- ---- continue: the state comes in thirteen words, and the state after the part is left in them
+-- the words are an entry, with as many records acted as the score has below p; thirteen words that are no state, and
+-- any other number of words, are 10, in the order's place of 10
 abbrev pub isGivenIn : List ℕ → ℕ → List ℕ → Bool
 isGivenIn s p ws = isEntry ws && eqb (stateOf ws .acted) (countBelow s p)
 
@@ -146,7 +159,7 @@ abbrev pub continueFor : Choice → List ℕ → List ℕ → ℕ → List Float
 continueFor (Known g) s ws p part = continueIn g s ws p part
 continueFor Unknown s ws p part = keptIn part ws Setting
 
--- ---- the fresh state in twelve words; any other number of words is 9
+-- ---- the fresh state in thirteen words; any other number of words is 9
 abbrev pub freshFor : List ℕ → Filled
 freshFor ws = firstOf (unless (eqb (length ws) entryWords) Argument) (λ (why : Refusal). fills (packedOf (Refused why)) ws) (fills (packedOf (Done 0)) (entryOf (freshOf 0)))
 

@@ -14,10 +14,26 @@ use answers::Value;
 use envelope::Adsr;
 use shelf::ENTRY_WORDS;
 use state::Settings;
+use tremolo::Lfo;
 use waveform::Waveform;
 
 // GAV_VERSION of the header.
-const VERSION: u32 = 1;
+const VERSION: u32 = 2;
+
+// What a host asks for, in its own numbers.
+pub struct Asked {
+    pub rate: u32,
+    pub code: u32,
+    pub duty: f64,
+    pub attack: f64,
+    pub decay: f64,
+    pub sustain: f64,
+    pub release: f64,
+    pub lfo_code: u32,
+    pub lfo_duty: f64,
+    pub lfo_frequency: f64,
+    pub lfo_depth: f64,
+}
 
 // The waveform of a code; unknown where the code is above 4.
 pub enum Shape {
@@ -25,7 +41,7 @@ pub enum Shape {
     Unknown,
 }
 
-// The settings that a host asks for; unknown where their code is above 4.
+// The settings that a host asks for; unknown where a code of theirs is above 4.
 pub enum Choice {
     Known(Settings),
     Unknown,
@@ -76,13 +92,30 @@ pub extern "C" fn gav_render(
     decay: f64,
     sustain: f64,
     release: f64,
+    lfo_code: u32,
+    lfo_duty: f64,
+    lfo_frequency: f64,
+    lfo_depth: f64,
     score: &[u8],
     out: &mut [f64],
     shelf: &mut [u64],
 ) -> u64
-    ensures { λ r. ⌜ leaves r (now (out .exit)) (now (shelf .exit)) ≡ renderFor (choiceOf (asks rate code duty attack decay sustain release)) (now (score .entry)) (now (out .entry)) (now (shelf .entry)) ⌝ }
+    ensures { λ r. ⌜ leaves r (now (out .exit)) (now (shelf .exit)) ≡ renderFor (choiceOf (asks rate code duty attack decay sustain release «lfo_code» «lfo_duty» «lfo_frequency» «lfo_depth»)) (now (score .entry)) (now (out .entry)) (now (shelf .entry)) ⌝ }
 {
-    let choice = choice_of(rate, code, duty, attack, decay, sustain, release);
+    let asked = Asked {
+        rate,
+        code,
+        duty,
+        attack,
+        decay,
+        sustain,
+        release,
+        lfo_code,
+        lfo_duty,
+        lfo_frequency,
+        lfo_depth,
+    };
+    let choice = choice_of(asked);
     let Choice::Known(settings) = choice else {
         return packed(Answer::Refused(Refusal::Setting));
     };
@@ -102,21 +135,38 @@ pub extern "C" fn gav_rerender(
     decay: f64,
     sustain: f64,
     release: f64,
+    lfo_code: u32,
+    lfo_duty: f64,
+    lfo_frequency: f64,
+    lfo_depth: f64,
     old: &[u8],
     new: &[u8],
     out: &mut [f64],
     shelf: &mut [u64],
 ) -> u64
-    ensures { λ r. ⌜ leaves r (now (out .exit)) (now (shelf .exit)) ≡ rerenderFor (choiceOf (asks rate code duty attack decay sustain release)) (now (old .entry)) (now (new .entry)) (now (out .entry)) (now (shelf .entry)) ⌝ }
+    ensures { λ r. ⌜ leaves r (now (out .exit)) (now (shelf .exit)) ≡ rerenderFor (choiceOf (asks rate code duty attack decay sustain release «lfo_code» «lfo_duty» «lfo_frequency» «lfo_depth»)) (now (old .entry)) (now (new .entry)) (now (out .entry)) (now (shelf .entry)) ⌝ }
 {
-    let choice = choice_of(rate, code, duty, attack, decay, sustain, release);
+    let asked = Asked {
+        rate,
+        code,
+        duty,
+        attack,
+        decay,
+        sustain,
+        release,
+        lfo_code,
+        lfo_duty,
+        lfo_frequency,
+        lfo_depth,
+    };
+    let choice = choice_of(asked);
     let Choice::Known(settings) = choice else {
         return packed(Answer::Refused(Refusal::Setting));
     };
     packed(rerender::rerender(settings, old, new, out, shelf))
 }
 
-// The next part of the output, from the state in twelve words; when done, the words are those of the state after the
+// The next part of the output, from the state in thirteen words; when done, the words are those of the state after the
 // part.
 #[no_mangle]
 pub extern "C" fn gav_continue(
@@ -127,21 +177,38 @@ pub extern "C" fn gav_continue(
     decay: f64,
     sustain: f64,
     release: f64,
+    lfo_code: u32,
+    lfo_duty: f64,
+    lfo_frequency: f64,
+    lfo_depth: f64,
     score: &[u8],
     state: &mut [u64],
     position: u64,
     part: &mut [f64],
 ) -> u64
-    ensures { λ r. ⌜ continues r (now (part .exit)) (now (state .exit)) ≡ continueFor (choiceOf (asks rate code duty attack decay sustain release)) (now (score .entry)) (now (state .entry)) position (now (part .entry)) ⌝ }
+    ensures { λ r. ⌜ continues r (now (part .exit)) (now (state .exit)) ≡ continueFor (choiceOf (asks rate code duty attack decay sustain release «lfo_code» «lfo_duty» «lfo_frequency» «lfo_depth»)) (now (score .entry)) (now (state .entry)) position (now (part .entry)) ⌝ }
 {
-    let choice = choice_of(rate, code, duty, attack, decay, sustain, release);
+    let asked = Asked {
+        rate,
+        code,
+        duty,
+        attack,
+        decay,
+        sustain,
+        release,
+        lfo_code,
+        lfo_duty,
+        lfo_frequency,
+        lfo_depth,
+    };
+    let choice = choice_of(asked);
     let Choice::Known(settings) = choice else {
         return packed(Answer::Refused(Refusal::Setting));
     };
     continue_in(settings, score, state, position, part)
 }
 
-// The state before sample zero, in twelve words.
+// The state before sample zero, in thirteen words.
 #[no_mangle]
 pub extern "C" fn gav_fresh(state: &mut [u64]) -> u64
     ensures { λ r. ⌜ fills r (now (state .exit)) ≡ freshFor (now (state .entry)) ⌝ }
@@ -189,34 +256,34 @@ fn shape_of(code: u32, duty: f64) -> Shape
     }
 }
 
-fn choice_of(
-    rate: u32,
-    code: u32,
-    duty: f64,
-    attack: f64,
-    decay: f64,
-    sustain: f64,
-    release: f64,
-) -> Choice
-    ensures { λ r. ⌜ r ≡ choiceOf (asks rate code duty attack decay sustain release) ⌝ }
+fn choice_of(asked: Asked) -> Choice
+    ensures { λ r. ⌜ r ≡ choiceOf asked ⌝ }
 {
-    let shape = shape_of(code, duty);
-    match shape {
-        Shape::Known(waveform) => {
-            let adsr = Adsr {
-                attack,
-                decay,
-                sustain,
-                release,
-            };
-            Choice::Known(Settings {
-                rate,
-                waveform,
-                adsr,
-            })
-        }
-        Shape::Unknown => Choice::Unknown,
-    }
+    let shape = shape_of(asked.code, asked.duty);
+    let lfo_shape = shape_of(asked.lfo_code, asked.lfo_duty);
+    let Shape::Known(waveform) = shape else {
+        return Choice::Unknown;
+    };
+    let Shape::Known(lfo_waveform) = lfo_shape else {
+        return Choice::Unknown;
+    };
+    let adsr = Adsr {
+        attack: asked.attack,
+        decay: asked.decay,
+        sustain: asked.sustain,
+        release: asked.release,
+    };
+    let lfo = Lfo {
+        waveform: lfo_waveform,
+        frequency: asked.lfo_frequency,
+        depth: asked.lfo_depth,
+    };
+    Choice::Known(Settings {
+        rate: asked.rate,
+        waveform,
+        adsr,
+        lfo,
+    })
 }
 
 fn single(code: u32, phase: f64, dt: f64, duty: f64) -> Value

@@ -20,9 +20,10 @@ use Rattle.render.specs.Calls.{isGiven, continueRefusals, continueOf}
 use Rattle.render.proofs.Outcomes.{continue-decided}
 use Rattle.demands.specs.Chain.{Step}
 use Rattle.demands.proofs.Link.{after, onward}
+use Rattle.ffi.specs.declared.Asked.{Asked}
 use Rattle.ffi.specs.declared.Choice.the-variants.{Known}
 use Rattle.ffi.specs.Packed.{packedOf, numbersIn}
-use Rattle.ffi.specs.Ffi.{Continued, continues, Asked, choiceOf, isGivenIn, continueIn, continueFor}
+use Rattle.ffi.specs.Ffi.{Continued, continues, choiceOf, isGivenIn, continueIn, continueFor}
 use Rattle.ffi.proofs.ReadBack.{continue-says}
 use Rattle.ffi_demands.specs.WordsChain.{andThen, wordsChainFrom}
 use Rattle.ffi_demands.proofs.Zero.{zero-done}

@@ -1,7 +1,7 @@
 -- Both theorems met by calls that C makes.
 -- A chain: 01's score, on at 0 and off at 100, whose second record is added when sample 100 is reached, in two parts of
--- 100 and 28 samples, over twelve words of rubbish that gav_fresh fills. Both numbers are 0, and one gav_render of the
--- whole score is left.
+-- 100 and 28 samples, over thirteen words of rubbish that gav_fresh fills. Both numbers are 0, and one gav_render of
+-- the whole score is left.
 -- Edits: the note alone rendered, its off added, and taken away again. The three numbers are 0, and one gav_render of
 -- the note alone is left. Assumes nothing.
 use mathlib.Core.Path.{_≡_, refl}
@@ -15,25 +15,26 @@ use lib.Ieee.Bits.{ofBits-fits}
 use Rattle.sections.specs.Outcome.{Outcome}
 use Rattle.shelf.specs.Shelf.{entryWords}
 use Rattle.floats.specs.Double.{half}
-use Rattle.demands.proofs.ChainExamples.{plain, plain-ok, begins, begins-accepted, endsAt, played, on-time}
+use Rattle.demands.proofs.ChainExamples.{trembling, trembling-ok, begins, begins-accepted, endsAt, played, on-time}
 use Rattle.demands.specs.Demand3.{Taken}
+use Rattle.ffi.specs.declared.Asked.{Asked}
 use Rattle.ffi.specs.declared.Choice.the-variants.{Known}
-use Rattle.ffi.specs.Ffi.{Continued, Asked, asks, shapeOf, choiceOf}
+use Rattle.ffi.specs.Ffi.{Continued, asks, shapeOf, choiceOf}
 use Rattle.ffi_demands.specs.WordsChain.{wordsChain, AllZero, OneFfiRender}
 use Rattle.ffi_demands.specs.WordsEdits.{wordsEdits, LastFfiRender}
 use Rattle.ffi_demands.proofs.FfiChain.{desk-chain, desk-chain-done}
 use Rattle.ffi_demands.proofs.FfiEdits.{desk-edits, desk-edits-done}
 
--- code 1 is a square wave, which reads no duty
+-- code 1 is a square wave, which reads no duty, and the LFO's too
 abbrev pub square : Asked
-square = asks 8000 1 half (plain .adsr .attack) (plain .adsr .decay) (plain .adsr .sustain) (plain .adsr .release)
+square = asks 8000 1 half (trembling .adsr .attack) (trembling .adsr .decay) (trembling .adsr .sustain) (trembling .adsr .release) 1 half (trembling .lfo .frequency) (trembling .lfo .depth)
 
-known : choiceOf square ≡ Known plain
+known : choiceOf square ≡ Known trembling
 unfolding shapeOf choiceOf
 known = refl
 
 -- ---- a chain
--- twelve words of rubbish
+-- thirteen words of rubbish
 abbrev pub rubbish : List ℕ
 rubbish = replicate entryWords 7
 
@@ -44,11 +45,11 @@ pub record OnTimeInWords : Type 0 where
   pub zeros : AllZero (played-in-words .result)
   pub one-render : OneFfiRender square (played 100) (replicate 128 half) (replicate entryWords 0) played-in-words
 
-sustain-fits : T (fits binary64 (plain .adsr .sustain))
+sustain-fits : T (fits binary64 (trembling .adsr .sustain))
 sustain-fits = ofBits-fits binary64 0x3fe0_0000_0000_0000
 
 all-zero : AllZero (played-in-words .result)
-all-zero = desk-chain-done square sustain-fits rubbish refl plain known plain-ok (played 100) (on-time .accepted) (on-time .growing) (omega arith) .zero-if (on-time .none-below)
+all-zero = desk-chain-done square sustain-fits rubbish refl trembling known trembling-ok (played 100) (on-time .accepted) (on-time .growing) (omega arith) .zero-if (on-time .none-below)
 
 pub on-time-in-words : OnTimeInWords
 on-time-in-words =
@@ -66,7 +67,7 @@ edits-zero : AllZero (edited-in-words .result)
 edits-zero =
     let one : Taken begins = record { records = 1; accepted = begins-accepted } in
     let two : Taken (begins ++ endsAt 100) = record { records = on-time .accepted .1 .0 .0; accepted = on-time .accepted .1 .0 .1 } in
-    desk-edits-done square sustain-fits begins _ _ _ plain known plain-ok (record { short = omega arith; fits = refl }) one (two, (one, tt))
+    desk-edits-done square sustain-fits begins _ _ _ trembling known trembling-ok (record { short = omega arith; fits = refl }) one (two, (one, tt))
 
 pub edits-in-words : EditedInWords
 edits-in-words = record { zeros = edits-zero; last-render = desk-edits square sustain-fits begins _ _ _ edits-zero (replicate 128 half) (replicate entryWords 0) refl refl }

@@ -23,16 +23,17 @@ use Rattle.render.specs.Calls.{renderOf}
 use Rattle.demands.specs.Chain.{Step, samplesOf, lastOf, doneAll, Grows, AllAccepted}
 use Rattle.demands.proofs.Honest.{render-passed}
 use Rattle.demands.proofs.Chain.{chain, chain-done}
+use Rattle.ffi.specs.declared.Asked.{Asked}
 use Rattle.ffi.specs.declared.Choice.{Choice}
 use Rattle.ffi.specs.declared.Choice.the-variants.{Known}
 use Rattle.ffi.specs.Packed.{packedOf}
-use Rattle.ffi.specs.Ffi.{Continued, Asked, choiceOf, renderFor, continueFor, freshFor}
+use Rattle.ffi.specs.Ffi.{Continued, choiceOf, renderFor, continueFor, freshFor}
 use Rattle.ffi_demands.specs.WordsChain.{wordsChainFrom, wordsChain, AllZero, OneFfiRender, ZeroExactly, WordsPartsAreOne}
 use Rattle.ffi_demands.proofs.Zero.{refused-not-zero, zero-done, done-zero}
 use Rattle.ffi_demands.proofs.Codes.{IsKnown, is-known, sustain-fits}
 use Rattle.ffi_demands.proofs.Tells.{zero-all, tells, invariant-fresh}
 
--- what gav_fresh leaves in twelve words
+-- what gav_fresh leaves in thirteen words
 fresh-left : (room : List ℕ) → length room ≡ entryWords → freshFor room .left ≡ entryOf (freshOf 0)
 fresh-left room l = rw (eq-eqb (length room) entryWords l) refl
 
@@ -42,12 +43,12 @@ done-zeros [] = tt
 done-zeros (x ∷ xs) = (done-zero (length (x .part)), done-zeros xs)
 
 -- ---- the theorem: number 0 in every word, so one render
-module _ (a : Asked) (sus : T (fits binary64 (a .sustain))) (room : List ℕ) (twelve : length room ≡ entryWords) where
+module _ (a : Asked) (sus : T (fits binary64 (a .sustain))) (room : List ℕ) (thirteen : length room ≡ entryWords) where
   abbrev calls : List Step → Continued (List ℕ)
   calls xs = wordsChain a room xs
 
   from-fresh : (xs : List Step) → calls xs ≡ wordsChainFrom a (entryOf (freshOf 0)) 0 xs
-  from-fresh xs = ap (λ (ws : List ℕ). wordsChainFrom a ws 0 xs) (fresh-left room twelve)
+  from-fresh xs = ap (λ (ws : List ℕ). wordsChainFrom a ws 0 xs) (fresh-left room thirteen)
 
   -- unknown settings are refused by the first call
   settings-known : (x : Step) (xs : List Step) → AllZero (calls (x ∷ xs) .result) → IsKnown a

@@ -23,10 +23,11 @@ use Rattle.rerender.specs.Rerender.{entryAt, rerenderOf}
 use Rattle.demands.specs.Demand3.{Taken, Edit, Lent, Buffers, leftIn, FromSection}
 use Rattle.demands.proofs.Honest.{render-passed}
 use Rattle.demands.proofs.Demand3.{demand-3-holds}
+use Rattle.ffi.specs.declared.Asked.{Asked}
 use Rattle.ffi.specs.declared.Choice.{Choice}
 use Rattle.ffi.specs.declared.Choice.the-variants.{Known}
 use Rattle.ffi.specs.Packed.{packedOf}
-use Rattle.ffi.specs.Ffi.{Asked, choiceOf, renderFor, rerendered, rerenderFor}
+use Rattle.ffi.specs.Ffi.{choiceOf, renderFor, rerendered, rerenderFor}
 use Rattle.ffi.proofs.ReadBack.{rerender-reads}
 use Rattle.ffi_demands.specs.WordsDemand3.{ffiLeft, Zero, FfiRemade, WordsDemand3}
 use Rattle.ffi_demands.proofs.Zero.{refused-not-zero, zero-done}

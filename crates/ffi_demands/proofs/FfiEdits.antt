@@ -23,11 +23,12 @@ use Rattle.demands.specs.Demand3.{Taken, Lent, Buffers}
 use Rattle.demands.specs.Edits.{andOver, editsFrom, lastScore, allCounted, AllTaken, Editing}
 use Rattle.demands.proofs.Demand3.{rendered}
 use Rattle.demands.proofs.Edits.{last-taken, any-edits}
+use Rattle.ffi.specs.declared.Asked.{Asked}
 use Rattle.ffi.specs.declared.Choice.{Choice}
 use Rattle.ffi.specs.declared.Choice.the-variants.{Known}
 use Rattle.ffi.specs.Packed.{packedOf}
 use Rattle.ffi.specs.Ffi as desk
-use Rattle.ffi.specs.Ffi.{Asked, choiceOf, renderFor, rerendered}
+use Rattle.ffi.specs.Ffi.{choiceOf, renderFor, rerendered}
 use Rattle.ffi_demands.specs.WordsChain.{AllZero}
 use Rattle.ffi_demands.specs.WordsEdits.{wordsEditsFrom, wordsEdits, FfiEditing, FfiEdited, LastFfiRender, WordsAnyEdits}
 use Rattle.ffi_demands.proofs.Zero.{zero-done, done-zero}

@@ -24,7 +24,8 @@ use Rattle.render.specs.Calls.{continueOf}
 use Rattle.demands.specs.Chain.{Step, ChainOutcome, chainFrom, doneAll, AllDone, Grows, NoneBelow}
 use Rattle.demands.proofs.Honest.{fresh-fitting, honest}
 use Rattle.demands.proofs.Link.{PassedCall, call-passed, Reached, acted-is, none-below, goes-on, after, onward, chain-step, first-done, rest-done, all-done}
-use Rattle.ffi.specs.Ffi.{Continued, Asked, choiceOf}
+use Rattle.ffi.specs.declared.Asked.{Asked}
+use Rattle.ffi.specs.Ffi.{Continued, choiceOf}
 use Rattle.ffi.specs.declared.Choice.the-variants.{Known}
 use Rattle.ffi.specs.Packed.{packedOf}
 use Rattle.ffi_demands.specs.WordsChain.{wordsChainFrom, AllZero}

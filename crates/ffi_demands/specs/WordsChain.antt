@@ -1,4 +1,4 @@
--- A chain of continuing calls as C makes them, on twelve words, as a claim.
+-- A chain of continuing calls as C makes them, on thirteen words, as a claim.
 -- include/gavberin.h, of gav_continue: "Parts of any lengths, one after the other from gav_fresh at position 0, under
 -- the same settings and a score that grows only at its end, are the samples of one gav_render of the last score".
 -- Each call takes the words that the call before it left, at the end of the part before. Of the answers the claim asks
@@ -18,10 +18,11 @@ use Rattle.state.specs.Settings.{settingsOk}
 use Rattle.judging.specs.Judging.{mostSamples}
 use Rattle.render.specs.Calls.{renderOf}
 use Rattle.demands.specs.Chain.{Step, samplesOf, lastOf, doneAll, Grows, AllAccepted, NoneAddedBelow}
+use Rattle.ffi.specs.declared.Asked.{Asked}
 use Rattle.ffi.specs.declared.Choice.{Choice}
 use Rattle.ffi.specs.declared.Choice.the-variants.{Known, Unknown}
 use Rattle.ffi.specs.Packed.{packedOf, numbersIn}
-use Rattle.ffi.specs.Ffi.{Continued, continues, Asked, choiceOf, renderFor, continueFor, freshFor}
+use Rattle.ffi.specs.Ffi.{Continued, continues, choiceOf, renderFor, continueFor, freshFor}
 
 -- a call, and then the rest: the word that each call answered, the parts one after the other, and the state's words
 -- after the last call
@@ -62,8 +63,8 @@ pub record ZeroExactly (a : Asked) (room : List ℕ) (xs : List Step) : Type 0 w
   pub zero-only-if : AllZero (wordsChain a room xs .result) → NoneAddedBelow [] 0 xs
   pub zero-if : NoneAddedBelow [] 0 xs → AllZero (wordsChain a room xs .result)
 
--- ---- the claim: for any settings whose sustain is a value of an f64, as every f64 of the code is, and any twelve
--- words lent to gav_fresh
+-- ---- the claim: for any settings whose sustain is a value of an f64, as every f64 of the code is, and any
+-- thirteen words lent to gav_fresh
 pub record WordsPartsAreOne : Type 0 where
   -- for one call or more
   pub one-render : (a : Asked) → T (fits binary64 (a .sustain)) → (room : List ℕ) → length room ≡ entryWords → (x : Step) (xs : List Step) → Grows [] (x ∷ xs) → AllZero (wordsChain a room (x ∷ xs) .result)

@@ -18,8 +18,9 @@ use Rattle.score.specs.Apart.{differenceOf}
 use Rattle.shelf.specs.Shelf.{sectionSize}
 use Rattle.rerender.specs.Rerender.{entryAt}
 use Rattle.demands.specs.Demand3.{Taken, Lent, Buffers, FromSection}
+use Rattle.ffi.specs.declared.Asked.{Asked}
 use Rattle.ffi.specs.Packed.{packedOf, numbersIn}
-use Rattle.ffi.specs.Ffi.{Asked, choiceOf, renderFor, rerenderFor}
+use Rattle.ffi.specs.Ffi.{choiceOf, renderFor, rerenderFor}
 
 -- what a gav_render of s leaves
 abbrev pub ffiLeft : {n : ℕ} → Asked → List ℕ → Buffers n → Outcome ℕ

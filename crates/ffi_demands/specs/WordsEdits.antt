@@ -17,9 +17,10 @@ use Rattle.state.specs.declared.Settings.{Settings}
 use Rattle.state.specs.Settings.{settingsOk}
 use Rattle.demands.specs.Demand3.{Taken, Lent, FromSection}
 use Rattle.demands.specs.Edits.{andOver, lastScore, allCounted, AllTaken, NoneBefore, HonestFrom}
+use Rattle.ffi.specs.declared.Asked.{Asked}
 use Rattle.ffi.specs.declared.Choice.the-variants.{Known}
 use Rattle.ffi.specs.Packed.{packedOf}
-use Rattle.ffi.specs.Ffi.{Asked, choiceOf, renderFor, rerenderFor}
+use Rattle.ffi.specs.Ffi.{choiceOf, renderFor, rerenderFor}
 use Rattle.ffi_demands.specs.WordsChain.{AllZero}
 use Rattle.ffi_demands.specs.WordsDemand3.{ffiLeft, Zero}
 

@@ -1,5 +1,5 @@
 // The demands at the C boundary: what was ordered of the calls together, proved of `ffi`'s calls, whose states are
-// twelve words and whose answers are one word. Theorems over the definitions that `ffi`'s contracts cite; specs/ has
+// thirteen words and whose answers are one word. Theorems over the definitions that `ffi`'s contracts cite; specs/ has
 // the claims. Parts continued in words, one after the other from the words that `gav_fresh` leaves, are one
 // `gav_render` of the last score; from the start of its section on, `gav_rerender` leaves what `gav_render` of the new
 // score leaves; and after any number of edits output and shelf are those of one `gav_render`. The theorems ask of the

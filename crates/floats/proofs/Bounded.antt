@@ -1,20 +1,20 @@
 -- Sizes: |x| ≤ a, carried through each operation. So a long expression is finite if the same expression at the bounds
 -- is finite, which is computed. For either format. Assumes nothing.
-use mathlib.Core.Path.{_≡_, refl}
-use Prim.Native.Nat.{ℕ, _+_, _*_, _≤_}
-use native.Mathlib.Nat.{le-refl, mul-pos}
+use Prim.Native.Nat.{_+_, _*_}
+use native.Mathlib.Nat.{le-refl, mul-pos, mul-le-mul-right}
 use native.Mathlib.Omega.{arith}
-use mathlib.Core.Bool.{true, false}
-use lib.Dec.{T, lit<}
-use lib.Ieee.{Float, nan, inf, fin, Format, neg, add, sub, mul, div, le, fits}
+use lib.Dec.{T}
+use lib.Ieee.{Float, Format, neg, add, sub, mul, div, le}
 use lib.Ieee.Fits.{and-i, and-l, and-r}
 use lib.Ieee.Scale.{finite}
 use lib.Ieee.Positive.{num, den, den-pos, positive}
 use Rattle.floats.specs.Range.{plusZero, plusOne, nonneg, within}
-use Rattle.floats.proofs.Order.{between-finite, fle-trans, fle-refl, positive-num, nonneg→finite, nonneg→ge0, ge0→le}
+use Rattle.floats.proofs.Order.{between-finite, fle-trans, fle-refl, positive-nonneg, nonneg→finite, nonneg→ge0, ge0→le}
+use Rattle.floats.proofs.Operations.{quot-pos}
+use Rattle.floats.proofs.Ranges.{div-in}
 use Rattle.floats.proofs.Signed.{finite-neg}
-use Rattle.floats.proofs.Near.{Near, plus, less, order, near-self, near-neg, near-add, near-div}
-use Rattle.floats.proofs.Near.{neg-parts, neg-order, add-order, mul-bound, within-neg, le→frac}
+use Rattle.floats.proofs.Near.{Near, plus, less, order, near-neg, near-add, near-div}
+use Rattle.floats.proofs.Near.{neg-parts, neg-order, add-order, div-order, mul-bound, within-neg, le→frac}
 
 -- |x| ≤ a, and a is finite
 pub record Size (a x : Float) : Type 0 where
@@ -88,36 +88,27 @@ size-of-range a x h p =
     minus-le : (a : Float) → T (le plusZero a) → T (le (neg a) plusZero)
     minus-le a k = fle-trans (neg a) (neg plusZero) plusZero (neg-order plusZero a k) (unfold neg in unfold le in tt)
 
+-- |x| ≤ a and 0 < y: |x / y| ≤ a / y, where the rounded bound is finite
+pub size-over : (f : Format) (a x y : Float) → T (positive y) → Size a x → T (finite (div f a y)) → Size (div f a y) (div f x y)
+size-over f a x y q s h =
+    let A = s .bound in
+    let X = size-finite a x s in
+    record {
+      bound = h;
+      between =
+          and-i (le (neg (div f a y)) (div f x y)) (le (div f x y) (div f a y))
+          (order f _ _ _ _ _ _ _ _ (near-neg f (div f a y) _ _ _ (near-div f a y A q)) (near-div f x y X q) (quot-pos a y q) (quot-pos x y q)
+          (omega (arith, mul-le-mul-right (den y * num y) (simp (neg-parts a .0, neg-parts a .1, neg-parts a .2) at (le→frac (neg a) x (finite-neg a A) X (low a x s))))))
+          (div-order f x a y X A q (high a x s));
+    }
+
 -- |d| ≤ y and 0 < y: |d / y| ≤ 1
 pub size-div : (f : Format) (d y : Float) → T (positive y) → Size y d → Size plusOne (div f d y)
 size-div f d y q s =
-    let D = size-finite y d s in
-    record {
-      bound = tt;
-      between =
-          and-i (le (neg plusOne) (div f d y)) (le (div f d y) plusOne)
-          (order f (neg plusOne) (div f d y) 0 1 1 (plus d * den y) (less d * den y) (num y * den d) (near-neg f plusOne 1 0 1 (unit f)) (near-div f d y D q) (lit< tt) (mul-pos (positive-num y q) (den-pos d))
-          (under (plus d) (less d) (den d) (num y) (den y) (plus y) (less y) (positive-parts y q) (simp (neg-parts y .0, neg-parts y .1, neg-parts y .2) at (le→frac (neg y) d (finite-neg y (s .bound)) D (low y d s)))))
-          (order f (div f d y) plusOne (plus d * den y) (less d * den y) (num y * den d) 1 0 1 (near-div f d y D q) (unit f) (mul-pos (positive-num y q) (den-pos d)) (lit< tt)
-          (over (plus d) (less d) (den d) (num y) (den y) (plus y) (less y) (positive-parts y q) (le→frac d y D (s .bound) (high y d s))));
-    }
-  where
-    unit : (f : Format) → Near f plusOne 1 0 1
-    unit Format.binary32 = near-self Format.binary32 plusOne (unfold fits in tt) tt
-    unit Format.binary64 = near-self Format.binary64 plusOne (unfold fits in tt) tt
-
-    -- y is positive: `plus y` is its numerator, and `less y` is 0
-    positive-parts : (y : Float) → T (positive y) → (plus y ≡ num y) × (less y ≡ 0)
-    positive-parts nan q = absurd q
-    positive-parts (inf s) q = absurd q
-    positive-parts (fin true m e) q = absurd q
-    positive-parts (fin false m e) q = (refl, refl)
-
-    under : (p n c u v a b : ℕ) → (a ≡ u) × (b ≡ 0) → b * c + n * v ≤ p * v + a * c → 0 * (u * c) + n * v * 1 ≤ p * v * 1 + 1 * (u * c)
-    under p n c u v a b e h = omega (arith, rw (e .0, e .1) at h)
-
-    over : (p n c u v a b : ℕ) → (a ≡ u) × (b ≡ 0) → p * v + b * c ≤ a * c + n * v → p * v * 1 + 0 * (u * c) ≤ 1 * (u * c) + n * v * 1
-    over p n c u v a b e h = omega (arith, rw (e .0, e .1) at h)
+    let own = div f y y in
+    let r = div-in f y y (positive-nonneg y q) q (fle-refl y (s .bound)) in
+    let l : T (le own plusOne) = and-r (le plusZero own) (le own plusOne) r in
+    size-widen own plusOne (div f d y) tt l (size-over f y d y q s (between-finite plusZero own plusOne tt tt (and-l (le plusZero own) (le own plusOne) r) l))
 
 -- 0 ≤ x: |x| ≤ x
 pub size-own : (x : Float) → T (nonneg x) → Size x x

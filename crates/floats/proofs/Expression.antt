@@ -3,10 +3,10 @@
 -- Assumes nothing.
 use mathlib.Core.Bool.{Bool, _&&_}
 use lib.Dec.{T}
-use lib.Ieee.{Float, Format, add, sub, mul}
+use lib.Ieee.{Float, Format, add, sub, mul, le}
 use lib.Ieee.Fits.{and-l, and-r}
 use lib.Ieee.Scale.{finite}
-use Rattle.floats.proofs.Bounded.{Size, size-add, size-sub, size-mul}
+use Rattle.floats.proofs.Bounded.{Size, size-add, size-sub, size-mul, size-widen}
 
 infixl 60 _⊹_ _⊸_
 infixl 70 _⊛_
@@ -55,3 +55,9 @@ module _ (f : Format) where
   size (d ⊛ e) s h =
       let r = and-r (bounded d) (bounded e && finite (mul f (most d) (most e))) h in
       size-mul f (most d) (value d) (most e) (value e) (size d (s .0) (and-l (bounded d) (bounded e && finite (mul f (most d) (most e))) h)) (size e (s .1) (and-l (bounded e) (finite (mul f (most d) (most e))) r)) (and-r (bounded e) (finite (mul f (most d) (most e))) r)
+
+  -- the same for a bound b that `most` does not exceed: |value| ≤ b
+  pub size-below : (e : Expr) (b : Float) → Sized e → T (bounded e && (finite b && le (most e) b)) → Size b (value e)
+  size-below e b s h =
+      let r = and-r (bounded e) (finite b && le (most e) b) h in
+      size-widen (most e) b (value e) (and-l (finite b) (le (most e) b) r) (and-r (finite b) (le (most e) b) r) (size e s (and-l (bounded e) (finite b && le (most e) b) h))

@@ -52,6 +52,8 @@ pub mod Greatest
 pub mod Fraction
 -- a number is written in one way, and x * 1 is x
 pub mod OneWay
+-- the two zeros
+pub mod Zeros
 -- the remainder of x by y without a division
 pub mod Units
 -- a table's rule at each element, from one computed test

@@ -1,7 +1,8 @@
 -- What render, re-render and continuing call are refused for first.
 -- 01, "What a call says": "Order: 6, 7, the old or only score, the new score (same numbers plus 16), then 8 or 10"; "6
 -- | rate, waveform's duty or an ADSR setting outside the domain"; "7 | N above 16,777,216, or shelf not 12 words per
--- entry"; "A continuing call that would pass 16,777,216 is 7".
+-- entry"; "A continuing call that would pass 16,777,216 is 7". 02, R-7: "6 covers the new settings, 7 asks for 13 words
+-- an entry".
 -- The first of a call's refusals decides its outcome (`firstOf` of `answers`). Definitions only.
 use mathlib.Core.Path.{_≡_}
 use mathlib.Core.Bool.{Bool, true, _&&_}
@@ -38,7 +39,7 @@ newRefusalsOf s = map NewScore (faultsOf s)
 abbrev pub mostSamples : ℕ
 mostSamples = 16777216
 
--- n samples are not too many, and the shelf's words are twelve for each entry of n samples
+-- n samples are not too many, and the shelf's words are thirteen for each entry of n samples
 abbrev pub sizesFit : ℕ → ℕ → Bool
 sizesFit n words = leb n mostSamples && eqb words (wordsFor n)
 

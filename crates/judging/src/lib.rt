@@ -38,7 +38,7 @@ pub fn judged_new(new: &[u8]) -> Answer
     }
 }
 
-// Whether samples <= 16,777,216 and the shelf has twelve words for each entry of so many samples.
+// Whether samples <= 16,777,216 and the shelf has thirteen words for each entry of so many samples.
 pub fn sizes_fit(samples: usize, words: usize) -> bool
     ensures { λ r. ⌜ r ≡ sizesFit samples words ⌝ }
 {

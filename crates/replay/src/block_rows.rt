@@ -28,8 +28,8 @@ pub fn compared(row: &[u8]) -> Finding {
 // The depth scales the allowed difference of every sample: step 0.
 fn judged(row: &[u8], out: &mut [f64]) -> Finding {
     let told = is_called(row, out);
-    let shape = words::u64_at(row, 8);
-    let found = fields::compared(row, shape, words::u64_at(row, 64), ROW, 40, 0, out);
+    let has_sine = words::u64_at(row, 8) == 0;
+    let found = fields::compared(row, has_sine, words::u64_at(row, 64), ROW, 40, 0, out);
     Finding {
         equal: told & found.equal & (out.len() as u64 == words::u64_at(row, MORE)),
         farthest: found.farthest,

@@ -116,14 +116,14 @@ pub fn are_slots(row: &[u8], first: usize, slots: &[f64; 8]) -> bool {
 // byte `scales`, each next one `step` bytes further on.
 pub fn compared(
     row: &[u8],
-    shape: u64,
+    has_sine: bool,
     answer: u64,
     first: usize,
     scales: usize,
     step: usize,
     samples: &[f64],
 ) -> Finding {
-    if (shape == 0) & (answer % 256 == 0) {
+    if has_sine & (answer % 256 == 0) {
         return measured(row, first, scales, step, samples);
     }
     Finding {

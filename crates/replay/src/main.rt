@@ -24,7 +24,7 @@ mod waveform_rows;
 const HEAD: usize = 16;
 
 // The most words that follow the first bytes of a row.
-const MOST: u64 = 25170;
+const MOST: u64 = 25174;
 
 // The names as words, low byte first.
 const PHASE: u64 = 0x65_7361_6870;
@@ -46,7 +46,7 @@ const BLOCKS: u64 = 0x736b_636f_6c62;
 const RENDER: u64 = 0x7265_646e_6572;
 
 fn main() {
-    let mut row = [0u8; 201664];
+    let mut row = [0u8; 201744];
     replay(&mut row);
 }
 

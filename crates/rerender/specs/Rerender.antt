@@ -41,7 +41,7 @@ abbrev pub planOf : List ℕ → List ℕ → ℕ → Plan
 planOf old new n = planFor (differenceOf old new) n
 
 -- ---- from an entry
--- the twelve words of entry m, and the state that they are read as
+-- the thirteen words of entry m, and the state that they are read as
 abbrev pub entryAt : List ℕ → ℕ → List ℕ
 entryAt shelf m = take entryWords (drop (m * entryWords) shelf)
 

@@ -11,7 +11,7 @@ use borrow.Author.Tests.{eq-eqb, ne-eqb}
 use borrow.Rule.Slice.PartMut.{putMid, midOf, mid-len, same-len-mid}
 use Rattle.runs.specs.Runs.{run, listed}
 use Rattle.shelf.specs.Shelf.{sectionSize, entryWords, entriesFor, wordsFor, entryOf, storedIn, shelfOf}
-use Rattle.shelf.proofs.There.{entry-length, kept-twelve}
+use Rattle.shelf.proofs.There.{entry-length, kept-thirteen}
 use Rattle.shelf.proofs.Whole.{shelf-more}
 use Rattle.state.specs.declared.Settings.{Settings}
 use Rattle.spans.specs.declared.Place.{Place}
@@ -75,7 +75,7 @@ module _ (g : Settings) (s : List ℕ) (m : ℕ) (p : Place) (out₀ : List Floa
       kept : zs ≡ entryOf (at .state)
       kept =
           let d : k * entryWords + entryWords - k * entryWords ≡ entryWords = omega arith in
-          put ∙ kept-twelve (midOf (k * entryWords) (k * entryWords + entryWords - k * entryWords) shelf) (at .state) (mid-len (k * entryWords) (k * entryWords + entryWords) shelf room ∙ d)
+          put ∙ kept-thirteen (midOf (k * entryWords) (k * entryWords + entryWords - k * entryWords) shelf) (at .state) (mid-len (k * entryWords) (k * entryWords + entryWords) shelf room ∙ d)
 
       many : length (midOf start (e - start) out) ≡ e - start
       many = mid-len start e out (z .within)

@@ -15,7 +15,7 @@ use lib.Ieee.Bits.{is-true, ofBits-fits, toBits-ofBits}
 use Rattle.voice.specs.declared.keys.ActiveNote.the-variants.{Silent, Note}
 use Rattle.state.specs.Limits.{isState}
 use Rattle.shelf.specs.Shelf.{entryWords, bits, stageWord, activeByte, gateBit, packedWord, fourPairs, entryOf, word, stageOf, activeOf, keysIn, stateOf, isEntry}
-use Rattle.shelf.proofs.Digits.{beyond, packed-again, eight-again, twelve}
+use Rattle.shelf.proofs.Digits.{beyond, packed-again, eight-again, thirteen}
 use Rattle.shelf.proofs.Parts.{all-numbers}
 use Rattle.shelf.proofs.There.{Fitting}
 
@@ -51,6 +51,7 @@ read-fits ws =
       velocity-fits = ofBits-fits binary64 (word ws 7);
       notes-long = refl;
       velocities-long = refl;
+      lfo-fits = ofBits-fits binary64 (word ws 12);
     }
 
 -- ---- word by word
@@ -120,4 +121,5 @@ decode-encode ws l h =
       second-same p a b c d (l 9),
       third-same p a b c d (l 10),
       last-same p a b c d (l 11),
-    ) (twelve ws (entry-is-long ws h))
+      float-same (word ws 12) (l 12) (n .lfo-number),
+    ) (thirteen ws (entry-is-long ws h))

@@ -98,7 +98,7 @@ eight-again w h =
         → eight a b c d e f g q7 ≡ w
     sums w a b c d e f g q1 q2 q3 q4 q5 q6 q7 e0 e1 e2 e3 e4 e5 e6 = omega arith
 
--- ---- four elements of a list and those after them; all of 12, and of 16
+-- ---- four elements of a list and those after them; all of 13, and of 16
 four : (l : List ℕ) (j : ℕ) → j + 4 ≤ length l → drop j l ≡ getD l j 0 ∷ getD l (j + 1) 0 ∷ getD l (j + 2) 0 ∷ getD l (j + 3) 0 ∷ drop (j + 4) l
 four l j h =
     let e1 : suc j ≡ j + 1 = omega arith in
@@ -107,14 +107,15 @@ four l j h =
     let e4 : suc (j + 3) ≡ j + 4 = omega arith in
     rw (drop-cons l j 0 (omega arith), e1, drop-cons l (j + 1) 0 (omega arith), e2, drop-cons l (j + 2) 0 (omega arith), e3, drop-cons l (j + 3) 0 (omega arith), e4)
 
-pub twelve : (l : List ℕ) → length l ≡ 12
-    → getD l 0 0 ∷ getD l 1 0 ∷ getD l 2 0 ∷ getD l 3 0 ∷ getD l 4 0 ∷ getD l 5 0 ∷ getD l 6 0 ∷ getD l 7 0 ∷ getD l 8 0 ∷ getD l 9 0 ∷ getD l 10 0 ∷ getD l 11 0 ∷ [] ≡ l
-twelve l h =
+pub thirteen : (l : List ℕ) → length l ≡ 13
+    → getD l 0 0 ∷ getD l 1 0 ∷ getD l 2 0 ∷ getD l 3 0 ∷ getD l 4 0 ∷ getD l 5 0 ∷ getD l 6 0 ∷ getD l 7 0 ∷ getD l 8 0 ∷ getD l 9 0 ∷ getD l 10 0 ∷ getD l 11 0 ∷ getD l 12 0 ∷ [] ≡ l
+thirteen l h =
     sym
     (four l 0 (omega arith)
     ∙ ap (λ (x : List ℕ). getD l 0 0 ∷ getD l 1 0 ∷ getD l 2 0 ∷ getD l 3 0 ∷ x) (four l 4 (omega arith)
     ∙ ap (λ (x : List ℕ). getD l 4 0 ∷ getD l 5 0 ∷ getD l 6 0 ∷ getD l 7 0 ∷ x) (four l 8 (omega arith)
-    ∙ ap (λ (x : List ℕ). getD l 8 0 ∷ getD l 9 0 ∷ getD l 10 0 ∷ getD l 11 0 ∷ x) (drop-of-length-le l {i = 12} (omega arith)))))
+    ∙ ap (λ (x : List ℕ). getD l 8 0 ∷ getD l 9 0 ∷ getD l 10 0 ∷ getD l 11 0 ∷ x) (drop-cons l 12 0 (omega arith)
+    ∙ ap (λ (x : List ℕ). getD l 12 0 ∷ x) (drop-of-length-le l {i = 13} (omega arith))))))
 
 pub sixteen : (l : List ℕ) → length l ≡ 16
     → getD l 0 0 ∷ getD l 1 0 ∷ getD l 2 0 ∷ getD l 3 0 ∷ getD l 4 0 ∷ getD l 5 0 ∷ getD l 6 0 ∷ getD l 7 0

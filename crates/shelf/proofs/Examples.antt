@@ -20,13 +20,13 @@ use Rattle.shelf.specs.Shelf.{packedWord, fourPairs, entryOf, stateOf, i
 
 -- the fresh state
 abbrev rest : List ℕ
-rest = 0 ∷ 0 ∷ 0 ∷ 0 ∷ 0 ∷ 255 ∷ 0x407b_8000_0000_0000 ∷ 0 ∷ 0 ∷ 0 ∷ 0 ∷ 0 ∷ []
+rest = 0 ∷ 0 ∷ 0 ∷ 0 ∷ 0 ∷ 255 ∷ 0x407b_8000_0000_0000 ∷ 0 ∷ 0 ∷ 0 ∷ 0 ∷ 0 ∷ 0 ∷ []
 
 pub fresh-words : entryOf (freshOf 0) ≡ rest
 unfolding entryOf packedWord fourPairs ofBits toBits
 fresh-words = refl
 
--- note 60 at velocity 100 and then 64 at 90, which sounds; 2 records acted
+-- note 60 at velocity 100 and then 64 at 90, which sounds; 2 records acted; the LFO's phase at 1
 abbrev playing : State
 playing =
     record {
@@ -36,6 +36,7 @@ playing =
       velocity = one;
       keys = keysOf (Note 64) true (record { note = 60; velocity = 100 } ∷ record { note = 64; velocity = 90 } ∷ []);
       acted = 2;
+      lfo = radians one;
     }
 
 abbrev played : List ℕ
@@ -52,21 +53,28 @@ played =
     ∷ 0
     ∷ 0
     ∷ 0
+    ∷ 0x3ff0_0000_0000_0000
     ∷ []
 
 pub played-words : entryOf playing ≡ played
 unfolding entryOf packedWord fourPairs ofBits toBits
 played-words = refl
 
--- accepted: a phase of -0, the highest frequency, 440.1 Hz (no f32), and the largest number of records acted
-pub taken : map isEntry (rest ∷ played ∷ set rest 0 0x8000_0000_0000_0000 ∷ set rest 6 0x40c8_8000_0000_0000 ∷ set rest 6 0x407b_8199_9999_999a ∷ set rest 5 0xffff_ffff_ffff_00ff ∷ []) ≡ true ∷ true ∷ true ∷ true ∷ true ∷ true ∷ []
+-- accepted: a phase of -0, the highest frequency, 440.1 Hz (no f32), the largest number of records acted, an LFO's
+-- phase of -0
+pub taken : map isEntry (rest ∷ played ∷ set rest 0 0x8000_0000_0000_0000 ∷ set rest 6 0x40c8_8000_0000_0000 ∷ set rest 6 0x407b_8199_9999_999a ∷ set rest 5 0xffff_ffff_ffff_00ff ∷ set rest 12 0x8000_0000_0000_0000 ∷ []) ≡ true ∷ true ∷ true ∷ true ∷ true ∷ true ∷ true ∷ []
 unfolding isEntry stateOf isState inLimits isEnvelope isKeys atMost ofBits lt eq le
 taken = refl
 
--- refused: eleven words, thirteen words, a phase of 1,000, a NaN's bits, a stage of 5, a frequency of -0
-pub not-taken : map isEntry (take 11 rest ∷ (rest ++ 0 ∷ []) ∷ set rest 0 0x408f_4000_0000_0000 ∷ set rest 0 0x7ff8_0000_0000_0000 ∷ set rest 1 5 ∷ set rest 6 0x8000_0000_0000_0000 ∷ []) ≡ false ∷ false ∷ false ∷ false ∷ false ∷ false ∷ []
+-- refused: twelve words, fourteen words, a phase of 1,000, a NaN's bits, a stage of 5, a frequency of -0
+pub not-taken : map isEntry (take 12 rest ∷ (rest ++ 0 ∷ []) ∷ set rest 0 0x408f_4000_0000_0000 ∷ set rest 0 0x7ff8_0000_0000_0000 ∷ set rest 1 5 ∷ set rest 6 0x8000_0000_0000_0000 ∷ []) ≡ false ∷ false ∷ false ∷ false ∷ false ∷ false ∷ []
 unfolding isEntry stateOf isState inLimits isEnvelope isKeys atMost ofBits lt eq le
 not-taken = refl
+
+-- refused: an LFO's phase of 1,000, of -1, and a NaN's bits
+pub not-swaying : map isEntry (set rest 12 0x408f_4000_0000_0000 ∷ set rest 12 0xbff0_0000_0000_0000 ∷ set rest 12 0x7ff8_0000_0000_0000 ∷ []) ≡ false ∷ false ∷ false ∷ []
+unfolding isEntry stateOf isState inLimits isEnvelope isKeys atMost ofBits lt eq le
+not-swaying = refl
 
 -- refused: note 128 with the gate down and up, a note with the gate down, none with the gate up, 17 held, an unused
 -- pair that is not 0, a held note of 128
@@ -75,7 +83,8 @@ unfolding isEntry stateOf isState inLimits isEnvelope isKeys atMost ofBits lt eq
 not-keys = refl
 
 -- every limit reached: the largest phase below 1,000, level and velocity 1, a time of 11 and a release level of a half,
--- 12,544 Hz, sixteen keys held, 4,096 records acted. No two words are the same, so that exchanged words would show
+-- 12,544 Hz, sixteen keys held, 4,096 records acted, an LFO's phase one float below. No two words are the same, so that
+-- exchanged words would show
 abbrev full : State
 full =
     record {
@@ -85,22 +94,23 @@ full =
       velocity = ofBits binary64 0x3fef_ffff_ffff_ffff;
       keys = keysOf (Note 127) true (record { note = 112; velocity = 127 } ∷ record { note = 113; velocity = 126 } ∷ record { note = 114; velocity = 125 } ∷ record { note = 115; velocity = 124 } ∷ record { note = 116; velocity = 123 } ∷ record { note = 117; velocity = 122 } ∷ record { note = 118; velocity = 121 } ∷ record { note = 119; velocity = 120 } ∷ record { note = 120; velocity = 119 } ∷ record { note = 121; velocity = 118 } ∷ record { note = 122; velocity = 117 } ∷ record { note = 123; velocity = 116 } ∷ record { note = 124; velocity = 115 } ∷ record { note = 125; velocity = 114 } ∷ record { note = 126; velocity = 113 } ∷ record { note = 127; velocity = 112 } ∷ []);
       acted = 4096;
+      lfo = radians (ofBits binary64 0x408f_3fff_ffff_fffe);
     }
 
 abbrev filled : List ℕ
-filled = 0x408f_3fff_ffff_ffff ∷ 4 ∷ 0x3ff0_0000_0000_0000 ∷ 0x4026_0000_0000_0000 ∷ 0x3fe0_0000_0000_0000 ∷ 0x1000_217f ∷ 0x40c8_8000_0000_0000 ∷ 0x3fef_ffff_ffff_ffff ∷ 0x7c73_7d72_7e71_7f70 ∷ 0x7877_7976_7a75_7b74 ∷ 0x747b_757a_7679_7778 ∷ 0x707f_717e_727d_737c ∷ []
+filled = 0x408f_3fff_ffff_ffff ∷ 4 ∷ 0x3ff0_0000_0000_0000 ∷ 0x4026_0000_0000_0000 ∷ 0x3fe0_0000_0000_0000 ∷ 0x1000_217f ∷ 0x40c8_8000_0000_0000 ∷ 0x3fef_ffff_ffff_ffff ∷ 0x7c73_7d72_7e71_7f70 ∷ 0x7877_7976_7a75_7b74 ∷ 0x747b_757a_7679_7778 ∷ 0x707f_717e_727d_737c ∷ 0x408f_3fff_ffff_fffe ∷ []
 
 pub filled-words : entryOf full ≡ filled
 unfolding entryOf packedWord fourPairs ofBits toBits
 filled-words = refl
 
--- accepted: that state, also with a velocity of 1 and with a release level of 1
-pub at-limits : map isEntry (filled ∷ set filled 7 0x3ff0_0000_0000_0000 ∷ set filled 4 0x3ff0_0000_0000_0000 ∷ []) ≡ true ∷ true ∷ true ∷ []
+-- accepted: that state, also with a velocity of 1, with a release level of 1 and with the largest LFO's phase
+pub at-limits : map isEntry (filled ∷ set filled 7 0x3ff0_0000_0000_0000 ∷ set filled 4 0x3ff0_0000_0000_0000 ∷ set filled 12 0x408f_3fff_ffff_ffff ∷ []) ≡ true ∷ true ∷ true ∷ true ∷ []
 unfolding isEntry stateOf isState inLimits isEnvelope isKeys atMost ofBits lt eq le
 at-limits = refl
 
--- refused: the next float above the limit of the phase, the level, the time, the release level, the frequency and the
--- velocity
-pub past-limits : map isEntry (set filled 0 0x408f_4000_0000_0000 ∷ set filled 2 0x3ff0_0000_0000_0001 ∷ set filled 3 0x4026_0000_0000_0001 ∷ set filled 4 0x3ff0_0000_0000_0001 ∷ set filled 6 0x40c8_8000_0000_0001 ∷ set filled 7 0x3ff0_0000_0000_0001 ∷ []) ≡ false ∷ false ∷ false ∷ false ∷ false ∷ false ∷ []
+-- refused: the next float above the limit of the phase, the level, the time, the release level, the frequency, the
+-- velocity and the LFO's phase
+pub past-limits : map isEntry (set filled 0 0x408f_4000_0000_0000 ∷ set filled 2 0x3ff0_0000_0000_0001 ∷ set filled 3 0x4026_0000_0000_0001 ∷ set filled 4 0x3ff0_0000_0000_0001 ∷ set filled 6 0x40c8_8000_0000_0001 ∷ set filled 7 0x3ff0_0000_0000_0001 ∷ set filled 12 0x408f_4000_0000_0000 ∷ []) ≡ false ∷ false ∷ false ∷ false ∷ false ∷ false ∷ false ∷ []
 unfolding isEntry stateOf isState inLimits isEnvelope isKeys atMost ofBits lt eq le
 past-limits = refl

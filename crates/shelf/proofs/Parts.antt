@@ -23,6 +23,7 @@ pub record Numbers (v : State) : Type 0 where
   pub release-number : T (not (isNan (v .envelope .«release_level»)))
   pub frequency-number : T (not (isNan (v .frequency)))
   pub velocity-number : T (not (isNan (v .velocity)))
+  pub lfo-number : T (not (isNan (v .lfo .0)))
 
 pub all-numbers : (v : State) → isState v ≡ true → Numbers v
 all-numbers v h =
@@ -34,6 +35,7 @@ all-numbers v h =
       release-number = no-nan (v .envelope .«release_level») (f .envelope-finite .release-finite);
       frequency-number = no-nan (v .frequency) (f .frequency-finite);
       velocity-number = no-nan (v .velocity) (f .velocity-finite);
+      lfo-number = no-nan (v .lfo .0) (f .lfo-finite);
     }
 
 -- ---- the keys

@@ -1,6 +1,7 @@
 -- The test of an entry is 01's sentence, word by word: "An entry is a state if phase is at least 0 and below 1,000,
 -- stage_time 0 to 11, levels and velocity 0 to 1, frequency above 0 and at most 12,544, active note 0 to 127 or 255,
--- gate 1 exactly when it is not 255, held count at most 16, pairs in range, and the rest of these words zero."
+-- gate 1 exactly when it is not 255, held count at most 16, pairs in range, and the rest of these words zero." 02, R-7,
+-- adds the LFO's phase, "a thirteenth word in each shelf entry, under the limits of the first".
 -- Assumes that the packed word is below 2^64, as every u64 is, and nothing else.
 use mathlib.Core.Path.{_≡_, refl}
 use mathlib.Core.Bool.{Bool, true, false, cond, _&&_}
@@ -36,7 +37,7 @@ pub record Sounding (b g : ℕ) : Type 0 where
   pub gate-down : b ≡ 255 → g ≡ 0
 
 pub record Sentence (ws : List ℕ) : Type 0 where
-  pub twelve-words : length ws ≡ entryWords
+  pub thirteen-words : length ws ≡ entryWords
   pub phase-in : T (isRadians (float ws 0))
   pub stage-in : word ws 1 ≤ 4
   pub level-in : T (within zero64 one (float ws 2))
@@ -48,6 +49,7 @@ pub record Sentence (ws : List ℕ) : Type 0 where
   pub velocity-in : T (within zero64 one (float ws 7))
   pub notes-in : T (isFilled (word ws 5 / 512 % 128) (notesOf (word ws 8) (word ws 9) (word ws 10) (word ws 11)))
   pub velocities-in : T (isFilled (word ws 5 / 512 % 128) (velocitiesOf (word ws 8) (word ws 9) (word ws 10) (word ws 11)))
+  pub lfo-in : T (isRadians (float ws 12))
 
 -- ---- the note and the gate
 two : (g : ℕ) → g < 2 → (g ≡ 1 → ⊥) → g ≡ 0
@@ -83,7 +85,7 @@ entry-says ws h =
     let i = is-inside (stateOf ws .envelope) (w .envelope-in) in
     let k = stateOf ws .keys in
     record {
-      twelve-words = entry-is-long ws h;
+      thirteen-words = entry-is-long ws h;
       phase-in = w .phase-in;
       stage-in = entry-has-stage ws h;
       level-in = i .level-in;
@@ -95,6 +97,7 @@ entry-says ws h =
       velocity-in = w .velocity-in;
       notes-in = keys-notes k (w .keys-in);
       velocities-in = keys-velocities k (w .keys-in);
+      lfo-in = w .lfo-in;
     }
 
 pub says-entry : (ws : List ℕ) → word ws 5 < beyond → Sentence ws → isEntry ws ≡ true
@@ -111,8 +114,9 @@ says-entry ws l s =
       pitch-in = s .frequency-in;
       velocity-in = s .velocity-in;
       keys-in = keys;
+      lfo-in = s .lfo-in;
     }) in
     let state = from-true (isState (stateOf ws)) (in-state (stateOf ws) limits (omega arith)) in
     is-true (isEntry ws)
     (and-i (eqb (length ws) entryWords && leb (word ws 1) 4) (isState (stateOf ws))
-    (and-i (eqb (length ws) entryWords) (leb (word ws 1) 4) (rw (s .twelve-words) tt) (le→leb (word ws 1) 4 (s .stage-in))) state)
+    (and-i (eqb (length ws) entryWords) (leb (word ws 1) 4) (rw (s .thirteen-words) tt) (le→leb (word ws 1) 4 (s .stage-in))) state)

@@ -34,6 +34,7 @@ pub record Fitting (v : State) : Type 0 where
   pub velocity-fits : T (fits binary64 (v .velocity))
   pub notes-long : length (v .keys .notes) ≡ 16
   pub velocities-long : length (v .keys .velocities) ≡ 16
+  pub lfo-fits : T (fits binary64 (v .lfo .0))
 
 -- ---- the stage, the note and the gate
 stage-back : (s : EnvelopeStage) → stageOf (stageWord s) ≡ s
@@ -140,16 +141,17 @@ state-back v f i =
       ofBits-toBits binary64 (v .velocity) (f .velocity-fits),
       keys-back (v .keys) (w .keys-in) (v .acted) h (f .notes-long) (f .velocities-long),
       acted-again (v .keys) (w .keys-in) (v .acted) h,
+      ofBits-toBits binary64 (v .lfo .0) (f .lfo-fits),
     ) refl
 
--- every state has twelve words
+-- every state has thirteen words
 pub entry-length : (v : State) → length (entryOf v) ≡ entryWords
 unfolding entryOf
 entry-length v = refl
 
--- twelve words become those of the state that is kept in them
-pub kept-twelve : (ws : List ℕ) (v : State) → length ws ≡ entryWords → storedIn ws v ≡ entryOf v
-kept-twelve ws v e = rw (eq-eqb (length ws) entryWords e) refl
+-- thirteen words become those of the state that is kept in them
+pub kept-thirteen : (ws : List ℕ) (v : State) → length ws ≡ entryWords → storedIn ws v ≡ entryOf v
+kept-thirteen ws v e = rw (eq-eqb (length ws) entryWords e) refl
 
 entry-stage : (v : State) → leb (getD (entryOf v) 1 0) 4 ≡ true
 unfolding entryOf

@@ -4,11 +4,11 @@
 -- bits; velocity bits, both as f64 read as they stand; four words of 16 pairs (note, velocity), oldest first, low byte
 -- first, unused pairs 0. An entry is a state if phase is at least 0 and below 1,000, stage_time 0 to 11, levels and
 -- velocity 0 to 1, frequency above 0 and at most 12,544, active note 0 to 127 or 255, gate 1 exactly when it is not
--- 255, held count at most 16, pairs in range, and the rest of these words zero." Number 7: "shelf not 12 words per
--- entry".
--- Here twelve words are read as a state, and the state is tested by `isState`. proofs/Sentence.antt says the test word
--- by word, as 01 does, and proves that it is the same; `decode-encode` of proofs/Back.antt proves that no bit of an
--- entry is ignored. Definitions only.
+-- 255, held count at most 16, pairs in range, and the rest of these words zero." 02, R-7: the LFO's phase is "kept as a
+-- thirteenth word in each shelf entry, under the limits of the first"; "7 asks for 13 words an entry".
+-- Here thirteen words are read as a state, and the state is tested by `isState`. proofs/Sentence.antt says the test
+-- word by word, as 01 and 02 do, and proves that it is the same; `decode-encode` of proofs/Back.antt proves that no bit
+-- of an entry is ignored. Definitions only.
 use mathlib.Core.Bool.{Bool, true, false, cond, _&&_}
 use mathlib.Core.List.{List, [], _∷_, _++_}
 use Prim.Native.Nat.{ℕ, _+_, _-_, _*_, _/_, _%_}
@@ -29,7 +29,7 @@ use Rattle.shelf.specs.declared.Entry.{Entry}
 -- ---- sizes
 -- the words of an entry
 abbrev pub entryWords : ℕ
-entryWords = 12
+entryWords = 13
 
 -- the samples of a section, from one entry to the next
 abbrev pub sectionSize : ℕ
@@ -79,7 +79,7 @@ pairAt keys i = getD (keys .notes) i 0 + 256 * getD (keys .velocities) i 0
 unfoldable pub fourPairs : Keys → ℕ → ℕ
 fourPairs keys i = pairAt keys i + 65536 * (pairAt keys (i + 1) + 65536 * (pairAt keys (i + 2) + 65536 * pairAt keys (i + 3)))
 
--- the twelve words
+-- the thirteen words
 unfoldable pub entryOf : State → List ℕ
 entryOf v =
     bits (v .phase .0)
@@ -94,9 +94,10 @@ entryOf v =
     ∷ fourPairs (v .keys) 4
     ∷ fourPairs (v .keys) 8
     ∷ fourPairs (v .keys) 12
+    ∷ bits (v .lfo .0)
     ∷ []
 
--- the words after a state is kept in ws: the state's if ws are twelve, else ws
+-- the words after a state is kept in ws: the state's if ws are thirteen, else ws
 abbrev pub storedIn : List ℕ → State → List ℕ
 storedIn ws v = cond (eqb (length ws) entryWords) (entryOf v) ws
 
@@ -151,9 +152,10 @@ stateOf ws =
       velocity = float ws 7;
       keys = keysIn (word ws 5) (word ws 8) (word ws 9) (word ws 10) (word ws 11);
       acted = word ws 5 / 65536;
+      lfo = radians (float ws 12);
     }
 
--- twelve words, a stage up to 4, and a state within the limits. An active byte from 128 to 254 reads as a note, and a
+-- thirteen words, a stage up to 4, and a state within the limits. An active byte from 128 to 254 reads as a note, and a
 -- NaN's bits as a NaN: both are outside the limits
 unfoldable pub isEntry : List ℕ → Bool
 isEntry ws = eqb (length ws) entryWords && leb (word ws 1) 4 && isState (stateOf ws)

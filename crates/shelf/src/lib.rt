@@ -1,6 +1,6 @@
-// An entry of the shelf (01, "The shelf"): the state before a section's first sample, as twelve words, and back. Every
-// state can be written and any words can be read; a test of its own says which words are an entry. The crates above
-// decide when an entry is kept and who starts from it.
+// An entry of the shelf (01, "The shelf"): the state before a section's first sample, as thirteen words, and back.
+// Every state can be written and any words can be read; a test of its own says which words are an entry. The crates
+// above decide when an entry is kept and who starts from it.
 ghost use mathlib.Core.Path.{_≡_};
 ghost use Prim.Native.Nat.{_<_, _≤_};
 ghost use Rattle.shelf.specs.Shelf.{entriesFor, wordsFor, stageWord, activeByte, gateBit, packedWord, pairAt, fourPairs, entryOf, storedIn, word, float, stageOf, activeOf, notesOf, velocitiesOf, keysIn, envelopeIn, stateOf, decodedOf};
@@ -12,7 +12,7 @@ use voice::keys::Keys;
 use waveform::Radians;
 
 // The words of an entry.
-pub const ENTRY_WORDS: usize = 12;
+pub const ENTRY_WORDS: usize = 13;
 
 // The samples of a section, from one entry to the next.
 pub const SECTION_SIZE: usize = 4096;
@@ -60,10 +60,11 @@ pub fn encode(state: State) -> [u64; ENTRY_WORDS]
         four_pairs(keys, 4),
         four_pairs(keys, 8),
         four_pairs(keys, 12),
+        words::f64_bits(state.lfo.0),
     ]
 }
 
-// Writes a state's words over the words of an entry; nothing, if there are not twelve.
+// Writes a state's words over the words of an entry; nothing, if there are not thirteen.
 pub fn store(words: &mut [u64], state: State)
     ensures { λ _. ⌜ now (words .exit) ≡ storedIn (now (words .entry)) state ⌝ }
 {
@@ -168,6 +169,7 @@ fn state_of(words: &[u64]) -> State
             word(words, 11),
         ),
         acted: packed / 65536,
+        lfo: Radians(float(words, 12)),
     }
 }
 

@@ -3,7 +3,9 @@
 pub mod Offsets
 -- the records at a sample act, one after the other
 pub mod Acting
--- a span: the waveform's inner loop and then the envelope's make its samples
+-- the tremolo over a span: the LFO's values and their products, or nothing at depth 0
+pub mod Swaying
+-- a span: the waveform's inner loop, then the envelope's, then the tremolo make its samples
 pub mod Sounding
 -- a turn of the loop over the spans, and how far the loop has come
 pub mod Turns

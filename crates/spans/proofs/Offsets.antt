@@ -44,14 +44,14 @@ begins-so s n w v m = rw (v m) refl
 
 -- ---- the end of a span
 pub block-to-end : (n a k : ℕ) → a < k → k - a < 64 - (n + a) % 64 → FirstAfter (isBlockStart n) a k k
-block-to-end n a k h l = record { after = h; within = omega arith; ends = λ x. eq-eqb ((n + k) % 64) 0 (omega arith); apart = λ m x y. ne-eqb ((n + m) % 64) 0 (λ e. omega arith) }
+block-to-end n a k h l = record { after = h; within = omega arith; near = omega arith; ends = λ x. eq-eqb ((n + k) % 64) 0 (omega arith); apart = λ m x y. ne-eqb ((n + m) % 64) 0 (λ e. omega arith) }
 
 pub block-to-next : (n a k t : ℕ) → t ≡ (n + a) % 64 → 64 - t ≤ k - a → FirstAfter (isBlockStart n) a k (a + (64 - t))
-block-to-next n a k t q l = record { after = omega arith; within = omega arith; ends = λ x. eq-eqb ((n + (a + (64 - t))) % 64) 0 (omega arith); apart = λ m x y. ne-eqb ((n + m) % 64) 0 (λ e. omega arith) }
+block-to-next n a k t q l = record { after = omega arith; within = omega arith; near = omega arith; ends = λ x. eq-eqb ((n + (a + (64 - t))) % 64) 0 (omega arith); apart = λ m x y. ne-eqb ((n + m) % 64) 0 (λ e. omega arith) }
 
 -- equal tests have the same first offset
 pub first-so : (test other : ℕ → Bool) (a k r : ℕ) → ((m : ℕ) → test m ≡ other m) → FirstAfter test a k r → FirstAfter other a k r
-first-so test other a k r e f = record { after = f .after; within = f .within; ends = λ x. sym (e r) ∙ f .ends x; apart = λ m x y. sym (e m) ∙ f .apart m x y }
+first-so test other a k r e f = record { after = f .after; within = f .within; near = f .near; ends = λ x. sym (e r) ∙ f .ends x; apart = λ m x y. sym (e m) ∙ f .apart m x y }
 
 -- if the walker's next record comes before the end of the block, the span ends at the record, else with the block
 module _ (n a k e : ℕ) (w : Walker) (b : FirstAfter (isBlockStart n) a k e) where
@@ -64,6 +64,7 @@ module _ (n a k e : ℕ) (w : Walker) (b : FirstAfter (isBlockStart n) a k e) wh
       record {
         after = x;
         within = omega (arith, b .within);
+        near = omega (arith, b .near);
         ends = λ z. rw (v .0, eq-eqb (w .due) (w .due) refl) (or-true (isBlockStart n (w .due)));
         apart = λ m p q. rw (b .apart m p (omega arith), ne-eqb (w .due) m (λ z. omega arith)) (and-false (w .waits));
       }
@@ -73,6 +74,7 @@ module _ (n a k e : ℕ) (w : Walker) (b : FirstAfter (isBlockStart n) a k e) wh
       record {
         after = b .after;
         within = b .within;
+        near = b .near;
         ends = λ x. rw (b .ends x) refl;
         apart = λ m x y. rw (b .apart m x y) (go m x y (isDueIn w m) refl);
       }

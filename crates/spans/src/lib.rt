@@ -5,22 +5,21 @@
 // u64. The calls above do the judging.
 ghost use mathlib.Core.Path.{_≡_};
 ghost use mathlib.Core.Bool.{cond};
-ghost use Prim.Native.Nat.{_+_, _%_, _<_};
+ghost use Prim.Native.Nat.{_+_, _%_, _<_, _≤_};
+ghost use lib.ListN.{length};
 ghost use Rattle.state.specs.State.{reducedOf};
 ghost use Rattle.spans.specs.Walk.{begunFrom, Played};
-ghost use Rattle.spans.specs.Inner.{IsWaveTable, SpanPlayed, placeIn, isDueIn, isBlockStart, beginsIn, Sees, At, FirstAfter};
+ghost use Rattle.spans.specs.Inner.{IsWaveTable, SpanPlayed, Swayed, placeIn, isDueIn, isBlockStart, beginsIn, Sees, At, FirstAfter};
 use state::Settings;
 use state::State;
+use waveform::Radians;
 use waveform::Waveform;
 
 // The samples of a block: between two reductions where no record acts.
 const BLOCK: u64 = 64;
 
-// A sine part of this many samples or more is faster with the whole wave unfolded first.
+// A part of this many samples or more, with a sine to be read, is faster with the whole wave unfolded first.
 const LONG: usize = 1024;
-
-// The largest number of samples of a call of the library.
-const MOST_SAMPLES: usize = 16777216;
 
 // The state before a sample is begun, and the index of the first record that has not acted.
 pub struct Place {
@@ -37,8 +36,8 @@ struct Walker {
     due: usize,
 }
 
-// Plays the samples of a part that begins at a position, and returns the place after the last. For a long part of a
-// sine the whole wave is unfolded once; the samples are the same.
+// Plays the samples of a part that begins at a position, and returns the place after the last. For a long part in which
+// oscillator or LFO read a sine the whole wave is unfolded once; the samples are the same.
 pub fn play(
     settings: Settings,
     score: &[u8],
@@ -49,14 +48,17 @@ pub fn play(
     ensures { λ r. ⌜ Played settings (now (score .entry)) position place (now (part .entry)) (now (part .exit)) r ⌝ }
 {
     let waveform = settings.waveform;
-    if let Waveform::Sine = waveform {
-        if LONG <= part.len() {
+    let lfo = settings.lfo;
+    let lfo_waveform = lfo.waveform;
+    if LONG <= part.len() {
+        if let Waveform::Sine = waveform {
             return play_long(settings, score, place, position, part);
         }
-    }
-    // Never true in the library. A lone call of `play_long` would be inlined, with the 32 KB of its wave on the stack.
-    if MOST_SAMPLES < part.len() {
-        return play_long(settings, score, place, position, part);
+        if !floats::is_within(0.0, 0.0, lfo.depth) {
+            if let Waveform::Sine = lfo_waveform {
+                return play_long(settings, score, place, position, part);
+            }
+        }
     }
     play_short(settings, score, place, position, part)
 }
@@ -210,9 +212,11 @@ fn block_end(position: u64, offset: usize, length: usize) -> usize
     offset + left
 }
 
-// One span: the waveform's inner loop fills the part, then each value is multiplied by the level and the velocity.
+// One span: the waveform's inner loop fills the part, then each value is multiplied by the level and the velocity, and
+// last by the tremolo's factor.
 fn play_span(wave: &[f64], settings: Settings, state: State, part: &mut [f64]) -> State
     requires { ⌜ IsWaveTable (now wave) ⌝ }
+    requires { ⌜ length (now part) ≤ 64 ⌝ }
     ensures { λ r. ⌜ SpanPlayed settings state (now (part .entry)) (now (part .exit)) r ⌝ }
 {
     let waveform = settings.waveform;
@@ -227,8 +231,53 @@ fn play_span(wave: &[f64], settings: Settings, state: State, part: &mut [f64]) -
         state.velocity,
         part,
     );
+    let lfo = sway(wave, settings, state.lfo, part);
     let mut next = state;
     next.phase = phase;
     next.envelope = envelope;
+    next.lfo = lfo;
     next
+}
+
+// The tremolo over a span, and the LFO's phase after it. At depth 0 every factor is 1, and no value is made.
+fn sway(wave: &[f64], settings: Settings, phase: Radians, part: &mut [f64]) -> Radians
+    requires { ⌜ IsWaveTable (now wave) ⌝ }
+    requires { ⌜ length (now part) ≤ 64 ⌝ }
+    ensures { λ r. ⌜ Swayed settings (phase .0) (now (part .entry)) (now (part .exit)) r ⌝ }
+{
+    let lfo = settings.lfo;
+    let step = waveform::increment(lfo.frequency, settings.rate);
+    if tremolo::is_flat(lfo, step, phase) {
+        return tremolo::advance(phase, step, part.len());
+    }
+    let mut values = [0.0; 64];
+    sway_by(wave, settings, phase, &mut values, part)
+}
+
+// The LFO's values go into a list of their own, and each sample is multiplied by the factor of its value.
+fn sway_by(
+    wave: &[f64],
+    settings: Settings,
+    phase: Radians,
+    values: &mut [f64],
+    part: &mut [f64],
+) -> Radians
+    requires { ⌜ IsWaveTable (now wave) ⌝ }
+    requires { ⌜ length (now part) ≤ length (now values) ⌝ }
+    ensures { λ r. ⌜ Swayed settings (phase .0) (now (part .entry)) (now (part .exit)) r ⌝ }
+{
+    let lfo = settings.lfo;
+    let waveform = lfo.waveform;
+    let depth = lfo.depth;
+    let step = waveform::increment(lfo.frequency, settings.rate);
+    let end = filling::fill_in(
+        wave,
+        &mut values[0..part.len()],
+        waveform,
+        phase,
+        step,
+        depth,
+    );
+    tremolo::multiply(depth, &values[0..part.len()], part);
+    end
 }

@@ -1,8 +1,8 @@
 -- An event does what 01's calls do. Take a voice and an envelope block that have the fields of the state: if the
 -- voice's call and the envelope's are done, they leave the fields that the state has after the event.
--- The voice's `note_off` alone decides whether the envelope is released. An on and an off keep the phase, and a reset
--- sets it to 0.
--- On a state within its limits, whatever its phase, and with note and velocity up to 127 both calls are done; and a
+-- The voice's `note_off` alone decides whether the envelope is released. An on and an off keep both phases, and a
+-- reset sets them to 0.
+-- On a state within its limits, whatever its phases, and with note and velocity up to 127 both calls are done; and a
 -- fresh state has the fields of a new voice and a new block. Assumes nothing.
 use mathlib.Core.Path.{_≡_, refl, sym, ap, _∙_}
 use mathlib.Core.Bool.{Bool, true, false, cond, _&&_}
@@ -121,17 +121,17 @@ module _ (g : Settings) (v : State) (w : VoiceState) (b : EnvelopeBlock) (a : Al
       go keys (FellBack note velocity) = refl
       go keys NoChange = refl
 
--- the phase
-pub phase-then : (g : Settings) (v : State) (e : Event) → actOf g v e .phase ≡ phaseThen (v .phase) e
+-- the two phases
+pub phase-then : (g : Settings) (v : State) (e : Event) → (actOf g v e .phase ≡ phaseThen (v .phase) e) × (actOf g v e .lfo ≡ phaseThen (v .lfo) e)
 unfolding actOf
-phase-then g v (event.Strike note velocity) = refl
+phase-then g v (event.Strike note velocity) = (refl, refl)
 phase-then g v (event.Lift note) = go (liftedOf (v .keys) note .keys) (liftedOf (v .keys) note .off)
   where
-    go : (keys : Keys) (off : NoteOff) → afterNoteOff v keys off .phase ≡ v .phase
-    go keys Released = refl
-    go keys (FellBack note velocity) = refl
-    go keys NoChange = refl
-phase-then g v event.Reset = refl
+    go : (keys : Keys) (off : NoteOff) → (afterNoteOff v keys off .phase ≡ v .phase) × (afterNoteOff v keys off .lfo ≡ v .lfo)
+    go keys Released = (refl, refl)
+    go keys (FellBack note velocity) = (refl, refl)
+    go keys NoChange = (refl, refl)
+phase-then g v event.Reset = (refl, refl)
 
 -- a fresh state, a new voice and a new block
 pub fresh-alike : (acted : ℕ) (attack decay sustain release : Float) → Alike (freshOf acted) voice.newOf (envelope.newOf attack decay sustain release)

@@ -2,7 +2,7 @@
 -- its bits needs. The sustain setting is taken to be a value of an f64, as every f64 of a program is. Assumes nothing.
 use mathlib.Core.Bool.{cond}
 use mathlib.Core.List.{List}
-use Prim.Native.Nat.{ℕ}
+use Prim.Native.Nat.{ℕ, _+_}
 use lib.Dec.{T}
 use lib.Ieee.{Float, binary32, binary64, rem, lt, fits}
 use lib.Ieee.Fits.{cond-fits, add-fits, div-fits, rem-fits, fits-widens}
@@ -23,15 +23,16 @@ use Rattle.state.specs.declared.Settings.{Settings}
 use Rattle.state.specs.declared.State.{State}
 use Rattle.state.specs.declared.Event.{Event}
 use Rattle.state.specs.declared.Event.the-variants as event
-use Rattle.state.specs.State.{freshOf, reducedOf, afterNoteOff, actOf, phaseStepOf, advanceOf}
-use Rattle.state.specs.Heart.{stateFrom}
-use Rattle.state.proofs.Lasting.{every-state}
+use Rattle.state.specs.State.{freshOf, reducedOf, afterNoteOff, actOf, phaseStepOf, lfoStepOf, advanceOf}
+use Rattle.state.specs.Heart.{begun, stateFrom}
+use Rattle.state.proofs.Lasting.{every-state, every-begun}
 
 pub record Fitting (v : State) : Type 0 where
   pub phase-fits : T (fits binary64 (v .phase .0))
   pub frequency-fits : T (fits binary64 (v .frequency))
   pub velocity-fits : T (fits binary64 (v .velocity))
   pub envelope-held : Held (v .envelope)
+  pub lfo-fits : T (fits binary64 (v .lfo .0))
 
 -- ---- pitches, velocities, a reduced phase and a clamped sustain setting
 pitch-fits : (n : ℕ) → T (fits binary64 (frequencyOf n))
@@ -53,19 +54,20 @@ clamp-fits k w =
 
 -- ---- the steps
 pub fresh-fits : (acted : ℕ) → Fitting (freshOf acted)
-fresh-fits acted = record { phase-fits = ofBits-fits binary64 0; frequency-fits = ofBits-fits binary64 0x407b_8000_0000_0000; velocity-fits = ofBits-fits binary64 0; envelope-held = fresh-holds }
+fresh-fits acted = record { phase-fits = ofBits-fits binary64 0; frequency-fits = ofBits-fits binary64 0x407b_8000_0000_0000; velocity-fits = ofBits-fits binary64 0; envelope-held = fresh-holds; lfo-fits = ofBits-fits binary64 0 }
 
 reduced-fits : (v : State) → Fitting v → Fitting (reducedOf v)
-reduced-fits v f = record { phase-fits = reduce-fits (v .phase .0) (f .phase-fits); frequency-fits = f .frequency-fits; velocity-fits = f .velocity-fits; envelope-held = f .envelope-held }
+reduced-fits v f =
+    record { phase-fits = reduce-fits (v .phase .0) (f .phase-fits); frequency-fits = f .frequency-fits; velocity-fits = f .velocity-fits; envelope-held = f .envelope-held; lfo-fits = reduce-fits (v .lfo .0) (f .lfo-fits) }
 
 lifted-fits : (v : State) (k : Keys) (off : NoteOff) → Fitting v → Fitting (afterNoteOff v k off)
-lifted-fits v k Released f = record { phase-fits = f .phase-fits; frequency-fits = f .frequency-fits; velocity-fits = f .velocity-fits; envelope-held = released-holds (v .envelope) (f .envelope-held) }
-lifted-fits v k (FellBack n l) f = record { phase-fits = f .phase-fits; frequency-fits = pitch-fits n; velocity-fits = loudness-fits l; envelope-held = f .envelope-held }
-lifted-fits v k NoChange f = record { phase-fits = f .phase-fits; frequency-fits = f .frequency-fits; velocity-fits = f .velocity-fits; envelope-held = f .envelope-held }
+lifted-fits v k Released f = record { phase-fits = f .phase-fits; frequency-fits = f .frequency-fits; velocity-fits = f .velocity-fits; envelope-held = released-holds (v .envelope) (f .envelope-held); lfo-fits = f .lfo-fits }
+lifted-fits v k (FellBack n l) f = record { phase-fits = f .phase-fits; frequency-fits = pitch-fits n; velocity-fits = loudness-fits l; envelope-held = f .envelope-held; lfo-fits = f .lfo-fits }
+lifted-fits v k NoChange f = record { phase-fits = f .phase-fits; frequency-fits = f .frequency-fits; velocity-fits = f .velocity-fits; envelope-held = f .envelope-held; lfo-fits = f .lfo-fits }
 
 act-fits : (g : Settings) (v : State) (e : Event) → Fitting v → Fitting (actOf g v e)
 unfolding actOf
-act-fits g v (event.Strike n l) f = record { phase-fits = f .phase-fits; frequency-fits = pitch-fits n; velocity-fits = loudness-fits l; envelope-held = triggered-holds (v .envelope) (f .envelope-held) }
+act-fits g v (event.Strike n l) f = record { phase-fits = f .phase-fits; frequency-fits = pitch-fits n; velocity-fits = loudness-fits l; envelope-held = triggered-holds (v .envelope) (f .envelope-held); lfo-fits = f .lfo-fits }
 act-fits g v (event.Lift n) f = let l = liftedOf (v .keys) n in lifted-fits v (l .keys) (l .off) f
 act-fits g v event.Reset f = fresh-fits _
 
@@ -77,8 +79,12 @@ advance-fits g w v f =
       frequency-fits = f .frequency-fits;
       velocity-fits = f .velocity-fits;
       envelope-held = step-holds (clampedOf (g .adsr)) (sampleTimeOf (g .rate)) (v .envelope) (clamp-fits (g .adsr) w) (f .envelope-held);
+      lfo-fits = add-fits binary64 (v .lfo .0) (lfoStepOf g);
     }
 
--- ---- any number of samples
+-- ---- any number of samples, and the next one begun
 pub state-fits : (g : Settings) (s : List ℕ) (n : ℕ) (v : State) → T (fits binary64 (g .adsr .sustain)) → Fitting v → (k : ℕ) → Fitting (stateFrom g s n v k)
 state-fits g s n v w = every-state g s Fitting reduced-fits (act-fits g) (advance-fits g w) n v
+
+pub begun-fits : (g : Settings) (s : List ℕ) (n : ℕ) (v : State) → T (fits binary64 (g .adsr .sustain)) → Fitting v → (k : ℕ) → Fitting (begun g s (n + k) (stateFrom g s n v k))
+begun-fits g s n v w = every-begun g s Fitting reduced-fits (act-fits g) (advance-fits g w) n v

@@ -1,5 +1,5 @@
--- How far the phase grows between two reductions. A sample adds at most 12,544 / 8,000 * TAU radians, which is below
--- 10, so j samples after a reduction the phase is at most `ladder j`, 10 + 10 j radians.
+-- How far a phase grows between two reductions, the oscillator's or the LFO's. A sample adds at most 12,544 / 8,000 *
+-- TAU radians, which is below 10, so j samples after a reduction the phase is at most `ladder j`, 10 + 10 j radians.
 -- After 64 samples that is 650, below the limit of 1,000. Assumes nothing.
 use mathlib.Core.Path.{_≡_, refl}
 use mathlib.Core.Logic.{⊎-elim}
@@ -24,12 +24,11 @@ use Rattle.floats.proofs.Order.{fle-trans, fle-refl, lt-not-le, not-lt-le, by-c
 use Rattle.floats.proofs.Rounds.{ge0-round}
 use Rattle.floats.proofs.Monotone.{add-mono, mul-mono, div-mono}
 use Rattle.floats.proofs.Ranges.{add-ge0, mul-ge0, div-ge0, rem-ge0, rem-le, add-grows, ge0-positive}
-use Rattle.domain.specs.Domain.{isRate, thousand, highestPitch, isPitch}
+use Rattle.domain.specs.Domain.{isRate, thousand, highestPitch}
 use Rattle.envelope.specs.Limits.{ten}
 use Rattle.waveform.specs.Waveform.{tau, reduceOf, incrementOf}
 use Rattle.waveform.specs.Filled.{phaseFrom}
 use Rattle.waveform.proofs.Values.{Near, phase-near}
-use Rattle.state.proofs.Limits.{pitch-nonneg}
 
 -- ---- the ladder
 -- 10 + 10 j
@@ -129,15 +128,13 @@ rate-positive rate h =
     let top : T (le x (round binary64 false 192000 1)) = round-mono binary64 rate 1 192000 1 (lit< tt) (lit< tt) (nat.mul-le-mul-right 1 (leb→le rate 192000 (and-r (leb 8000 rate) (leb rate 192000) h))) in
     ge0-positive slow x (unfold ofBits in tt) (rate-slow rate h) (nonneg→finite x (under x (round binary64 false 192000 1) (ge0-round binary64 rate 1) (unfold round in tt) top))
 
-module _ (frequency : Float) (rate : ℕ) (f : T (isPitch binary64 frequency)) (r : T (isRate rate)) where
-  frequency-le : T (le frequency (highestPitch binary64))
-  frequency-le = and-r (lt zero64 frequency) (le frequency (highestPitch binary64)) f
-
+-- of a voice's frequency or an LFO's: from 0 to 12,544 Hz
+module _ (frequency : Float) (rate : ℕ) (f : T (nonneg frequency)) (frequency-le : T (le frequency (highestPitch binary64))) (r : T (isRate rate)) where
   ratio-le : T (le (frequency ⊘ ofInt binary64 (pos rate)) (highestPitch binary64 ⊘ slow))
-  ratio-le = div-mono binary64 frequency (highestPitch binary64) (ofInt binary64 (pos rate)) slow (pitch-nonneg frequency f) (unfold ofBits in tt) (rate-positive rate r) (unfold ofBits in tt) frequency-le (rate-slow rate r)
+  ratio-le = div-mono binary64 frequency (highestPitch binary64) (ofInt binary64 (pos rate)) slow f (unfold ofBits in tt) (rate-positive rate r) (unfold ofBits in tt) frequency-le (rate-slow rate r)
 
   ratio-nonneg : T (nonneg (frequency ⊘ ofInt binary64 (pos rate)))
-  ratio-nonneg = under (frequency ⊘ ofInt binary64 (pos rate)) (highestPitch binary64 ⊘ slow) (div-ge0 binary64 frequency (ofInt binary64 (pos rate)) (pitch-nonneg frequency f) (rate-positive rate r)) (unfold ofBits in unfold div in tt) ratio-le
+  ratio-nonneg = under (frequency ⊘ ofInt binary64 (pos rate)) (highestPitch binary64 ⊘ slow) (div-ge0 binary64 frequency (ofInt binary64 (pos rate)) f (rate-positive rate r)) (unfold ofBits in unfold div in tt) ratio-le
 
   pub pace-le : T (le (incrementOf frequency rate) ten)
   unfolding incrementOf

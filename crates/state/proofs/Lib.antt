@@ -5,8 +5,12 @@ pub mod RunsOn
 pub mod Entries
 -- what is made depends only on the records between
 pub mod Depends
+-- two runs side by side over one score
+pub mod Beside
 -- no sample depends on the number of records acted
 pub mod ButActed
+-- the LFO changes nothing but the factor
+pub mod ButLfo
 -- that number is the number of records below the position
 pub mod Acted
 -- a property that the steps keep is true at every sample
@@ -19,13 +23,15 @@ pub mod Arrays
 pub mod Limits
 -- an event does what the calls of 01 do
 pub mod Calls
--- how far the phase grows between two reductions
+-- how far a phase grows between two reductions
 pub mod Ladder
--- a property of the phase at every sample, if all other fields are within their limits
+-- a property of both phases at every sample, if all other fields are within their limits
 pub mod Through
 -- the limits are kept at every sample
 pub mod Stays
--- every sample is finite, and with velocity 0 it is 0
+-- a sample is finite, with velocity 0 it is 0, and with depth 0 it has no tremolo
 pub mod Silence
+-- so is every sample of a run
+pub mod Samples
 -- two outcomes of a public function are equal
 pub mod Unique

@@ -1,6 +1,6 @@
 -- The limits of a state part by part, and that every event of an accepted score keeps them. A state is `Kept P` if P is
--- true of its phase and all other fields are within their limits. An event keeps the phase or sets it to 0, so the law
--- is the same for every P that is true of 0.
+-- true of both phases, the oscillator's and the LFO's, and all other fields are within their limits. An event keeps
+-- both phases or sets them to 0, so the law is the same for every P that is true of 0.
 -- A state within the limits has no NaN and no infinity. Assumes nothing.
 use mathlib.Core.Path.{_≡_, refl, sym, subst}
 use mathlib.Core.Bool.{Bool, true, false, not, cond, _&&_}
@@ -59,13 +59,15 @@ pub record Kept (P : Float → Type 0) (v : State) : Type 0 where
   pub pitch-in : T (isPitch binary64 (v .frequency))
   pub velocity-in : T (within zero64 one (v .velocity))
   pub keys-in : T (isKeys (v .keys))
+  pub lfo-in : P (v .lfo .0)
 
 -- a phase within its limits
 abbrev pub PhaseIn : Float → Type 0
 PhaseIn x = T (isRadians x)
 
-pub weaken : (P Q : Float → Type 0) (v : State) → (P (v .phase .0) → Q (v .phase .0)) → Kept P v → Kept Q v
-weaken P Q v f k = record { phase-in = f (k .phase-in); envelope-in = k .envelope-in; pitch-in = k .pitch-in; velocity-in = k .velocity-in; keys-in = k .keys-in }
+pub weaken : (P Q : Float → Type 0) (v : State) → ((x : Float) → P x → Q x) → Kept P v → Kept Q v
+weaken P Q v f k =
+    record { phase-in = f (v .phase .0) (k .phase-in); envelope-in = k .envelope-in; pitch-in = k .pitch-in; velocity-in = k .velocity-in; keys-in = k .keys-in; lfo-in = f (v .lfo .0) (k .lfo-in) }
 
 module _ (v : State) where
   abbrev phased : Bool
@@ -83,12 +85,16 @@ module _ (v : State) where
   abbrev keyed : Bool
   keyed = isKeys (v .keys)
 
+  abbrev swaying : Bool
+  swaying = isRadians (v .lfo .0)
+
   -- the limits are these parts
   pub in-kept : inLimits v ≡ true → Kept PhaseIn v
   unfolding inLimits
   in-kept e =
       let h = from-true (inLimits v) e in
-      let h4 = and-l (phased && shaped && pitched && loud) keyed h in
+      let h5 = and-l (phased && shaped && pitched && loud && keyed) swaying h in
+      let h4 = and-l (phased && shaped && pitched && loud) keyed h5 in
       let h3 = and-l (phased && shaped && pitched) loud h4 in
       let h2 = and-l (phased && shaped) pitched h3 in
       record {
@@ -96,16 +102,19 @@ module _ (v : State) where
         envelope-in = and-r phased shaped h2;
         pitch-in = and-r (phased && shaped) pitched h3;
         velocity-in = and-r (phased && shaped && pitched) loud h4;
-        keys-in = and-r (phased && shaped && pitched && loud) keyed h;
+        keys-in = and-r (phased && shaped && pitched && loud) keyed h5;
+        lfo-in = and-r (phased && shaped && pitched && loud && keyed) swaying h;
       }
 
   pub kept-in : Kept PhaseIn v → inLimits v ≡ true
   unfolding inLimits
   kept-in k =
       is-true (inLimits v)
+      (and-i (phased && shaped && pitched && loud && keyed) swaying
       (and-i (phased && shaped && pitched && loud) keyed
       (and-i (phased && shaped && pitched) loud (and-i (phased && shaped) pitched (and-i phased shaped (k .phase-in) (k .envelope-in)) (k .pitch-in)) (k .velocity-in))
       (k .keys-in))
+      (k .lfo-in))
 
   -- a state passes the test if it is within the limits and its number of records acted fits in 48 bits
   pub state-in : isState v ≡ true → inLimits v ≡ true
@@ -126,6 +135,7 @@ pub record AllFinite (v : State) : Type 0 where
   pub frequency-finite : T (finite (v .frequency))
   pub velocity-finite : T (finite (v .velocity))
   pub envelope-finite : FiniteFields (v .envelope)
+  pub lfo-finite : T (finite (v .lfo .0))
 
 pub no-nan : (x : Float) → T (finite x) → T (not (isNan x))
 unfolding isNan
@@ -146,17 +156,18 @@ pitch-nonneg x h = under x (highestPitch binary64) (le→ge0 x (from-literal x (
 loud-nonneg : (x : Float) → T (within zero64 one x) → T (nonneg x)
 loud-nonneg x h = under x one (le→ge0 x (from-literal x (and-l (le zero64 x) (le x one) h))) (unfold ofBits in tt) (and-r (le zero64 x) (le x one) h)
 
-pub kept-finite : (P : Float → Type 0) (v : State) → (P (v .phase .0) → T (nonneg (v .phase .0))) → Kept P v → AllFinite v
+pub kept-finite : (P : Float → Type 0) (v : State) → ((x : Float) → P x → T (nonneg x)) → Kept P v → AllFinite v
 kept-finite P v f k =
     record {
-      phase-finite = nonneg→finite (v .phase .0) (f (k .phase-in));
+      phase-finite = nonneg→finite (v .phase .0) (f (v .phase .0) (k .phase-in));
       frequency-finite = nonneg→finite (v .frequency) (pitch-nonneg (v .frequency) (k .pitch-in));
       velocity-finite = nonneg→finite (v .velocity) (loud-nonneg (v .velocity) (k .velocity-in));
       envelope-finite = finite-fields (v .envelope) (k .envelope-in);
+      lfo-finite = nonneg→finite (v .lfo .0) (f (v .lfo .0) (k .lfo-in));
     }
 
 pub in-finite : (v : State) → inLimits v ≡ true → AllFinite v
-in-finite v e = kept-finite PhaseIn v (phase-nonneg (v .phase .0)) (in-kept v e)
+in-finite v e = kept-finite PhaseIn v phase-nonneg (in-kept v e)
 
 -- ---- the fresh state
 module _ (P : Float → Type 0) (p : P zero64) where
@@ -168,6 +179,7 @@ module _ (P : Float → Type 0) (p : P zero64) where
         pitch-in = unfold ofBits in unfold lt in unfold le in tt;
         velocity-in = unfold ofBits in unfold le in tt;
         keys-in = holds-limits Silent false [] tt (omega arith) (unfold AllRanged in tt);
+        lfo-in = p;
       }
 
 zero-phase : PhaseIn zero64
@@ -219,12 +231,12 @@ accepted-events g s m a i h =
     let r = all .fine i (omega arith) .right in
     event-in (recordAt s i .kind) (byteAt s i 7) (byteAt s i 8) (omega (arith, r .note-right, most-in (byteAt s i 6))) (omega (arith, r .velocity-right, most-in (byteAt s i 6)))
 
--- an event keeps the limits, and a property of the phase that is true of 0
+-- an event keeps the limits, and a property of the phases that is true of 0
 module _ (g : Settings) (P : Float → Type 0) (p : P zero64) (v : State) (k : Kept P v) where
   lift-keeps : (l : Keys) (off : NoteOff) → T (isKeys l) → BackRanged off → Kept P (afterNoteOff v l off)
-  lift-keeps l Released h b = record { phase-in = k .phase-in; envelope-in = released-keeps (v .envelope) (k .envelope-in); pitch-in = k .pitch-in; velocity-in = k .velocity-in; keys-in = h }
-  lift-keeps l (FellBack n w) h b = record { phase-in = k .phase-in; envelope-in = k .envelope-in; pitch-in = pitch-in-limits n (b .0); velocity-in = loudness-in w (b .1); keys-in = h }
-  lift-keeps l NoChange h b = record { phase-in = k .phase-in; envelope-in = k .envelope-in; pitch-in = k .pitch-in; velocity-in = k .velocity-in; keys-in = h }
+  lift-keeps l Released h b = record { phase-in = k .phase-in; envelope-in = released-keeps (v .envelope) (k .envelope-in); pitch-in = k .pitch-in; velocity-in = k .velocity-in; keys-in = h; lfo-in = k .lfo-in }
+  lift-keeps l (FellBack n w) h b = record { phase-in = k .phase-in; envelope-in = k .envelope-in; pitch-in = pitch-in-limits n (b .0); velocity-in = loudness-in w (b .1); keys-in = h; lfo-in = k .lfo-in }
+  lift-keeps l NoChange h b = record { phase-in = k .phase-in; envelope-in = k .envelope-in; pitch-in = k .pitch-in; velocity-in = k .velocity-in; keys-in = h; lfo-in = k .lfo-in }
 
   pub act-keeps : (e : Event) → EventIn e → Kept P (actOf g v e)
   unfolding actOf
@@ -235,6 +247,7 @@ module _ (g : Settings) (P : Float → Type 0) (p : P zero64) (v : State) (k : K
         pitch-in = pitch-in-limits n (h .0);
         velocity-in = loudness-in w (h .1);
         keys-in = pressed-keeps (v .keys) n w (k .keys-in) (h .0) (h .1);
+        lfo-in = k .lfo-in;
       }
   act-keeps (event.Lift n) h = let l = lifted-keeps (v .keys) n (k .keys-in) in lift-keeps (liftedOf (v .keys) n .keys) (liftedOf (v .keys) n .off) (l .within) (l .back)
   act-keeps event.Reset h = fresh-keeps P p _

@@ -1,108 +1,92 @@
--- Samples of a state within its limits are finite, and with velocity 0 they are +0 or -0. 01, "The score": "A note-on
--- with velocity 0 plays silent, as in the Rust."
--- A key struck with velocity 0 gives such a state. Phase and sustain setting are taken to be values of an f64, as every
--- f64 of a program is. Assumes nothing.
-use mathlib.Core.Path.{_≡_, refl, _∙_}
-use mathlib.Core.Logic.{_⊎_, inl, inr}
-use mathlib.Core.Bool.{Bool, true, false, _&&_}
-use Prim.Native.Nat.{ℕ, _*_, _<_}
-use native.Mathlib.Nat as nat
-use lib.IntN.{pos}
+-- Samples of a state whose fields are within their limits, and whose phases are not negative, are finite; with velocity
+-- 0 they are +0 or -0; and with depth 0 they are the samples without tremolo. 01, "The score": "A note-on with velocity
+-- 0 plays silent, as in the Rust." 02, R-7: "With depth 0 the samples equal the old ones as numbers"; here to the bit.
+-- A key struck with velocity 0 gives such a state. The floats of state and settings are taken to be values of an f64,
+-- as every f64 of a program is. Assumes nothing.
+use mathlib.Core.Path.{_≡_, refl}
+use mathlib.Core.Logic.{inl}
+use mathlib.Core.Bool.{true, _&&_}
+use Prim.Native.Nat.{ℕ}
 use lib.Dec.{T}
-use lib.Ieee.{Float, fin, binary64, ofBits, ofInt, mul, div, neg, round, le, fits, unlike}
-use lib.Ieee.Fits.{and-i, and-l, and-r, mul-fits, round-fits}
+use lib.Ieee.{Float, binary64, ofBits, ofInt, div, round, le, fits}
+use lib.Ieee.Fits.{and-l, mul-fits}
 use lib.Ieee.Scale.{finite}
-use lib.Ieee.Positive.{num, den, den-pos}
-use Rattle.floats.specs.Range.{within}
-use Rattle.floats.specs.Double.{_⊗_, zero64, one, four}
-use Rattle.floats.proofs.Held.{zero-value}
-use Rattle.floats.proofs.Literals.{zeroOf-is}
-use Rattle.floats.proofs.Monotone.{mul-mono}
-use Rattle.floats.proofs.Ranges.{mul-ge0}
-use Rattle.floats.proofs.Order.{signed, fle-trans, fle-refl, ge0→le}
-use Rattle.floats.proofs.Operations.{mul-is}
-use Rattle.floats.proofs.OneWay.{value-is-one}
-use Rattle.domain.specs.Domain.{isRate}
-use Rattle.envelope.specs.Limits.{ten, eleven, isAdsr, isEnvelope}
+use Rattle.floats.specs.Range.{nonneg, within}
+use Rattle.floats.specs.Double.{_⊗_, zero64, one}
+use Rattle.floats.proofs.Bounded.{Size, size-finite}
+use Rattle.floats.proofs.Order.{fle-trans}
+use Rattle.floats.proofs.Zeros.{Silent, times-zero, zero-times}
+use Rattle.envelope.specs.Limits.{ten, eleven, isEnvelope}
 use Rattle.envelope.proofs.Keeps.{step-keeps}
 use Rattle.voice.specs.Voice.{velocityOf}
-use Rattle.waveform.specs.Waveform.{isWaveform, invTau}
+use Rattle.waveform.specs.declared.Waveform.{Waveform}
+use Rattle.waveform.specs.Waveform.{isWaveform}
 use Rattle.waveform.specs.Filled.{valueAt}
-use Rattle.waveform.proofs.Values.{value-fits, value-at-finite, scaled-finite}
+use Rattle.waveform.proofs.Values.{ceiling, ceiling-fits, value-at-size, scaled-size}
+use Rattle.tremolo.specs.Tremolo.{sixteen, lfoAt, factorOf}
+use Rattle.tremolo.proofs.Limits.{lfo-waveform, lfo-depth}
+use Rattle.tremolo.proofs.Sizes.{factor-size, product-finite}
+use Rattle.tremolo.proofs.Flat.{step-in, flat-factor, flat-sample}
 use Rattle.state.specs.declared.Settings.{Settings}
 use Rattle.state.specs.declared.State.{State}
-use Rattle.state.specs.State.{phaseStepOf, nextEnvelopeOf, sampleOf, struckOf}
+use Rattle.state.specs.State.{phaseStepOf, lfoStepOf, nextEnvelopeOf, dryOf, sampleOf, struckOf}
 use Rattle.state.specs.Settings.{settingsOk}
-use Rattle.state.specs.Limits.{inLimits}
-use Rattle.state.proofs.Limits.{from-true, Kept, PhaseIn, in-kept, phase-nonneg}
-use Rattle.state.proofs.Ladder.{pace-le, pace-nonneg}
-use Rattle.state.proofs.Through.{rate-in, adsr-in}
+use Rattle.state.proofs.Limits.{Kept}
+use Rattle.state.proofs.Fits.{Fitting}
+use Rattle.state.proofs.Through.{rate-in, waveform-in, adsr-in, lfo-in, phase-step-in, lfo-step-in}
 
--- +0 or -0
-abbrev pub Silent : Float → Type 0
-Silent x = (x ≡ zero64) ⊎ (x ≡ neg zero64)
+-- a value at a phase that is not negative, where a sample moves the phase by at most 10
+wave-size : (w : Waveform) (step p : Float) → T (isWaveform w) → T (fits binary64 p) → T (nonneg p) → T (nonneg step) × T (le step ten) → Size ceiling (valueAt w step p)
+wave-size w step p c f n s = value-at-size w step p c f n (step-in step (s .0) (fle-trans step ten sixteen (s .1) (unfold ofBits in unfold le in tt)))
 
--- a finite number times 0
-pub times-zero : (x : Float) → T (finite x) → Silent (x ⊗ zero64)
-times-zero x k = go (unlike (signed x) false) (mul-is binary64 x zero64 k (unfold ofBits in tt) ∙ rw (zero64-is .0, zero64-is .1, zero64-is .2) refl)
-  where
-    zero64-is : (num zero64 ≡ 0) × (den zero64 ≡ 1) × (signed zero64 ≡ false)
-    zero64-is = unfold ofBits in (refl, refl, refl)
-
-    zero : (s : Bool) → round binary64 s (num x * 0) (den x * 1) ≡ fin s 0 (pos 0)
-    zero s =
-        rw (nat.mul-zero (num x))
-        (value-is-one binary64 (round binary64 s 0 (den x * 1)) (fin s 0 (pos 0)) s 0 (den x * 1) room (round-fits binary64 s 0 (den x * 1)) (unfold fits in tt) (zero-value binary64 s (den x * 1) room) (refl, nat.zero-mul (den x * 1)))
-      where
-        room : 0 < den x * 1
-        room = rw (nat.mul-one (den x)) (den-pos x)
-
-    go : (s : Bool) → x ⊗ zero64 ≡ round binary64 s (num x * 0) (den x * 1) → Silent (x ⊗ zero64)
-    go true e = inr (e ∙ zero true ∙ (unfold ofBits in unfold neg in refl))
-    go false e = inl (e ∙ zero false ∙ (unfold ofBits in refl))
-
-module _ (g : Settings) (ok : settingsOk g ≡ true) (w : T (fits binary64 (g .adsr .sustain))) (v : State) (p : T (fits binary64 (v .phase .0))) (l : inLimits v ≡ true) where
-  kept : Kept PhaseIn v
-  kept = in-kept v l
-
-  abbrev dt : Float
-  dt = phaseStepOf g v ⊗ invTau
-
-  dt-in : T (within zero64 four dt)
-  dt-in =
-      let pace = phaseStepOf g v in
-      let n = pace-nonneg (v .frequency) (g .rate) (kept .pitch-in) (rate-in g ok w) in
-      and-i (le zero64 dt) (le dt four)
-      (rw (zeroOf-is binary64) (ge0→le dt (mul-ge0 binary64 pace invTau n (unfold ofBits in tt))))
-      (fle-trans dt (ten ⊗ invTau) four
-      (mul-mono binary64 pace ten invTau invTau n (unfold ofBits in tt) (unfold ofBits in tt) (unfold ofBits in tt) (pace-le (v .frequency) (g .rate) (kept .pitch-in) (rate-in g ok w)) (fle-refl invTau (unfold ofBits in tt)))
-      (unfold ofBits in unfold mul in unfold le in tt))
-
-  shape-ok : T (isWaveform (g .waveform))
-  shape-ok = and-r (isRate (g .rate)) (isWaveform (g .waveform)) (and-l (isRate (g .rate) && isWaveform (g .waveform)) (isAdsr (g .adsr)) (from-true (settingsOk g) ok))
-
+module _ (g : Settings) (ok : settingsOk g ≡ true) (w : T (fits binary64 (g .adsr .sustain))) (v : State) (k : Kept (λ (x : Float). T (nonneg x)) v) (f : Fitting v) where
   level-in : T (within zero64 one (nextEnvelopeOf g v .level))
   unfolding isEnvelope
   level-in =
       let e = nextEnvelopeOf g v in
       let level = within zero64 one (e .level) in
       let release = within zero64 one (e .«release_level») in
-      and-l level release (and-l (level && release) (within zero64 eleven (e .«stage_time»)) (step-keeps (g .adsr) (g .rate) (v .envelope) (adsr-in g ok w) w (rate-in g ok w) (kept .envelope-in)))
+      and-l level release (and-l (level && release) (within zero64 eleven (e .«stage_time»)) (step-keeps (g .adsr) (g .rate) (v .envelope) (adsr-in g ok w) w (rate-in g ok w) (k .envelope-in)))
 
   -- the oscillator's value times the level
   abbrev loudness : Float
   loudness = valueAt (g .waveform) (phaseStepOf g v) (v .phase .0) ⊗ nextEnvelopeOf g v .level
 
-  loudness-finite : T (finite loudness)
-  loudness-finite = scaled-finite _ _ (value-fits (g .waveform) _ dt) (value-at-finite (g .waveform) (phaseStepOf g v) (v .phase .0) shape-ok p (phase-nonneg (v .phase .0) (kept .phase-in)) dt-in) level-in
+  loudness-size : Size ceiling loudness
+  loudness-size =
+      scaled-size ceiling _ _ ceiling-fits (wave-size (g .waveform) (phaseStepOf g v) (v .phase .0) (waveform-in g ok w) (f .phase-fits) (k .phase-in) (phase-step-in g ok w v (k .pitch-in))) level-in
+
+  dry-size : Size ceiling (dryOf g v)
+  unfolding dryOf
+  dry-size = scaled-size ceiling loudness (v .velocity) ceiling-fits loudness-size (k .velocity-in)
+
+  -- the LFO's value, and the factor
+  abbrev swing : Float
+  swing = valueAt (g .lfo .waveform) (lfoStepOf g) (v .lfo .0)
+
+  swing-size : Size ceiling swing
+  swing-size = wave-size (g .lfo .waveform) (lfoStepOf g) (v .lfo .0) (lfo-waveform (g .lfo) (lfo-in g ok w)) (f .lfo-fits) (k .lfo-in) (lfo-step-in g ok w)
+
+  abbrev factor : Float
+  factor = factorOf (g .lfo .depth) (lfoAt (g .lfo) (lfoStepOf g) (v .lfo .0))
+
+  sway-size : Size ceiling factor
+  sway-size =
+      let d = lfo-depth (g .lfo) (lfo-in g ok w) in
+      factor-size (g .lfo .depth) (swing ⊗ g .lfo .depth) d (scaled-size ceiling swing (g .lfo .depth) ceiling-fits swing-size d)
 
   pub sample-finite : T (finite (sampleOf g v))
   unfolding sampleOf
-  sample-finite = scaled-finite loudness (v .velocity) (mul-fits binary64 _ _) loudness-finite (kept .velocity-in)
+  sample-finite = product-finite (dryOf g v) factor dry-size sway-size
 
   pub plays-silent : v .velocity ≡ zero64 → Silent (sampleOf g v)
-  unfolding sampleOf
-  plays-silent e = rw e (times-zero loudness loudness-finite)
+  unfolding sampleOf dryOf
+  plays-silent e = zero-times factor (size-finite ceiling factor sway-size) (dryOf g v) (rw e (times-zero loudness (size-finite ceiling loudness loudness-size) zero64 (inl refl)))
+
+  -- with depth 0 or -0
+  pub sample-is-dry : Silent (g .lfo .depth) → sampleOf g v ≡ dryOf g v
+  unfolding sampleOf dryOf
+  sample-is-dry d = flat-sample (dryOf g v) factor (mul-fits binary64 _ _) (flat-factor (g .lfo .depth) d swing (size-finite ceiling swing swing-size))
 
 -- a key struck with velocity 0
 pub struck-with-none : (g : Settings) (v : State) (note : ℕ) → struckOf g v note 0 .velocity ≡ zero64

@@ -1,8 +1,8 @@
 -- The limits are kept at every sample from the fresh state on, and from any state within them at a multiple of 64 on,
 -- so from the start of every section. 01, "Making sample n": "If n is a multiple of 64 or a record has position n,
--- phase is reduced by TAU." So at such a position it does not matter what the phase was; then each sample adds at most
+-- phase is reduced by TAU." So at such a position it does not matter what a phase was; then each sample adds at most
 -- 10, and the next reduction comes after at most 64 samples.
--- From any state within the limits, at any position, all fields but the phase stay within their limits, and no float
+-- From any state within the limits, at any position, all fields but the phases stay within their limits, and no float
 -- becomes a NaN or an infinity. The sustain setting is taken to be a value of an f64, as every f64 of a program is.
 -- Assumes nothing.
 use mathlib.Core.Path.{_≡_, refl}
@@ -84,7 +84,7 @@ climbs =
 
 -- a reduction keeps the limits
 pub reduce-in : (v : State) → inLimits v ≡ true → inLimits (reducedOf v) ≡ true
-reduce-in v l = kept-in (reducedOf v) (reduced-keeps PhaseIn PhaseIn v (λ t. on-phase 0 (reduceOf (v .phase .0)) (omega arith) (reduced-at 0 (v .phase .0) t)) (in-kept v l))
+reduce-in v l = kept-in (reducedOf v) (reduced-keeps PhaseIn PhaseIn v (λ x t. on-phase 0 (reduceOf x) (omega arith) (reduced-at 0 x t)) (in-kept v l))
 
 -- ---- without a reduction: at most 2^60, where adding 10 no longer changes the phase
 pub record Far (x : Float) : Type 0 where
@@ -117,17 +117,17 @@ module _ (g : Settings) (ok : settingsOk g ≡ true) (w : T (fits binary64 (g .a
   -- from any state within the limits at a multiple of 64
   module _ (n : ℕ) (at : n % 64 ≡ 0) (v : State) (l : inLimits v ≡ true) where
     start : Kept (Before n) v
-    start = weaken PhaseIn (Before n) v (λ t. record { phase = t; climbed = λ h. absurd (h at) }) (in-kept v l)
+    start = weaken PhaseIn (Before n) v (λ x t. record { phase = t; climbed = λ h. absurd (h at) }) (in-kept v l)
 
     -- the state before a sample is begun
     pub limits-kept : (k : ℕ) → inLimits (stateFrom g s n v k) ≡ true
-    limits-kept k = let u = stateFrom g s n v k in kept-in u (weaken (Before (n + k)) PhaseIn u (λ b. b .phase) (run-keeps Before Since climbs g ok w s m a n v start k))
+    limits-kept k = let u = stateFrom g s n v k in kept-in u (weaken (Before (n + k)) PhaseIn u (λ x b. b .phase) (run-keeps Before Since climbs g ok w s m a n v start k))
 
     -- the state after a sample is begun
     pub begun-kept : (k : ℕ) → inLimits (begun g s (n + k) (stateFrom g s n v k)) ≡ true
     begun-kept k =
         let u = begun g s (n + k) (stateFrom g s n v k) in
-        kept-in u (weaken (Since (n + k)) PhaseIn u (on-phase ((n + k) % 64) (u .phase .0) (omega arith)) (run-begins Before Since climbs g ok w s m a n v start k))
+        kept-in u (weaken (Since (n + k)) PhaseIn u (λ x. on-phase ((n + k) % 64) x (omega arith)) (run-begins Before Since climbs g ok w s m a n v start k))
 
   -- from the start of a section
   pub section-kept : (sectionSize : ℕ) (v : State) → inLimits v ≡ true → (k : ℕ) → inLimits (stateFrom g s (sectionSize * 4096) v k) ≡ true
@@ -143,7 +143,7 @@ module _ (g : Settings) (ok : settingsOk g ≡ true) (w : T (fits binary64 (g .a
   -- from any state within the limits, at any position
   module _ (n : ℕ) (v : State) (l : inLimits v ≡ true) where
     begins : Kept Far v
-    begins = weaken PhaseIn Far v (phase-far (v .phase .0)) (in-kept v l)
+    begins = weaken PhaseIn Far v phase-far (in-kept v l)
 
     pub others-kept : (k : ℕ) → Kept Far (stateFrom g s n v k)
     others-kept k = run-keeps Anywhere Anywhere drifts g ok w s m a n v begins k
@@ -153,4 +153,4 @@ module _ (g : Settings) (ok : settingsOk g ≡ true) (w : T (fits binary64 (g .a
 
     -- so no field becomes a NaN or an infinity
     pub finite-kept : (k : ℕ) → AllFinite (stateFrom g s n v k)
-    finite-kept k = let u = stateFrom g s n v k in kept-finite Far u (λ o. o .not-negative) (others-kept k)
+    finite-kept k = let u = stateFrom g s n v k in kept-finite Far u (λ x o. o .not-negative) (others-kept k)

@@ -7,7 +7,7 @@ use Rattle.state.specs.declared.State.{State}
 
 -- v with another number of records acted
 abbrev pub withActed : State → ℕ → State
-withActed v acted = record { phase = v .phase; envelope = v .envelope; frequency = v .frequency; velocity = v .velocity; keys = v .keys; acted = acted }
+withActed v acted = record { phase = v .phase; envelope = v .envelope; frequency = v .frequency; velocity = v .velocity; keys = v .keys; acted = acted; lfo = v .lfo }
 
 -- equal in every other field
 abbrev pub SameButActed : State → State → Type 0

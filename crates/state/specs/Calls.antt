@@ -39,7 +39,7 @@ envelopeCall w b (event.Strike note velocity) = envelope.noteOnOf b
 envelopeCall w b (event.Lift note) = cond (voice.noteOffOf w note .released) (envelope.noteOffOf b) (record { answer = Done 0; block = b })
 envelopeCall w b event.Reset = envelope.resetOf b
 
--- no call changes the phase: only a reset sets it, to 0
+-- what becomes of a phase, the oscillator's or the LFO's: an on and an off leave it, a reset sets it to 0
 abbrev pub phaseThen : Radians → Event → Radians
 phaseThen p (event.Strike note velocity) = p
 phaseThen p (event.Lift note) = p

@@ -2,6 +2,8 @@
 -- act. On: voice and envelope `note_on`. Off: voice `note_off`, and the envelope's where it returned true. Reset:
 -- voice, envelope and phase to their fresh state. Then the sample is oscillator value * envelope level * velocity, left
 -- to right, and both advance. Frequency is always the voice's own (440 when fresh)."
+-- 02, R-7: "The sample is multiplied last by (1 - depth/2 + lfo/2), where lfo is the ported block's scaled value. Its
+-- phase is reduced at the same moments as the oscillator's, set to 0 by a reset record". Ons and offs leave it.
 -- A reset does not set the number of records acted to 0: it is counted as one more. Definitions only.
 use mathlib.Core.Bool.{Bool, true, cond}
 use Prim.Native.Nat.{ℕ, _+_}
@@ -20,6 +22,7 @@ use Rattle.envelope.specs.Stages.{stepOf, triggeredOf, releasedOf}
 use Rattle.envelope.specs.declared.Envelope.{Envelope}
 use Rattle.waveform.specs.Waveform.{reduceOf, incrementOf, radians}
 use Rattle.waveform.specs.Filled.{valueAt}
+use Rattle.tremolo.specs.Tremolo.{lfoAt, factorOf}
 use Rattle.score.specs.declared.Record.{Record}
 use Rattle.score.specs.declared.Kind.{Kind}
 use Rattle.score.specs.declared.Kind.the-variants.{On, Off, Reset}
@@ -38,28 +41,29 @@ counted acted = cond (ltb acted 18446744073709551615) (acted + 1) acted
 
 -- the fresh state, with the number of records acted
 abbrev pub freshOf : ℕ → State
-freshOf acted = record { phase = radians zero64; envelope = envelope.freshOf; frequency = concert; velocity = zero64; keys = freshKeys; acted = acted }
+freshOf acted = record { phase = radians zero64; envelope = envelope.freshOf; frequency = concert; velocity = zero64; keys = freshKeys; acted = acted; lfo = radians zero64 }
 
 -- ---- the state with some fields changed. Who adds a field to `State` adds it to these definitions, to `freshOf`, to
--- `withActed` of ButActed.antt and to `stateOf` of the crate `shelf`, which name all fields; and, where it has limits
--- and words, to `inLimits` of Limits.antt and to shelf's `entryOf` and `entryWords`
-abbrev pub withPhase : State → Float → State
-withPhase v p = record { phase = radians p; envelope = v .envelope; frequency = v .frequency; velocity = v .velocity; keys = v .keys; acted = v .acted }
+-- `withActed` of ButActed.antt, to `withLfoPhase` of ButLfo.antt and to `stateOf` of the crate `shelf`, which name all
+-- fields; and, where it has limits and words, to `inLimits` of Limits.antt and to shelf's `entryOf` and `entryWords`
+-- the phases of the oscillator and of the LFO
+abbrev pub withPhases : State → Float → Float → State
+withPhases v p q = record { phase = radians p; envelope = v .envelope; frequency = v .frequency; velocity = v .velocity; keys = v .keys; acted = v .acted; lfo = radians q }
 
 abbrev pub withEnvelope : State → Envelope → State
-withEnvelope v e = record { phase = v .phase; envelope = e; frequency = v .frequency; velocity = v .velocity; keys = v .keys; acted = v .acted }
+withEnvelope v e = record { phase = v .phase; envelope = e; frequency = v .frequency; velocity = v .velocity; keys = v .keys; acted = v .acted; lfo = v .lfo }
 
 -- the note sounds, with this velocity
 abbrev pub withNote : State → ℕ → ℕ → State
-withNote v note velocity = record { phase = v .phase; envelope = v .envelope; frequency = frequencyOf note; velocity = velocityOf velocity; keys = v .keys; acted = v .acted }
+withNote v note velocity = record { phase = v .phase; envelope = v .envelope; frequency = frequencyOf note; velocity = velocityOf velocity; keys = v .keys; acted = v .acted; lfo = v .lfo }
 
 -- these keys are held, and one more record has acted
 abbrev pub actedWith : State → Keys → State
-actedWith v keys = record { phase = v .phase; envelope = v .envelope; frequency = v .frequency; velocity = v .velocity; keys = keys; acted = counted (v .acted) }
+actedWith v keys = record { phase = v .phase; envelope = v .envelope; frequency = v .frequency; velocity = v .velocity; keys = keys; acted = counted (v .acted); lfo = v .lfo }
 
 -- ---- reduce
 abbrev pub reducedOf : State → State
-reducedOf v = withPhase v (reduceOf (v .phase .0))
+reducedOf v = withPhases v (reduceOf (v .phase .0)) (reduceOf (v .lfo .0))
 
 -- ---- act
 -- what a record does: an on strikes a key (note, velocity), an off lifts a key (note), a reset resets. A lift releases
@@ -98,12 +102,20 @@ actOf g v event.Reset = freshOf (counted (v .acted))
 abbrev pub nextEnvelopeOf : Settings → State → Envelope
 nextEnvelopeOf g v = stepOf (clampedOf (g .adsr)) (sampleTimeOf (g .rate)) (v .envelope)
 
--- the phase's growth, in radians a sample
+-- the growth of the oscillator's phase and of the LFO's, in radians a sample
 abbrev pub phaseStepOf : Settings → State → Float
 phaseStepOf g v = incrementOf (v .frequency) (g .rate)
 
+abbrev pub lfoStepOf : Settings → Float
+lfoStepOf g = incrementOf (g .lfo .frequency) (g .rate)
+
+-- the sample without tremolo
+unfoldable pub dryOf : Settings → State → Float
+dryOf g v = valueAt (g .waveform) (phaseStepOf g v) (v .phase .0) ⊗ nextEnvelopeOf g v .level ⊗ v .velocity
+
 unfoldable pub sampleOf : Settings → State → Float
-sampleOf g v = valueAt (g .waveform) (phaseStepOf g v) (v .phase .0) ⊗ nextEnvelopeOf g v .level ⊗ v .velocity
+unfolding dryOf
+sampleOf g v = dryOf g v ⊗ factorOf (g .lfo .depth) (lfoAt (g .lfo) (lfoStepOf g) (v .lfo .0))
 
 unfoldable pub advanceOf : Settings → State → State
-advanceOf g v = withEnvelope (withPhase v (v .phase .0 ⊕ phaseStepOf g v)) (nextEnvelopeOf g v)
+advanceOf g v = withEnvelope (withPhases v (v .phase .0 ⊕ phaseStepOf g v) (v .lfo .0 ⊕ lfoStepOf g)) (nextEnvelopeOf g v)

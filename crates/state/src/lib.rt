@@ -1,30 +1,32 @@
-// The voice's state, and the four steps that make a sample (01, "Making sample n"): reduce the phase, let records act,
+// The voice's state, and the four steps that make a sample (01, "Making sample n"): reduce the phases, let records act,
 // take the sample, advance. A render, a continuing call and a re-render are these steps, counted from sample zero.
 // specs/Heart.antt defines which record acts when; the crates above do it.
 ghost use mathlib.Core.Path.{_≡_};
 ghost use Rattle.voice.specs.Keys.{liftedOf};
 ghost use Rattle.state.specs.Limits.{inLimits, isState};
 ghost use Rattle.state.specs.Settings.{settingsOk};
-ghost use Rattle.state.specs.State.{counted, freshOf, withNote, actedWith, reducedOf, eventOf, actOf, struckOf, afterNoteOff, nextEnvelopeOf, sampleOf, advanceOf};
+ghost use Rattle.state.specs.State.{counted, freshOf, withNote, actedWith, reducedOf, eventOf, actOf, struckOf, afterNoteOff, nextEnvelopeOf, dryOf, sampleOf, advanceOf};
 use envelope::Adsr;
 use envelope::Envelope;
 use score::Kind;
 use score::Record;
+use tremolo::Lfo;
 use voice::keys;
 use voice::keys::Keys;
 use voice::keys::NoteOff;
 use waveform::Radians;
 use waveform::Waveform;
 
-// What does not change during a render: the rate in Hz, the choice of waveform, and the envelope's settings.
+// What does not change during a render: the rate in Hz, the choice of waveform, the envelope's settings and the LFO's.
 pub struct Settings {
     pub rate: u32,
     pub waveform: Waveform,
     pub adsr: Adsr,
+    pub lfo: Lfo,
 }
 
 // What changes from sample to sample: the oscillator's phase, the envelope, the voice's frequency in Hz and velocity
-// from 0 to 1, the held keys, and how many records of the score have acted.
+// from 0 to 1, the held keys, how many records of the score have acted, and the LFO's phase.
 pub struct State {
     pub phase: Radians,
     pub envelope: Envelope,
@@ -32,6 +34,7 @@ pub struct State {
     pub velocity: f64,
     pub keys: Keys,
     pub acted: u64,
+    pub lfo: Radians,
 }
 
 // What a record does: it strikes a key (note, velocity), lifts a key (note), or sets all that sounds to its fresh
@@ -48,7 +51,11 @@ pub fn is_settings(settings: Settings) -> bool
 {
     let waveform = settings.waveform;
     let adsr = settings.adsr;
-    domain::is_rate(settings.rate) & waveform::is_waveform(waveform) & envelope::is_adsr(adsr)
+    let lfo = settings.lfo;
+    domain::is_rate(settings.rate)
+        & waveform::is_waveform(waveform)
+        & envelope::is_adsr(adsr)
+        & tremolo::is_lfo(lfo)
 }
 
 // Whether a state is within the limits of a shelf entry.
@@ -66,13 +73,15 @@ pub fn fresh() -> State
     fresh_after(0)
 }
 
-// The phase modulo TAU, from 0 to TAU. TAU itself is reached if the remainder is negative and too small to change TAU.
+// Both phases modulo TAU, from 0 to TAU. TAU itself is reached if a remainder is negative and too small to change TAU.
 pub fn reduce(state: State) -> State
     ensures { λ r. ⌜ r ≡ reducedOf state ⌝ }
 {
     let phase = waveform::reduced(state.phase);
+    let lfo = waveform::reduced(state.lfo);
     let mut next = state;
     next.phase = phase;
+    next.lfo = lfo;
     next
 }
 
@@ -99,9 +108,19 @@ pub fn act(settings: Settings, state: State, event: Event) -> State
     }
 }
 
-// The sample: the oscillator's value, times the envelope's level, times the velocity.
+// The sample: the oscillator's value, times the envelope's level, times the velocity, times the tremolo's factor.
 pub fn sample_of(settings: Settings, state: State) -> f64
     ensures { λ r. ⌜ r ≡ sampleOf settings state ⌝ }
+{
+    let lfo = settings.lfo;
+    let phase = state.lfo;
+    let step = waveform::increment(lfo.frequency, settings.rate);
+    dry(settings, state) * tremolo::factor(lfo, step, phase)
+}
+
+// The sample without tremolo.
+fn dry(settings: Settings, state: State) -> f64
+    ensures { λ r. ⌜ r ≡ dryOf settings state ⌝ }
 {
     let step = waveform::increment(state.frequency, settings.rate);
     let waveform = settings.waveform;
@@ -110,16 +129,19 @@ pub fn sample_of(settings: Settings, state: State) -> f64
     value * next_envelope(settings, state).level * state.velocity
 }
 
-// Oscillator and envelope advance by one sample.
+// Oscillator, envelope and LFO advance by one sample.
 pub fn advance(settings: Settings, state: State) -> State
     ensures { λ r. ⌜ r ≡ advanceOf settings state ⌝ }
 {
     let step = waveform::increment(state.frequency, settings.rate);
+    let lfo_step = waveform::increment(settings.lfo.frequency, settings.rate);
     let phase = Radians(state.phase.0 + step.0);
+    let lfo = Radians(state.lfo.0 + lfo_step.0);
     let envelope = next_envelope(settings, state);
     let mut next = state;
     next.phase = phase;
     next.envelope = envelope;
+    next.lfo = lfo;
     next
 }
 
@@ -132,11 +154,13 @@ fn in_limits(state: State) -> bool
     let frequency = state.frequency;
     let velocity = state.velocity;
     let keys = state.keys;
+    let lfo = state.lfo.0;
     domain::is_radians(phase)
         & envelope::is_envelope(envelope)
         & ((0.0 < frequency) & (frequency <= 12544.0))
         & floats::is_within(0.0, 1.0, velocity)
         & keys::is_keys(keys)
+        & domain::is_radians(lfo)
 }
 
 fn fresh_after(acted: u64) -> State
@@ -149,6 +173,7 @@ fn fresh_after(acted: u64) -> State
         velocity: 0.0,
         keys: keys::fresh_keys(),
         acted,
+        lfo: Radians(0.0),
     }
 }
 

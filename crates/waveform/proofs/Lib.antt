@@ -7,7 +7,7 @@ pub mod Loops
 pub mod Normal
 -- phase % TAU by integers
 pub mod Remainders
--- a value is an f64, and every sample of a block is finite
+-- a value is an f64 of at most 512 in size, and every sample of a block is finite
 pub mod Values
 -- two outcomes of a public function are equal
 pub mod Unique

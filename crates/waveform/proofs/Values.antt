@@ -1,27 +1,28 @@
--- Every sample of a block is finite, however long the block is: the phase grows to 2^60 at most, as 2^60 plus a step
--- rounds to 2^60, so each value is taken in its domain. And every value is an f64. Assumes nothing.
-use mathlib.Core.Path.{_≡_, refl, subst, sym}
-use mathlib.Core.Bool.{Bool, true, false, not}
+-- Every value in its domain is at most 512 in size. So every sample of a block is finite, however long the block is:
+-- the phase grows to 2^60 at most, as 2^60 plus a step rounds to 2^60. And every value is an f64. Assumes nothing.
+use mathlib.Core.Path.{_≡_}
 use Prim.Native.Nat.{ℕ, _<_}
 use lib.IntN.{pos}
 use lib.Dec.{T, eqb}
 use lib.ListN.{getD}
 use lib.Ieee.{Float, nan, binary64, ofBits, add, le, fits}
-use lib.Ieee.Fits.{and-i, and-l, and-r, cond-fits, add-fits, sub-fits, mul-fits, div-fits}
+use lib.Ieee.Fits.{and-i, cond-fits, add-fits, sub-fits, mul-fits, div-fits}
 use lib.Ieee.Scale.{finite}
 use Rattle.runs.proofs.Laws.{repeated-keeps}
-use Rattle.floats.specs.Range.{plusZero, plusOne, nonneg, within}
+use Rattle.floats.specs.Range.{nonneg, within}
 use Rattle.floats.specs.Double.{_⊕_, _⊖_, _⊗_, zero64, one, four}
-use Rattle.floats.proofs.Literals.{zeroOf-is, oneOf-is}
-use Rattle.floats.proofs.Order.{fle-trans, under, between-finite, not-le-le}
+use Rattle.floats.proofs.Literals.{oneOf-is}
+use Rattle.floats.proofs.Order.{fle-trans, under}
 use Rattle.floats.proofs.Monotone.{add-mono}
-use Rattle.floats.proofs.Ranges.{add-ge0, within-nonneg}
-use Rattle.floats.proofs.Scale.{scale-up-in, scale-down-in}
+use Rattle.floats.proofs.Ranges.{add-ge0}
+use Rattle.floats.proofs.OneWay.{times-one}
+use Rattle.floats.proofs.Bounded.{Size, size-finite, size-mul, size-widen}
 use Rattle.polyblep.specs.Polyblep.{sawOf, squareOf, pulseOf, triangleOf}
-use Rattle.polyblep.proofs.Finite.{Domain, saw-finite, square-finite, pulse-finite, triangle-finite}
+use Rattle.polyblep.proofs.Finite.{Domain, saw-size, square-size, pulse-size, triangle-size}
+pub use Rattle.polyblep.proofs.Finite.{ceiling, unit-size}
 use Rattle.sine.specs.Table.{quarter}
 use Rattle.sine.specs.Sine.{steps, scale, wholePart, float, betweenOf, pointOf, readingIn, readingOf}
-use Rattle.sine.proofs.Bounds.{reading-finite}
+use Rattle.sine.proofs.Bounds.{reading-sized}
 use Rattle.waveform.specs.declared.Waveform.{Waveform}
 use Rattle.waveform.specs.declared.Waveform.the-variants.{Sine, Square, Sawtooth, Triangle, Pulse}
 use Rattle.waveform.specs.Waveform.{invTau, isWaveform, valueOf, normalOf}
@@ -48,22 +49,33 @@ value-fits Sawtooth phase dt = sub-fits binary64 _ _
 value-fits Triangle phase dt = sub-fits binary64 _ _
 value-fits (Pulse duty) phase dt = sub-fits binary64 _ _
 
--- in the domain of one sample the value is finite
-pub value-finite : (w : Waveform) (phase dt : Float) → T (isWaveform w) → Domain phase dt → T (finite (valueOf w phase dt))
+-- ---- sizes
+-- in the domain of one sample the value is at most 512 in size
+pub value-size : (w : Waveform) (phase dt : Float) → T (isWaveform w) → Domain phase dt → Size ceiling (valueOf w phase dt)
 unfolding valueOf
-value-finite Sine phase dt s h = reading-finite phase
-value-finite Square phase dt s h = square-finite phase dt h
-value-finite Sawtooth phase dt s h = saw-finite phase dt h
-value-finite Triangle phase dt s h = triangle-finite phase dt h
-value-finite (Pulse duty) phase dt s h = pulse-finite phase dt h duty s
+value-size Sine phase dt s h = size-widen one ceiling (readingOf phase) (unfold ofBits in tt) (unfold ofBits in unfold le in tt) (reading-sized phase)
+value-size Square phase dt s h = square-size phase dt h
+value-size Sawtooth phase dt s h = saw-size phase dt h
+value-size Triangle phase dt s h = triangle-size phase dt h
+value-size (Pulse duty) phase dt s h = pulse-size phase dt h duty s
 
--- the value is finite at every finite phase in radians that is not negative
-pub value-at-finite : (w : Waveform) (step p : Float) → T (isWaveform w) → T (fits binary64 p) → T (nonneg p) → T (within zero64 four (step ⊗ invTau)) → T (finite (valueAt w step p))
-value-at-finite w step p c f n d =
+-- so it is at every finite phase in radians that is not negative
+pub value-at-size : (w : Waveform) (step p : Float) → T (isWaveform w) → T (fits binary64 p) → T (nonneg p) → T (within zero64 four (step ⊗ invTau)) → Size ceiling (valueAt w step p)
+value-at-size w step p c f n d =
     let u = normalOf p in
     let dt = step ⊗ invTau in
-    value-finite w u dt c
+    value-size w u dt c
     (record { t-fits = mul-fits binary64 _ invTau; dt-fits = mul-fits binary64 step invTau; in-range = and-i (within zero64 one u) (within zero64 four dt) (normal-in p f n) d })
+
+-- |x| ≤ b, an f64, and t from 0 to 1: |x * t| ≤ b, since b * 1 is b
+pub scaled-size : (b x t : Float) → T (fits binary64 b) → Size b x → T (within zero64 one t) → Size b (x ⊗ t)
+scaled-size b x t w s h = rw one-times at (size-mul binary64 b x one t s (unit-size t h) (rw one-times (s .bound)))
+  where
+    one-times : b ⊗ one ≡ b
+    one-times = rw (oneOf-is binary64) (times-one binary64 b w)
+
+pub ceiling-fits : T (fits binary64 ceiling)
+ceiling-fits = unfold ofBits in unfold fits in tt
 
 -- ---- the phase of a long block
 -- 2^60 and 16, in radians: a step of an accepted block is below 16
@@ -93,33 +105,9 @@ module _ (step p : Float) (s : T (nonneg step)) (l : T (le step sixteen)) (h : N
       grown q n = record { p-fits = add-fits binary64 q step; p-nonneg = under (q ⊕ step) far (add-ge0 binary64 q step (n .p-nonneg) s) (unfold ofBits in tt) (grown-le q n); p-le = grown-le q n }
 
 -- ---- samples
--- x * t is finite, for a finite x and a t from 0 to 1
-pub scaled-finite : (x t : Float) → T (fits binary64 x) → T (finite x) → T (within zero64 one t) → T (finite (x ⊗ t))
-scaled-finite x t w k h = go (le plusZero x) refl
-  where
-    inside : T (within plusZero plusOne t)
-    inside = subst T (within-is t) h
-      where
-        within-is : (t : Float) → within zero64 one t ≡ within plusZero plusOne t
-        within-is t = rw (zeroOf-is binary64, oneOf-is binary64) refl
-
-    t-nonneg : T (nonneg t)
-    t-nonneg = within-nonneg plusOne t tt inside
-
-    t-le : T (le t plusOne)
-    t-le = and-r (le plusZero t) (le t plusOne) inside
-
-    go : (b : Bool) → le plusZero x ≡ b → T (finite (x ⊗ t))
-    go true e =
-        let r = scale-up-in binary64 x t w k t-nonneg t-le (subst T (sym e) tt) in
-        between-finite plusZero (x ⊗ t) x tt k (and-l (le plusZero (x ⊗ t)) (le (x ⊗ t) x) r) (and-r (le plusZero (x ⊗ t)) (le (x ⊗ t) x) r)
-    go false e =
-        let r = scale-down-in binary64 x t w k t-nonneg t-le (not-le-le plusZero x tt k (subst (λ (b : Bool). T (not b)) (sym e) tt)) in
-        between-finite x (x ⊗ t) plusZero k tt (and-l (le x (x ⊗ t)) (le (x ⊗ t) plusZero) r) (and-r (le x (x ⊗ t)) (le (x ⊗ t) plusZero) r)
-
 module _ (w : Waveform) (step scale p : Float) (c : T (isWaveform w)) (s : T (nonneg step)) (l : T (le step sixteen)) (d : T (within zero64 four (step ⊗ invTau))) (t : T (within zero64 one scale)) (h : Near p) where
   pub samples-finite : (i n : ℕ) → i < n → T (finite (getD (samplesFrom w step scale p n) i nan))
   samples-finite i n lt =
       let q = phaseFrom step p i in
       let near = phase-near step p s l h i in
-      rw (sample-at (valueAt w step) step scale p i n lt) (scaled-finite (valueAt w step q) scale (value-fits w (normalOf q) (step ⊗ invTau)) (value-at-finite w step q c (near .p-fits) (near .p-nonneg) d) t)
+      rw (sample-at (valueAt w step) step scale p i n lt) (size-finite ceiling (valueAt w step q ⊗ scale) (scaled-size ceiling (valueAt w step q) scale ceiling-fits (value-at-size w step q c (near .p-fits) (near .p-nonneg) d) t))

@@ -8,6 +8,9 @@ use Rattle.ffi.proofs.choice_of.Tie as tie
 shape-of-requires : tie.Need-shape-of-requires
 shape-of-requires c κs = search needs
 
+shape-of-requires-2 : tie.Need-shape-of-requires-2
+shape-of-requires-2 c κs = search needs
+
 enum-known-shape : tie.Need-enum-known-shape
 enum-known-shape c = search needs
 
@@ -16,18 +19,41 @@ enum-told c = search needs
 
 returns : tie.Need-returns
 unfolding choiceOf
-returns c = let told = c .before in rw (← told .before .before .shape-of .ensures, told .shape .given .1) refl
+returns c =
+    let made = c .before .before in
+    rw (← made .before .shape-of .ensures, c .enum-told .given .1) refl
+
+enum-known-lfo-shape : tie.Need-enum-known-lfo-shape
+enum-known-lfo-shape c = search needs
+
+enum-told-2 : tie.Need-enum-told-2
+enum-told-2 c = search needs
 
 returns-2 : tie.Need-returns-2
 unfolding choiceOf
-returns-2 c = rw (← c .before .before .shape-of .ensures, c .enum-told .given .1) refl
+returns-2 c =
+    let known = c .before .before .before in
+    let made = known .before .before in
+    rw (← made .before .shape-of .ensures, known .shape .given .1, ← made .shape-of2 .ensures, c .enum-told2 .given .1) refl
+
+returns-3 : tie.Need-returns-3
+unfolding choiceOf
+returns-3 c =
+    let swaying = c .before in
+    let known = swaying .before .before .before in
+    let made = known .before .before in
+    rw (← made .before .shape-of .ensures, known .shape .given .1, ← made .shape-of2 .ensures, swaying .lfo-shape .given .1) refl
 
 pub choice-of-spec : {M : Type 1} → statement M
 choice-of-spec =
     tie.close
     (tie.spec
     shape-of-requires
+    shape-of-requires-2
     enum-known-shape
     enum-told
     returns
-    returns-2)
+    enum-known-lfo-shape
+    enum-told-2
+    returns-2
+    returns-3)

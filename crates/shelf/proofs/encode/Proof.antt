@@ -41,22 +41,26 @@ four-pairs-requires-3 c κs = search needs
 four-pairs-requires-4 : tie.Need-four-pairs-requires-4
 four-pairs-requires-4 c κs = search needs
 
+f64-bits-requires-7 : tie.Need-f64-bits-requires-7
+f64-bits-requires-7 c κs = search needs
+
 returns : tie.Need-returns
 unfolding entryOf
 returns c =
     rw (
-      c .four-pairs4 .ensures,
-      c .before .four-pairs3 .ensures,
-      c .before .before .four-pairs2 .ensures,
-      c .before .before .before .four-pairs .ensures,
-      c .before .before .before .before .f64-bits6 .ensures,
-      c .before .before .before .before .before .f64-bits5 .ensures,
-      c .before .before .before .before .before .before .packed-word .ensures,
-      c .before .before .before .before .before .before .before .f64-bits4 .ensures,
-      c .before .before .before .before .before .before .before .before .f64-bits3 .ensures,
-      c .before .before .before .before .before .before .before .before .before .f64-bits2 .ensures,
-      c .before .before .before .before .before .before .before .before .before .before .stage-word .ensures,
-      c .before .before .before .before .before .before .before .before .before .before .before .f64-bits .ensures,
+      c .f64-bits7 .ensures,
+      c .before .four-pairs4 .ensures,
+      c .before .before .four-pairs3 .ensures,
+      c .before .before .before .four-pairs2 .ensures,
+      c .before .before .before .before .four-pairs .ensures,
+      c .before .before .before .before .before .f64-bits6 .ensures,
+      c .before .before .before .before .before .before .f64-bits5 .ensures,
+      c .before .before .before .before .before .before .before .packed-word .ensures,
+      c .before .before .before .before .before .before .before .before .f64-bits4 .ensures,
+      c .before .before .before .before .before .before .before .before .before .f64-bits3 .ensures,
+      c .before .before .before .before .before .before .before .before .before .before .f64-bits2 .ensures,
+      c .before .before .before .before .before .before .before .before .before .before .before .stage-word .ensures,
+      c .before .before .before .before .before .before .before .before .before .before .before .before .f64-bits .ensures,
     ) refl
 
 pub encode-spec : {M : Type 1} → statement M
@@ -75,4 +79,5 @@ encode-spec =
     four-pairs-requires-2
     four-pairs-requires-3
     four-pairs-requires-4
+    f64-bits-requires-7
     returns)

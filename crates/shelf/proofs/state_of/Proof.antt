@@ -35,20 +35,24 @@ word-requires-5 c κs = search needs
 keys-of-requires : tie.Need-keys-of-requires
 keys-of-requires c κs = search needs
 
+float-requires-4 : tie.Need-float-requires-4
+float-requires-4 c κs = search needs
+
 returns : tie.Need-returns
 unfolding stateOf
 returns c =
     rw (
-      c .keys-of .ensures,
-      c .before .word5 .ensures,
-      c .before .before .word4 .ensures,
-      c .before .before .before .word3 .ensures,
-      c .before .before .before .before .word2 .ensures,
-      c .before .before .before .before .before .float3 .ensures,
-      c .before .before .before .before .before .before .float2 .ensures,
-      c .before .before .before .before .before .before .before .envelope-of .ensures,
-      c .before .before .before .before .before .before .before .before .float .ensures,
-      c .before .before .before .before .before .before .before .before .before .word .ensures,
+      c .float4 .ensures,
+      c .before .keys-of .ensures,
+      c .before .before .word5 .ensures,
+      c .before .before .before .word4 .ensures,
+      c .before .before .before .before .word3 .ensures,
+      c .before .before .before .before .before .word2 .ensures,
+      c .before .before .before .before .before .before .float3 .ensures,
+      c .before .before .before .before .before .before .before .float2 .ensures,
+      c .before .before .before .before .before .before .before .before .envelope-of .ensures,
+      c .before .before .before .before .before .before .before .before .before .float .ensures,
+      c .before .before .before .before .before .before .before .before .before .before .word .ensures,
     ) refl
 
 pub state-of-spec : {M : Type 1} → statement M
@@ -65,4 +69,5 @@ state-of-spec =
     word-requires-4
     word-requires-5
     keys-of-requires
+    float-requires-4
     returns)

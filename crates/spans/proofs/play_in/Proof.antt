@@ -3,6 +3,7 @@
 use borrow.Author.Needs.{needs}
 use Prim.Native.Nat.{_-_}
 use native.Mathlib.Omega.{arith}
+use borrow.Rule.Slice.PartMut.{mid-len}
 use lib.ListN.{length}
 use Rattle.spans.specs.Inner.{placeIn, Sees}
 use Rattle.spans.proofs.Loops.{Upto, begins, goes-on, ends}
@@ -40,7 +41,10 @@ part-play-span-end : tie.Need-part-play-span-end Inv-loop μ-loop
 part-play-span-end c = c .span-end .ensures .within
 
 play-span-requires : tie.Need-play-span-requires Inv-loop μ-loop
-play-span-requires c κs = c .before .before .before .before .before .before .before .before .before .pre
+play-span-requires c κs =
+    let at = c .before .before .before .before in
+    let end = c .before .span-end in
+    (at .before .before .before .before .before .pre, omega (arith, end .ensures .near, mid-len (at .loop .i) (end .result) (at .loop .part) (end .ensures .within)))
 
 loop-less : tie.Need-loop-less Inv-loop μ-loop
 loop-less c = omega arith

@@ -8,15 +8,15 @@ use Rattle.state.proofs.sample_of.Tie as tie
 increment-requires : tie.Need-increment-requires
 increment-requires c κs = search needs
 
-wave-at-requires : tie.Need-wave-at-requires
-wave-at-requires c κs = search needs
+dry-requires : tie.Need-dry-requires
+dry-requires c κs = search needs
 
-next-envelope-requires : tie.Need-next-envelope-requires
-next-envelope-requires c κs = search needs
+factor-requires : tie.Need-factor-requires
+factor-requires c κs = search needs
 
 returns : tie.Need-returns
 unfolding sampleOf
-returns c = rw (c .before .before .next-envelope .ensures, c .before .before .before .wave-at .ensures, c .before .before .before .before .before .increment .ensures) refl
+returns c = rw (c .factor .ensures, c .before .dry .ensures, c .before .before .increment .ensures) refl
 
 pub sample-of-spec : {M : Type 1} → statement M
-sample-of-spec = tie.close (tie.spec increment-requires wave-at-requires next-envelope-requires returns)
+sample-of-spec = tie.close (tie.spec increment-requires dry-requires factor-requires returns)

@@ -1,0 +1,11 @@
+/* The settings as the calls take them one by one, declared and handed on, for what is linked around a call (gcc's
+ * --wrap). */
+#ifndef SETTINGS_H
+#define SETTINGS_H
+
+#define SETTINGS                                                                                                       \
+    uint32_t rate, uint32_t code, double duty, double attack, double decay, double sustain, double release,            \
+        uint32_t lfo_code, double lfo_duty, double lfo_frequency, double lfo_depth
+#define GIVEN rate, code, duty, attack, decay, sustain, release, lfo_code, lfo_duty, lfo_frequency, lfo_depth
+
+#endif
