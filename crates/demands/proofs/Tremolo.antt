@@ -4,11 +4,11 @@ use mathlib.Core.Path.{_≡_, refl, subst, ap, _∙_}
 use mathlib.Core.Bool.{Bool, true, false, _&&_, _||_}
 use mathlib.Core.List.{List}
 use Prim.Native.Nat.{ℕ, zero, suc, _+_, _%_, _<_}
-use native.Mathlib.Nat.{add-zero, zero-add}
+use native.Mathlib.Nat.{add-zero}
 use native.Mathlib.Omega.{arith}
 use lib.Dec.{T, eqb}
 use lib.ListN.{length, getD}
-use lib.Ieee.{Float, nan, binary64, fits}
+use lib.Ieee.{Float, nan}
 use lib.Ieee.Fits.{and-i, and-l, and-r}
 use Rattle.runs.specs.Runs.{run, listed}
 use Rattle.runs.proofs.Listed.{listed-at, listed-same}
@@ -21,12 +21,9 @@ use Rattle.waveform.specs.Filled.{phaseFrom, valueAt, samplesBy}
 use Rattle.envelope.specs.Limits.{isAdsr}
 use Rattle.blocks.specs.declared.Ran.{Ran}
 use Rattle.blocks.specs.Block.{isSetting, isTone, runOf}
-use Rattle.lfo.specs.declared.Processed.{Processed}
 use Rattle.lfo.specs.Lfo.{toneOf}
 use Rattle.tremolo.specs.Tremolo.{isLfo, lfoAt, factorOf}
-use Rattle.score.specs.declared.Verdict.the-variants.{Accepted}
 use Rattle.score.specs.Record.{countOf, positionAt}
-use Rattle.score.specs.Score.{verdictOf}
 use Rattle.state.specs.declared.Settings.{Settings}
 use Rattle.state.specs.declared.State.{State}
 use Rattle.state.specs.Settings.{settingsOk}

@@ -1,5 +1,6 @@
-// The calls on scores from lists, under the pad's settings, a slowly falling sawtooth. Outputs come in pairs, and so do
-// their shelves: the first half is what is tried, the second half what it should be.
+// The calls on scores from lists, under the pad's settings: a slowly falling sawtooth, with a tremolo of 5 Hz, so that
+// every comparison holds the LFO's phase too. Outputs come in pairs, and so do their shelves: the first half is what is
+// tried, the second half what it should be.
 use crate::records;
 
 pub fn check(list: &[u64]) -> u64 {
@@ -42,6 +43,10 @@ pub fn continue_call(list: &[u64], state: &mut [u64], position: u64, part: &mut 
         10.0,
         0.2,
         5.0,
+        3,
+        0.5,
+        5.0,
+        0.6,
         some,
         state,
         position,
@@ -50,8 +55,8 @@ pub fn continue_call(list: &[u64], state: &mut [u64], position: u64, part: &mut 
 }
 
 // The fresh state, but with so many records acted.
-pub fn at_rest(acted: u64) -> [u64; 12] {
-    let mut state = [0u64; 12];
+pub fn at_rest(acted: u64) -> [u64; 13] {
+    let mut state = [0u64; 13];
     ffi::gav_fresh(&mut state);
     state[5] = 255 + 65536 * (acted % 8);
     state
@@ -61,7 +66,22 @@ fn whole(list: &[u64], out: &mut [f64], shelf: &mut [u64]) -> u64 {
     let score = records::bytes(list);
     let size = records::size(list);
     let some = &score[0..size];
-    ffi::gav_render(8000, 2, 0.5, 0.01, 10.0, 0.2, 5.0, some, out, shelf)
+    ffi::gav_render(
+        8000,
+        2,
+        0.5,
+        0.01,
+        10.0,
+        0.2,
+        5.0,
+        3,
+        0.5,
+        5.0,
+        0.6,
+        some,
+        out,
+        shelf,
+    )
 }
 
 fn again(old: &[u64], new: &[u64], out: &mut [f64], shelf: &mut [u64]) -> u64 {
@@ -71,5 +91,21 @@ fn again(old: &[u64], new: &[u64], out: &mut [f64], shelf: &mut [u64]) -> u64 {
     let is = records::size(new);
     let first = &before[0..was];
     let last = &after[0..is];
-    ffi::gav_rerender(8000, 2, 0.5, 0.01, 10.0, 0.2, 5.0, first, last, out, shelf)
+    ffi::gav_rerender(
+        8000,
+        2,
+        0.5,
+        0.01,
+        10.0,
+        0.2,
+        5.0,
+        3,
+        0.5,
+        5.0,
+        0.6,
+        first,
+        last,
+        out,
+        shelf,
+    )
 }

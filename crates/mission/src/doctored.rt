@@ -24,12 +24,12 @@ const NEW: [u64; 5] = [
 const PACKED: u64 = 55 + 256 + 512 * 2 + 65536 * 2;
 
 // How many of the changes, from the first on, leave the entry within its limits; the others lead outside.
-const WITHIN: usize = 20;
+const WITHIN: usize = 23;
 
-const CHANGES: usize = 56;
+const CHANGES: usize = 62;
 
 // What each change writes into a word of the entry, floats by their bits.
-const BITS: [u64; 56] = [
+const BITS: [u64; 62] = [
     // The ends of the limits, and values that no render leads to.
     0, // 0.0
     0x8000_0000_0000_0000, // -0.0
@@ -51,6 +51,9 @@ const BITS: [u64; 56] = [
     0, // 0.0
     0x3ff0_0000_0000_0000, // 1.0
     0x7f7f_0000,
+    0, // 0.0
+    0x8000_0000_0000_0000, // -0.0
+    0x408f_3f33_3333_3333, // 999.9
     // Floats just past their ends, NaNs, an infinity, pairs out of range or beyond the held count.
     0x408f_4000_0000_0000, // 1000.0
     0x8000_0000_0000_0001,
@@ -75,6 +78,9 @@ const BITS: [u64; 56] = [
     1,
     0x100,
     0x0100_0000_0000_0000,
+    0x408f_4000_0000_0000, // 1000.0
+    0x8000_0000_0000_0001,
+    0x7ff8_0000_0000_0000,
     // A note above 127, a gate that does not fit the note, more than 16 held, fewer held than there are pairs, and
     // numbers of records acted that are not the score's.
     PACKED + 73,
@@ -95,16 +101,16 @@ const BITS: [u64; 56] = [
 
 pub fn played() {
     let mut pair = [0.0; 8800];
-    let mut shelves = [0u64; 48];
+    let mut shelves = [0u64; 52];
     calls::render(&OLD, &mut pair, &mut shelves);
     calls::render_beside(&OLD, &mut pair, &mut shelves);
-    told::text(b"20 doctored entries within the limits, re-render / continued / what differs: ");
+    told::text(b"23 doctored entries within the limits, re-render / continued / what differs: ");
     all(0, WITHIN, shelves, &mut pair);
-    told::text(b"36 doctored entries outside: ");
+    told::text(b"39 doctored entries outside: ");
     all(WITHIN, CHANGES, shelves, &mut pair);
 }
 
-fn all(from: usize, to: usize, shelves: [u64; 48], pair: &mut [f64; 8800]) {
+fn all(from: usize, to: usize, shelves: [u64; 52], pair: &mut [f64; 8800]) {
     let mut number = 0;
     let mut k = from;
     while k < to {
@@ -117,7 +123,7 @@ fn all(from: usize, to: usize, shelves: [u64; 48], pair: &mut [f64; 8800]) {
 
 // The re-render from the entry in the first half, and the continuing call from the same words in the second, must
 // agree.
-fn one(doctored: [u64; 48], pair: &mut [f64; 8800]) -> u64 {
+fn one(doctored: [u64; 52], pair: &mut [f64; 8800]) -> u64 {
     let mut shelves = doctored;
     told::count(calls::rerender(&OLD, &NEW, pair, &mut shelves) % 256, b"/");
     let kept = compared::words(&shelves);
@@ -130,21 +136,21 @@ fn continued(pair: &mut [f64], shelves: &mut [u64]) -> u64 {
     if pair.len() < 8496 {
         return 0;
     }
-    if shelves.len() < 36 {
+    if shelves.len() < 39 {
         return 0;
     }
-    calls::continue_call(&NEW, &mut shelves[36..], 4096, &mut pair[8496..])
+    calls::continue_call(&NEW, &mut shelves[39..], 4096, &mut pair[8496..])
 }
 
 // The letter of each change names its word, in both halves: a is the entry's first word.
-fn changed(shelves: [u64; 48], change: usize) -> [u64; 48] {
-    let words = b"aaabbbbccddeffggghhiaaaaacccddeeggghhiiijklffffffffffbbb";
+fn changed(shelves: [u64; 52], change: usize) -> [u64; 52] {
+    let words = b"aaabbbbccddeffggghhimmmaaaaacccddeeggghhiiijklmmmffffffffffbbb";
     let mut next = shelves;
     if change < CHANGES {
-        let word = 11 + (words[change] % 32) as usize;
-        if word < 24 {
+        let word = 12 + (words[change] % 32) as usize;
+        if word < 26 {
             next[word] = BITS[change];
-            next[24 + word] = BITS[change];
+            next[26 + word] = BITS[change];
         }
     }
     next

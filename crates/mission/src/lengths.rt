@@ -12,9 +12,9 @@ pub fn played() {
     told::text(b"N = 0: ");
     ended(&mut [0.0; 0], &mut [0u64; 0]);
     told::text(b"N = 4096: ");
-    ended(&mut [0.0; 8192], &mut [0u64; 24]);
+    ended(&mut [0.0; 8192], &mut [0u64; 26]);
     told::text(b"N = 4097: ");
-    ended(&mut [0.0; 8194], &mut [0u64; 48]);
+    ended(&mut [0.0; 8194], &mut [0u64; 52]);
 }
 
 fn ended(pair: &mut [f64], shelves: &mut [u64]) {

@@ -17,7 +17,7 @@ const NONE: u64 = 20000_2_060_000;
 
 pub fn played() {
     let mut pair = [0.0; 40000];
-    let mut shelves = [0u64; 120];
+    let mut shelves = [0u64; 130];
     told::text(b"a falling pad: ");
     edits::begun(&score(0), &mut pair, &mut shelves);
     told::text(b"its first sample and word spoiled, so that 1 of each differs from here on:\n");
@@ -26,7 +26,7 @@ pub fn played() {
     edited(&mut pair, &mut shelves);
 }
 
-fn edited(pair: &mut [f64; 40000], shelves: &mut [u64; 120]) {
+fn edited(pair: &mut [f64; 40000], shelves: &mut [u64; 130]) {
     let mut k = 0;
     while k < 5 {
         named(k);

@@ -26,13 +26,13 @@ pub fn played() {
 // call the output must be a render of `after`.
 fn asked(score: &[u64], like: &[u64], after: &[u64]) {
     let mut pair = [0.0; 600];
-    let mut shelves = [0u64; 24];
+    let mut shelves = [0u64; 26];
     calls::render(&BEFORE, &mut pair, &mut shelves);
     calls::render_beside(after, &mut pair, &mut shelves);
     answered(score, like, &mut pair, &mut shelves);
 }
 
-fn answered(score: &[u64], like: &[u64], pair: &mut [f64; 600], shelves: &mut [u64; 24]) {
+fn answered(score: &[u64], like: &[u64], pair: &mut [f64; 600], shelves: &mut [u64; 26]) {
     told::answer(calls::check(score));
     told::render(score, pair, shelves);
     told::rerender(score, like, pair, shelves);
