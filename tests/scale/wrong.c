@@ -1,16 +1,12 @@
 /* Wrong libraries: each is put between the program at scale and the library (gcc's --wrap) and spoils one thing of one
  * call. WRONG in the environment chooses it, from 1 on; 0 spoils nothing, and one past the last says how many there
  * are. */
+#include "../settings.h"
 #include "scale.h"
 
 #include <math.h>
 #include <stdio.h>
 #include <stdlib.h>
-
-#define SETTINGS                                                                                                       \
-    uint32_t rate, uint32_t code, double duty, double attack, double decay, double sustain, double release,            \
-        uint32_t lfo_code, double lfo_duty, double lfo_frequency, double lfo_depth
-#define GIVEN rate, code, duty, attack, decay, sustain, release, lfo_code, lfo_duty, lfo_frequency, lfo_depth
 
 uint64_t __real_gav_check_score(const uint8_t *score, size_t len);
 uint64_t __real_gav_list(const uint8_t *score, size_t len, uint8_t *text, size_t text_len);
