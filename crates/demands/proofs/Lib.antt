@@ -21,5 +21,5 @@ pub mod Demand3
 pub mod Edits
 -- an edit that meets demand 3's premises, and two that meet those of `AnyEdits`, over rubbish
 pub mod Example
--- between two reductions the tremolo's LFO is the ported block
+-- between two reductions the tremolo's LFO is the ported block, and depth 0 is no tremolo
 pub mod Tremolo

@@ -1,5 +1,6 @@
--- The tremolo's LFO is the ported block. Where no phase is reduced no record acts either, so between two reductions the
--- LFO's phase grows as the block's does. Assumes nothing.
+-- The tremolo's LFO is the ported block: where no phase is reduced no record acts either, so between two reductions the
+-- LFO's phase grows as the block's does. And depth 0 is no tremolo, by `state`'s laws of every sample, from the fresh
+-- state. Assumes nothing.
 use mathlib.Core.Path.{_≡_, refl, subst, ap, _∙_}
 use mathlib.Core.Bool.{Bool, true, false, _&&_, _||_}
 use mathlib.Core.List.{List}
@@ -13,6 +14,7 @@ use lib.Ieee.Fits.{and-i, and-l, and-r}
 use Rattle.runs.specs.Runs.{run, listed}
 use Rattle.runs.proofs.Listed.{listed-at, listed-same}
 use Rattle.floats.specs.Double.{_⊕_, _⊗_}
+use Rattle.floats.proofs.Zeros.{Silent, zero-is}
 use Rattle.answers.specs.Outcome.{Outcome, leaves}
 use Rattle.answers.specs.declared.Answer.the-variants.{Done}
 use Rattle.domain.specs.Domain.{highestLfo, isRate, isFrequency, isDepth, isRadians}
@@ -29,9 +31,11 @@ use Rattle.state.specs.declared.State.{State}
 use Rattle.state.specs.Settings.{settingsOk}
 use Rattle.state.specs.State.{freshOf, lfoStepOf, dryOf, sampleOf, advanceOf}
 use Rattle.state.specs.Heart.{hasAt, reducesAt, actTo, begun, stateFrom, samplesFrom}
-use Rattle.state.proofs.Limits.{is-true, from-true, in-kept}
+use Rattle.state.proofs.Fits.{fresh-fits}
+use Rattle.state.proofs.Limits.{is-true, from-true, in-kept, fresh-in}
 use Rattle.state.proofs.Stays.{fresh-begun-kept}
-use Rattle.demands.specs.Tremolo.{blockAt, portedOf, heardAt, NoneReduced, Ported, LfoIsPorted}
+use Rattle.state.proofs.Samples.{every-sample-dry, flat-same}
+use Rattle.demands.specs.Tremolo.{blockAt, portedOf, heardAt, NoneReduced, Ported, LfoIsPorted, IsDepth0, Depth0IsDry}
 
 -- ---- a sample whose phases are not reduced
 neither : (a b : Bool) → a || b ≡ false → (a ≡ false) × (b ≡ false)
@@ -135,7 +139,7 @@ module _ (g : Settings) (s : List ℕ) where
               phase = ap (λ (o : Outcome Ran). o .result .phase) (call-done xs) ∙ rw (e, grown k (phase-at k c)) refl;
             }
 
--- ---- the theorem
+-- ---- the theorems
 from-any : (g : Settings) → settingsOk g ≡ true → (s : List ℕ) (n : ℕ) (v : State) → T (isRadians (begun g s n v .lfo .0)) → (k : ℕ) → 0 < k → NoneReduced s n k
     → (xs : List Float) → length xs ≡ k → Ported g s n v k xs
 from-any g ok s n v t zero h = absurd (omega arith)
@@ -146,4 +150,15 @@ lfo-is-ported =
     record {
       from-any = from-any;
       in-a-render = λ g ok w s m a n. from-any g ok s n (stateFrom g s 0 (freshOf 0) n) (in-kept _ (fresh-begun-kept g ok w s m a n) .lfo-in);
+    }
+
+silent : (depth : Float) → IsDepth0 depth → Silent depth
+silent depth z = zero-is depth (z .is-f64) (z .is-zero)
+
+pub depth-0-is-dry : Depth0IsDry
+unfolding samplesFrom stateFrom
+depth-0-is-dry =
+    record {
+      samples = λ g ok w z s m a k. listed-same _ _ k (λ i h. every-sample-dry s m a 0 g ok w (freshOf 0) (fresh-fits 0) (fresh-in 0) (silent (g .lfo .depth) z) i);
+      any-lfo = λ g l ok ok' w z z' s m a k. flat-same s m a 0 g l ok ok' w (silent (g .lfo .depth) z) (silent (l .depth) z') (freshOf 0) (freshOf 0) (fresh-fits 0) (fresh-fits 0) (fresh-in 0) (fresh-in 0) refl k;
     }

@@ -64,7 +64,7 @@ fn planned(old: &[u8], new: &[u8], samples: usize) -> Plan
     }
 }
 
-// From the state that the shelf keeps for the start of section `mark`, or refusal 8.
+// From the state that the shelf keeps for the start of the section, or refusal 8.
 fn rerender_from(
     settings: Settings,
     old: &[u8],

@@ -13,7 +13,7 @@ use shelf::SECTION_SIZE;
 use spans::Place;
 use state::Settings;
 
-// Plays the samples from section `mark` on, and keeps the entries from that section on. The first sample of section k
+// Plays the samples from a section on, and keeps the entries from that section on. The first sample of section k
 // is 4096 k. If that is at or past the end, or the shelf does not fit the output, nothing is changed.
 pub fn play_on(
     settings: Settings,

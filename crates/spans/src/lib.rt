@@ -1,6 +1,6 @@
 // Plays a part of the output, span by span (01, "Making sample n"). A span begins at each multiple of 64 and at each
-// position of a record; there the phase is reduced and the records act. It ends where the next span begins, or at the
-// end of the part, which reduces nothing.
+// position of a record; there both phases are reduced and the records act. It ends where the next span begins, or at
+// the end of the part, which reduces nothing.
 // A sample is counted by its offset in the part, which starts at a position in the output, so that no sum overflows a
 // u64. The calls above do the judging.
 ghost use mathlib.Core.Path.{_≡_};
@@ -143,7 +143,7 @@ fn walker_at(score: &[u8], place: Place, position: u64) -> Walker
     }
 }
 
-// Begins a sample: reduces the phase if a span begins here, and lets the records here act, one after the other.
+// Begins a sample: reduces both phases if a span begins here, and lets the records here act, one after the other.
 fn begin(settings: Settings, score: &[u8], walker: Walker, position: u64, offset: usize) -> Walker
     requires { ⌜ Sees (now score) position walker ⌝ }
     ensures { λ r. ⌜ At (now (score .entry)) position (begunFrom settings (now (score .entry)) (position + offset) (placeIn walker)) r ⌝ }

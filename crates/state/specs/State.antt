@@ -3,7 +3,8 @@
 -- voice, envelope and phase to their fresh state. Then the sample is oscillator value * envelope level * velocity, left
 -- to right, and both advance. Frequency is always the voice's own (440 when fresh)."
 -- 02, R-7: "The sample is multiplied last by (1 - depth/2 + lfo/2), where lfo is the ported block's scaled value. Its
--- phase is reduced at the same moments as the oscillator's, set to 0 by a reset record". Ons and offs leave it.
+-- phase is reduced at the same moments as the oscillator's, set to 0 by a reset record". When they act, ons and offs
+-- leave it.
 -- A reset does not set the number of records acted to 0: it is counted as one more. Definitions only.
 use mathlib.Core.Bool.{Bool, true, cond}
 use Prim.Native.Nat.{ℕ, _+_}
@@ -46,6 +47,7 @@ freshOf acted = record { phase = radians zero64; envelope = envelope.freshOf; fr
 -- ---- the state with some fields changed. Who adds a field to `State` adds it to these definitions, to `freshOf`, to
 -- `withActed` of ButActed.antt, to `withLfoPhase` of ButLfo.antt and to `stateOf` of the crate `shelf`, which name all
 -- fields; and, where it has limits and words, to `inLimits` of Limits.antt and to shelf's `entryOf` and `entryWords`
+
 -- the phases of the oscillator and of the LFO
 abbrev pub withPhases : State → Float → Float → State
 withPhases v p q = record { phase = radians p; envelope = v .envelope; frequency = v .frequency; velocity = v .velocity; keys = v .keys; acted = v .acted; lfo = radians q }

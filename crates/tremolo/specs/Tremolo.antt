@@ -18,7 +18,7 @@ use Rattle.waveform.specs.Waveform.{isWaveform}
 use Rattle.waveform.specs.Filled.{valueAt}
 use Rattle.tremolo.specs.declared.Lfo.{Lfo}
 
--- the LFO of settings that a render accepts, at depth 0 too
+-- an LFO that a render accepts; at depth 0 waveform and frequency are judged all the same
 abbrev pub isLfo : Lfo → Bool
 isLfo l = isWaveform (l .waveform) && isFrequency highestLfo (l .frequency) && isDepth (l .depth)
 

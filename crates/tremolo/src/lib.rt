@@ -34,7 +34,7 @@ pub fn factor(lfo: Lfo, step: Radians, phase: Radians) -> f64
     1.0 - depth / 2.0 + value / 2.0
 }
 
-// Whether the factor is 1 at this phase and at every later one: depth 0, and finite values of the LFO.
+// Whether the factor is known to be 1 at this phase and at every later one: depth 0, and finite values of the LFO.
 pub fn is_flat(lfo: Lfo, step: Radians, phase: Radians) -> bool
     ensures { λ r. ⌜ r ≡ isFlat lfo (step .0) (phase .0) ⌝ }
 {
