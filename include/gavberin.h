@@ -20,8 +20,8 @@
  *  - nothing else writes to a buffer during a call, and nothing else reads one that is written;
  *  - the processor's arithmetic is as C starts it: it rounds to nearest, and keeps numbers near 0 as they are.
  *
- * What a call takes: nothing from the heap, no system call, at most 64 KB of stack (measured: 40 KB, and 7 KB but for a
- * sine of 1,024 samples or more), more only where a call says so, and time in proportion to the records and samples
+ * What a call takes: nothing from the heap, no system call, at most 64 KB of stack (measured: 45 KB, and 8 KB but for a
+ * sine, of the oscillator or the LFO, over 1,024 samples or more), and time in proportion to the records and samples
  * that it is given. Calls keep nothing between them, so any number of threads may call at once, on buffers of their
  * own, and the callback of a sound driver may call.
  *
@@ -49,6 +49,7 @@
  *            upper 8, each 0 to 127. Past the held keys all bits are 0
  *    12      phase of the LFO, the tremolo's slow oscillator, a float: radians, 0 or more and below 1,000
  * Words outside these limits are no state. A host may keep words, copy them and hand them back; it need not read them.
+ * Words that version 1 left have no word 12: an old shelf is refused, 7, and an old state, 10.
  */
 #ifndef GAVBERIN_H
 #define GAVBERIN_H
@@ -92,8 +93,8 @@ enum gav_answer {
     GAV_START_ENTRY = 8,       /* re-render: the entry to start from is no state, or the new score has another number of
                                   records before it than have acted */
     GAV_ARGUMENT = 9,          /* another argument outside its limits */
-    GAV_GIVEN_STATE = 10,      /* continue: the state is none, or the score has another number of records before its
-                                  position than have acted */
+    GAV_GIVEN_STATE = 10,      /* continue: the words are no state, or the score has another number of records before
+                                  its position than have acted */
     GAV_NEW_SCORE_LENGTH = 17, /* 17 to 21: as 1 to 5, of a re-render's new score */
     GAV_NEW_SCORE_MARK = 18,
     GAV_NEW_SCORE_KIND = 19,
@@ -175,8 +176,9 @@ static inline uint64_t gav_render_with(const struct gav_settings *s, const uint8
 }
 
 /* Makes the output and shelf of an old score those of a new one, under the same settings: starts at the section that
- * holds the position of the first changed record, and writes from the start of that section to the end. The count is
- * the samples written; 0, and nothing written, where the scores are equal or the first change lies at n or later.
+ * holds the position of the first changed record (of two different records at one index the lower position), and writes
+ * from the start of that section to the end. The count is the samples written; 0, and nothing written, where the scores
+ * are equal or the first change lies at n or later.
  * old, old_len:   the score that out and shelf were rendered of
  * new_, new_len:  the score to render now; it may be the same buffer
  * out, n; shelf, words: as for gav_render, holding what gav_render or the last gav_rerender left. What lies before the
@@ -197,7 +199,8 @@ static inline uint64_t gav_rerender_with(const struct gav_settings *s, const uin
  * record that is added below the position already reached is 10. The count is n.
  * score, score_len:   the score so far
  * state, state_words: GAV_STATE_WORDS words; else 10. The state before the sample at position; when done, the state
- *                     after the part
+ *                     after the part. From words that a host has made up, with a phase near 1,000, a phase after the
+ *                     part may have passed 1,000; the next call is 10 then
  * position:           the sample that part begins with
  * part, n:            the samples; position + n is at most GAV_MOST_SAMPLES, else 7. All are written */
 uint64_t gav_continue(uint32_t rate, uint32_t code, double duty, double attack, double decay, double sustain,

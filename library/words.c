@@ -28,9 +28,9 @@ static const struct {
     {GAV_START_ENTRY, "the shelf's entry to start from is no state, or has acted on another number of records than the "
                       "new score has before it"},
     {GAV_ARGUMENT, "an argument is outside its limits"},
-    {GAV_GIVEN_STATE,
-     "the state to continue from is none, or has acted on another number of records than the score has "
-     "before its position"},
+    {GAV_GIVEN_STATE, "the words to continue from are no state, or a state that has acted on another number of records "
+                      "than the score has "
+                      "before its position"},
     {GAV_NEW_SCORE_LENGTH, "the new score" LENGTH},
     {GAV_NEW_SCORE_MARK, NEW_RECORD MARK},
     {GAV_NEW_SCORE_KIND, NEW_RECORD KIND},

@@ -98,15 +98,23 @@ static uint64_t rerender_start(void) {
     return rerender_of(score, score, 0);
 }
 
-static uint64_t continue_of(uint32_t code) {
+/* In parts of so many samples. */
+static uint64_t continue_by(uint32_t code, size_t most) {
     uint64_t said = gav_fresh(state, GAV_STATE_WORDS);
     settings.code = code;
-    for (size_t at = 0; at < N && said == 0; at += 997) {
-        size_t n = N - at < 997 ? N - at : 997;
+    for (size_t at = 0; at < N && said == 0; at += most) {
+        size_t n = N - at < most ? N - at : most;
         said = gav_number(gav_continue_with(&settings, score, sizeof score, state, GAV_STATE_WORDS, at, out, n));
     }
     return said;
 }
+static uint64_t continue_of(uint32_t code) { return continue_by(code, 997); }
+static uint64_t continue_whole(uint32_t code) { return continue_by(code, N); }
+static uint64_t long_sine(void) { return continue_whole(GAV_SINE); }
+static uint64_t long_sines_both(void) { return tremolo_of(GAV_SINE, GAV_SINE, continue_whole); }
+static uint64_t long_tremolo_of_sine(void) { return tremolo_of(GAV_SINE, GAV_TRIANGLE, continue_whole); }
+static uint64_t long_tremolo_sine(void) { return tremolo_of(GAV_SAWTOOTH, GAV_SINE, continue_whole); }
+static uint64_t long_pulse(void) { return tremolo_of(GAV_PULSE, GAV_PULSE, continue_whole); }
 static uint64_t continue_sine(void) { return continue_of(GAV_SINE); }
 static uint64_t continue_triangle(void) { return continue_of(GAV_TRIANGLE); }
 static uint64_t continue_pulse(void) { return continue_of(GAV_PULSE); }
@@ -123,6 +131,10 @@ static const struct call long_sines[] = {
     {"gav_render, sine, with a tremolo of a sine", tremolo_sines, 0},
     {"gav_render, sine, with a tremolo of a triangle", tremolo_of_sine, 0},
     {"gav_render, sawtooth, with a tremolo of a sine", tremolo_sine, 0},
+    {"gav_continue, a long sine", long_sine, 0},
+    {"gav_continue, a long sine, with a tremolo of a sine", long_sines_both, 0},
+    {"gav_continue, a long sine, with a tremolo of a triangle", long_tremolo_of_sine, 0},
+    {"gav_continue, a long sawtooth, with a tremolo of a sine", long_tremolo_sine, 0},
 };
 
 static const struct call calls[] = {
@@ -155,6 +167,7 @@ static const struct call calls[] = {
     {"gav_continue, pulse", continue_pulse, 0},
     {"gav_continue, sawtooth, with a tremolo of a sine", continue_tremolo, 0},
     {"gav_continue, sine, with a tremolo of a triangle", continue_tremolos, 0},
+    {"gav_continue, a long pulse, with a tremolo of a pulse", long_pulse, 0},
     {"gav_continue, refused", continue_refused, GAV_GIVEN_STATE},
 };
 
