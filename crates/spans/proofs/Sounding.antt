@@ -28,7 +28,7 @@ use Rattle.state.specs.declared.Settings.{Settings}
 use Rattle.state.specs.declared.State.{State}
 use Rattle.state.specs.State.{withPhases, withEnvelope, phaseStepOf, lfoStepOf, dryOf, sampleOf, advanceOf}
 use Rattle.spans.specs.Inner.{spanState, spanSamples, IsWaveTable, SpanPlayed, AllFit, swayedTo, Swayed}
-use Rattle.spans.proofs.Swaying.{filled-long}
+use Rattle.spans.proofs.Swaying.{filled-long, times-one-is}
 
 -- the two inner loops keep the length of a part
 pub sounding-long : (value : Float → Float) (p step scale : Float) (k : Adsr) (t : Float) (d : Envelope) (velocity : Float) (ws xs ys : List Float) (r : Radians) (e : Envelope) → FilledBy value p step scale ws xs r → Scaled k t d velocity xs ys e
@@ -49,9 +49,6 @@ module _ (g : Settings) (v : State) where
   abbrev values : ℕ → List Float
   values n = samplesFrom (g .waveform) (phaseStepOf g v) one (v .phase .0) n
 
-  times-one-is : (p : Float) → valueAt (g .waveform) (phaseStepOf g v) p ⊗ one ≡ valueAt (g .waveform) (phaseStepOf g v) p
-  times-one-is p = rw (oneOf-is binary64) (times-one binary64 _ (value-fits (g .waveform) (normalOf p) (phaseStepOf g v ⊗ invTau)))
-
   -- the samples without tremolo
   drySamples : ℕ → List Float
   drySamples k = listed (λ (i : ℕ). dryOf g (spanState g v i)) k
@@ -61,7 +58,7 @@ module _ (g : Settings) (v : State) where
   unfolding scaledTo drySamples dryOf envelopeFrom run
   scaled-is n k h =
       listed-same _ _ k
-      (λ i l. rw (advances-is i, sample-at (valueAt (g .waveform) (phaseStepOf g v)) (phaseStepOf g v) one (v .phase .0) i n (omega arith), times-one-is (phaseFrom (phaseStepOf g v) (v .phase .0) i)) refl)
+      (λ i l. rw (advances-is i, sample-at (valueAt (g .waveform) (phaseStepOf g v)) (phaseStepOf g v) one (v .phase .0) i n (omega arith), times-one-is (g .waveform) (phaseStepOf g v) (phaseFrom (phaseStepOf g v) (v .phase .0) i)) refl)
 
   -- a sample without tremolo is a product, so an f64
   dry-at : (n i : ℕ) → i < n → getD (drySamples n) i nan ≡ dryOf g (spanState g v i)

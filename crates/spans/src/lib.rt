@@ -254,7 +254,8 @@ fn sway(wave: &[f64], settings: Settings, phase: Radians, part: &mut [f64]) -> R
     sway_by(wave, settings, phase, &mut values, part)
 }
 
-// The LFO's values go into a list of their own, and each sample is multiplied by the factor of its value.
+// The LFO's values go into a list of their own, and each sample is multiplied by the factor of its value. They are made
+// with scale 1, as the oscillator's are: so the compiler makes one inner loop that knows its scale.
 fn sway_by(
     wave: &[f64],
     settings: Settings,
@@ -270,14 +271,7 @@ fn sway_by(
     let waveform = lfo.waveform;
     let depth = lfo.depth;
     let step = waveform::increment(lfo.frequency, settings.rate);
-    let end = filling::fill_in(
-        wave,
-        &mut values[0..part.len()],
-        waveform,
-        phase,
-        step,
-        depth,
-    );
+    let end = filling::fill_in(wave, &mut values[0..part.len()], waveform, phase, step, 1.0);
     tremolo::multiply(depth, &values[0..part.len()], part);
     end
 }

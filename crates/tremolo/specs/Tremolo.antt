@@ -38,10 +38,10 @@ unfoldable pub isFlat : Lfo → Float → Float → Bool
 isFlat l step p = within zero64 zero64 (l .depth) && isWaveform (l .waveform) && within zero64 sixteen step && isRadians p
 
 -- ---- a lent part
--- the first k samples of xs, each multiplied by the factor of its value in ls
+-- the first k samples of xs, each multiplied by the factor of its value of the waveform in ws
 unfoldable pub multipliedTo : Float → List Float → List Float → ℕ → List Float
-multipliedTo depth ls xs k = listed (λ (i : ℕ). getD xs i nan ⊗ factorOf depth (getD ls i nan)) k
+multipliedTo depth ws xs k = listed (λ (i : ℕ). getD xs i nan ⊗ factorOf depth (getD ws i nan ⊗ depth)) k
 
 -- all samples, if there are as many values; else the samples as they came
 abbrev pub multipliedOf : Float → List Float → List Float → List Float
-multipliedOf depth ls xs = cond (eqb (length ls) (length xs)) (multipliedTo depth ls xs (length xs)) xs
+multipliedOf depth ws xs = cond (eqb (length ws) (length xs)) (multipliedTo depth ws xs (length xs)) xs
