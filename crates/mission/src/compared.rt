@@ -1,62 +1,79 @@
-// How many samples and words differ between the halves of a pair, by their bits; and a check number of samples and
-// words.
+// What is told of a call: what it said, and how many samples or words differ between the halves of a pair, by their
+// bits; and a check number of all samples and words.
+use libc::STDOUT_FILENO;
 
-// How many samples of the first half differ from those of the second.
-pub fn samples(pair: &[f64]) -> u64 {
-    let n = pair.len() / 2;
-    let mut unlike = 0;
+// Number, place, count; then how many samples of the first half differ from those of the second.
+pub fn tell(said: u64, first: &[f64], second: &[f64]) {
+    tell_number(said % 256, b" ");
+    tell_number(said / 256 % 0x100_0000, b" ");
+    tell_number(said / 0x1_0000_0000, b", ");
+    tell_number(unlike(first, second), b" differ; ");
+}
+
+fn tell_number(number: u64, after: &[u8]) {
+    io::print_decimal(STDOUT_FILENO, number);
+    io::write_all(STDOUT_FILENO, after);
+}
+
+fn unlike(first: &[f64], second: &[f64]) -> u64 {
+    let mut count = 0;
     let mut i = 0;
-    while i < n {
-        if bits_at(pair, i) != bits_at(pair, n + i) {
-            unlike = std::num::wrapping_add_u64(unlike, 1);
+    while i < first.len() {
+        if i < second.len() {
+            if words::f64_bits(first[i]) != words::f64_bits(second[i]) {
+                count = std::num::wrapping_add_u64(count, 1);
+            }
         }
         i += 1;
     }
-    unlike
+    count
 }
 
-pub fn words(shelves: &[u64]) -> u64 {
-    let m = shelves.len() / 2;
-    let mut unlike = 0;
+// How many words differ between the halves.
+fn unlike_words(first: &[u64], second: &[u64]) -> u64 {
+    let mut count = 0;
     let mut i = 0;
-    while i < m {
-        if shelves[i] != shelves[m + i] {
-            unlike = std::num::wrapping_add_u64(unlike, 1);
+    while i < first.len() {
+        if i < second.len() {
+            if first[i] != second[i] {
+                count = std::num::wrapping_add_u64(count, 1);
+            }
         }
         i += 1;
     }
-    unlike
+    count
 }
 
-// Changes with every single bit of the samples and words, and with its place.
-pub fn check_number(samples: &[f64], words: &[u64]) -> u64 {
-    let mut number = number_of(words);
+// Changes with every single bit of the samples, and with its place.
+fn mixed_samples(number: u64, samples: &[f64]) -> u64 {
+    let mut mixing = number;
     let mut i = 0;
     while i < samples.len() {
-        number = mixed(number, words::f64_bits(samples[i]));
+        mixing = mixed(mixing, words::f64_bits(samples[i]));
         i += 1;
     }
-    number
+    mixing
+}
+
+fn mixed_words(number: u64, shelves: &[u64]) -> u64 {
+    let mut mixing = number;
+    let mut i = 0;
+    while i < shelves.len() {
+        mixing = mixed(mixing, shelves[i]);
+        i += 1;
+    }
+    mixing
 }
 
 // Modulo the prime 2^31 - 1, where multiplying by 48,271 is one-to-one: what was mixed in before is not lost.
-pub fn mixed(number: u64, bits: u64) -> u64 {
+fn mixed(number: u64, bits: u64) -> u64 {
     (number % 0x7fff_ffff * 48271 + bits % 0x7fff_ffff) % 0x7fff_ffff
 }
 
-fn number_of(words: &[u64]) -> u64 {
-    let mut number = 0;
-    let mut i = 0;
-    while i < words.len() {
-        number = mixed(number, words[i]);
-        i += 1;
-    }
-    number
-}
-
-fn bits_at(samples: &[f64], i: usize) -> u64 {
-    if i < samples.len() {
-        return words::f64_bits(samples[i]);
-    }
-    0
+// How many samples and words differ, and the check number of all of them.
+pub fn tell_all(first: &[f64], second: &[f64], shelf: &[u64], beside: &[u64]) {
+    let number = mixed_words(mixed_words(0, shelf), beside);
+    tell_number(unlike(first, second), b" samples and ");
+    tell_number(unlike_words(shelf, beside), b" words differ; check number ");
+    tell_number(mixed_samples(mixed_samples(number, first), second), b"");
 }

@@ -1,43 +1,164 @@
-// What 01 says to run, and what the voice exists for: the falling pad. Each line of standard output names what was run
-// and tells what the calls said, as number, place and count, and how many samples and words differ from what they
-// should be. The calls are those that C makes. What is proved for all input, chains of edits and of parts included, is
-// not run again.
-//
-// | 01                                                      | here                                          |
-// |---------------------------------------------------------|-----------------------------------------------|
-// | "4,096 and 4,097 records; notes 127 and 128"            | scores.rt                                     |
-// | "N = 0, 4,096, 4,097"                                   | lengths.rt                                    |
-// | "sustain 1.0"                                           | sustain.rt                                    |
-// | "random scores, against the Rust called span by span"   | left to the replay and to the test at scale   |
-// | demand 3, and the pad that lost its level in five edits | pad.rt                                        |
-// | "An entry is a state if ..", 8 and 10                   | doctored.rt                                   |
-// | "A continuing call that would pass 16,777,216 is 7"     | positions.rt                                  |
+// What 01 says to run, and what the voice exists for: the falling pad. Standard input is the script, whose head tells
+// its language; the calls are those that C makes. For each call is printed what the call said, as number, place and
+// count, and how many samples differ from what they should be. What is proved for all input, chains of edits and of
+// parts included, is not run again.
+use libc::STDIN_FILENO;
+use libc::STDOUT_FILENO;
+
 mod calls;
 mod compared;
-mod doctored;
-mod edits;
-mod lengths;
-mod pad;
-mod positions;
-mod records;
 mod scores;
-mod sustain;
-mod told;
+
+// The script has fewer bytes.
+const SCRIPT: usize = 16384;
+
+// Twice as many samples as an output has at most, and twice the words of its shelf: the first half is what is tried,
+// the second half what it should be.
+const PAIR: usize = 40000;
+
+const SHELVES: usize = 130;
+
+// Where the script has been read to: the byte that ends a text or a remark, 0 outside of both; the base of a number, and
+// the last two numbers; which settings, how many samples, how many bytes of the two scores; whether the next call is on
+// the second half; and which word of an entry was doctored, and its bits before.
+pub struct Now {
+    pub until: u8,
+    pub base: u64,
+    pub first: u64,
+    pub last: u64,
+    pub settings: u64,
+    pub samples: usize,
+    pub old: usize,
+    pub new: usize,
+    pub beside: bool,
+    pub word: u64,
+    pub kept: u64,
+}
 
 fn main() {
-    told::text(
-        b"what a call said is number, place, count, then samples that differ from what they should be\n",
+    let mut script = [0u8; SCRIPT];
+    let mut pair = [0.0; PAIR];
+    let mut shelves = [0u64; SHELVES];
+    let mut old = [0u8; scores::BYTES];
+    let mut new = [0u8; scores::BYTES];
+    let size = io::read_full(STDIN_FILENO, &mut script);
+    run(
+        &script[0..size],
+        &mut pair,
+        &mut shelves,
+        &mut old,
+        &mut new,
     );
-    told::text(
-        b"a score by check, render, re-render from it, re-render into it, continuing call:\n",
-    );
-    scores::played();
-    told::text(
-        b"an edit by re-render beside the old score, and beside a render of the new one from zero:\n",
-    );
-    lengths::played();
-    sustain::played();
-    pad::played();
-    doctored::played();
-    positions::played();
+}
+
+fn run(script: &[u8], pair: &mut [f64], shelves: &mut [u64], old: &mut [u8], new: &mut [u8]) {
+    let mut now = Now {
+        until: 0,
+        base: 10,
+        first: 0,
+        last: 0,
+        settings: 0,
+        samples: 0,
+        old: 0,
+        new: 0,
+        beside: false,
+        word: 0,
+        kept: 0,
+    };
+    let mut i = 0;
+    while i < script.len() {
+        now = read(now, script[i], pair, shelves, old, new);
+        i += 1;
+    }
+}
+
+// In a text a byte is printed, in a remark it is passed over.
+fn inside(now: Now, byte: u8) -> Now {
+    let mut next = now;
+    if byte == now.until {
+        next.until = 0;
+    } else {
+        if now.until == b'"' {
+            io::write_all(STDOUT_FILENO, &[byte]);
+        }
+    }
+    next
+}
+
+// Outside of texts and remarks, what is neither a digit nor one of these marks is a command, after which the numbers
+// are 0 again.
+fn read(
+    now: Now,
+    byte: u8,
+    pair: &mut [f64],
+    shelves: &mut [u64],
+    old: &mut [u8],
+    new: &mut [u8],
+) -> Now {
+    if now.until > 0 {
+        return inside(now, byte);
+    }
+    let mut next = now;
+    let digit = scores::digit(byte);
+    if digit < now.base {
+        next.last = scores::with_digit(now.last, now.base, digit);
+        return next;
+    }
+    match byte {
+        b'"' => next.until = b'"',
+        b'#' => next.until = b'\n',
+        b'x' => next.base = 16,
+        b',' => {
+            next.first = now.last;
+            next.last = 0;
+            next.base = 10;
+        }
+        b'\n' => {
+            io::write_all(STDOUT_FILENO, b"\n");
+        }
+        b' ' | b'_' => {}
+        _ => {
+            next = obeyed(now, byte, pair, shelves, old, new);
+            next.first = 0;
+            next.last = 0;
+            next.base = 10;
+        }
+    }
+    next
+}
+
+fn obeyed(
+    now: Now,
+    letter: u8,
+    pair: &mut [f64],
+    shelves: &mut [u64],
+    old: &mut [u8],
+    new: &mut [u8],
+) -> Now {
+    let mut next = now;
+    match letter {
+        b'G' => next.settings = now.last,
+        b'N' => next.samples = now.last as usize,
+        b'B' => next.beside = true,
+        b'O' => {
+            scores::copy(new, old);
+            next.old = now.new;
+            next.new = 0;
+        }
+        b'+' => next.new = scores::added(now.new, now.first, now.last, new),
+        b'D' => {
+            next.word = now.first;
+            next.kept = calls::doctored(now.samples, now.first, now.last, shelves);
+        }
+        b'U' => {
+            calls::doctored(now.samples, now.word, now.kept, shelves);
+        }
+        b'S' => calls::spoil(pair, shelves),
+        b'P' | b'W' => calls::looked(now, letter, pair, shelves),
+        _ => {
+            calls::made(now, letter, pair, shelves, old, new);
+            next.beside = false;
+        }
+    }
+    next
 }

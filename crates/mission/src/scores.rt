@@ -1,51 +1,76 @@
-// Scores of 4,096 and 4,097 records, and with notes 127 and 128: what each call says of them, and which samples it
-// leaves.
+// Scores in bytes, without the code that is tried. A record is a number whose digits are the position, the kind, three
+// of the note and three of the velocity, as 17_1_047_090.
 use crate::calls;
-use crate::told;
 
-// The score that the output was rendered of before.
-const BEFORE: [u64; 1] = [0_1_033_033];
+// Ten bytes for each of 4,097 records, one more than a score may have.
+pub const BYTES: usize = 40970;
 
-const TWO: [u64; 2] = [0_1_040_100, 50_1_069_127];
-
-const ONE: [u64; 1] = [7_1_127_090];
-
-pub fn played() {
-    told::text(b"4096 records, 4095 of them one key: ");
-    asked(&[4096, 0_1_040_100, 50_1_069_127], &TWO, &TWO);
-    told::text(b"4097 records: ");
-    asked(&[4097, 0_1_040_100, 50_1_069_127], &TWO, &BEFORE);
-    told::text(b"note 127: ");
-    asked(&[7_1_060_100, 7_1_127_090], &ONE, &ONE);
-    told::text(b"note 128: ");
-    asked(&[7_1_060_100, 7_1_128_090], &ONE, &BEFORE);
+// Adds a record to a score of so many bytes: once, or where a record and a number were read, so many times. The bytes of
+// the score after it.
+pub fn added(size: usize, first: u64, last: u64, score: &mut [u8]) -> usize {
+    let mut record = last;
+    let mut times = 1;
+    if first > 0 {
+        record = first;
+        times = last;
+    }
+    let more = times as usize % 5000 * 10;
+    let end = calls::at_most(size % BYTES + more, score.len());
+    let mut at = size;
+    while at < end {
+        score[at] = byte(record, at % 10);
+        at += 1;
+    }
+    at
 }
 
-// Asks the check, the render, the re-render from `score` and into `score`, and the continuing call. `like` gives the
-// samples of `score`: a key that goes down at the sample where others went down sounds as it does alone. After each
-// call the output must be a render of `after`.
-fn asked(score: &[u64], like: &[u64], after: &[u64]) {
-    let mut pair = [0.0; 600];
-    let mut shelves = [0u64; 26];
-    calls::render(&BEFORE, &mut pair, &mut shelves);
-    calls::render_beside(after, &mut pair, &mut shelves);
-    answered(score, like, &mut pair, &mut shelves);
+pub fn copy(from: &[u8], to: &mut [u8]) {
+    let end = calls::at_most(from.len(), to.len());
+    let mut i = 0;
+    while i < end {
+        to[i] = from[i];
+        i += 1;
+    }
 }
 
-fn answered(score: &[u64], like: &[u64], pair: &mut [f64; 600], shelves: &mut [u64; 26]) {
-    told::answer(calls::check(score));
-    told::render(score, pair, shelves);
-    told::rerender(score, like, pair, shelves);
-    told::rerender(like, score, pair, shelves);
-    continued(score, pair);
-    told::end(pair, shelves);
+// What a letter or digit counts as in a number of base 16; 255 for any other byte.
+pub fn digit(byte: u8) -> u64 {
+    if byte < b'0' {
+        return 255;
+    }
+    if byte <= b'9' {
+        return (byte - b'0') as u64;
+    }
+    if byte < b'a' {
+        return 255;
+    }
+    if byte <= b'f' {
+        return (byte - b'a') as u64 + 10;
+    }
+    255
 }
 
-fn continued(score: &[u64], pair: &mut [f64]) {
-    let n = pair.len() / 2;
-    let mut state = calls::at_rest(0);
-    told::call(
-        calls::continue_call(score, &mut state, 0, &mut pair[0..n]),
-        pair,
-    );
+// A number with one more digit, of base 10 or 16; no number of the script has so many digits that some are lost.
+pub fn with_digit(number: u64, base: u64, digit: u64) -> u64 {
+    if base == 16 {
+        return number % 0x1000_0000_0000_0000 * 16 + digit % 16;
+    }
+    number % 1_000_000_000_000_000_000 * 10 + digit % 16
+}
+
+// Byte j of a record's ten.
+fn byte(record: u64, j: usize) -> u8 {
+    let position = record / 1_0_000_000;
+    match j {
+        0 => 0x56,
+        1 => 0x4E,
+        2 => (position % 256) as u8,
+        3 => (position / 256 % 256) as u8,
+        4 => (position / 65536 % 256) as u8,
+        5 => (position / 16777216 % 256) as u8,
+        6 => (record / 1_000_000 % 10) as u8,
+        7 => (record / 1_000 % 1_000 % 256) as u8,
+        8 => (record % 1_000 % 256) as u8,
+        _ => 0,
+    }
 }

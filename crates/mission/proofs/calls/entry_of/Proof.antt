@@ -1,17 +1,17 @@
--- `mission::compared::words` is safe and ends: what is left of the first half falls. Assumes nothing.
+-- `mission::calls::entry_of` is safe and ends: what is left of the thirteen words falls. Assumes nothing.
 use borrow.Author.Needs.{needs}
 use Prim.Native.Nat.{_-_}
-use Rattle.mission.proofs.compared.words.Statement.{statement}
-use Rattle.mission.proofs.compared.words.Tie as tie
+use Rattle.mission.proofs.calls.entry_of.Statement.{statement}
+use Rattle.mission.proofs.calls.entry_of.Tie as tie
 
 abbrev Inv-loop : tie.InvT-loop
-Inv-loop shelves m unlike₀ i₀ unlike i = Unit
+Inv-loop shelf state₀ i₀ state i = Unit
 
 abbrev μ-loop : tie.MeasureT-loop
-μ-loop shelves m unlike₀ i₀ unlike i = m - i
+μ-loop shelf state₀ i₀ state i = 13 - i
 
-pub words-spec : {M : Type 1} → statement M
-words-spec =
+pub entry-of-spec : {M : Type 1} → statement M
+entry-of-spec =
     tie.close
     (tie.spec
     Inv-loop
@@ -22,7 +22,7 @@ words-spec =
     (λ c. search needs)
     (λ c. search needs)
     (λ c. search needs)
-    (λ c κs. search needs)
+    (λ c. search needs)
     (λ c. search needs)
     (λ c. search needs)
     (λ c. search needs)
