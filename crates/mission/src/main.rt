@@ -18,7 +18,7 @@ const PAIR: usize = 40000;
 
 const SHELVES: usize = 130;
 
-// Where the script has been read to: the byte that ends a text or a remark, 0 outside of both; the base of a number, and
+// What has been read of the script: the byte that ends a text or a remark, 0 outside of both; the base of a number, and
 // the last two numbers; which settings, how many samples, how many bytes of the two scores; whether the next call is on
 // the second half; and which word of an entry was doctored, and its bits before.
 pub struct Now {

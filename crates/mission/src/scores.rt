@@ -5,8 +5,8 @@ use crate::calls;
 // Ten bytes for each of 4,097 records, one more than a score may have.
 pub const BYTES: usize = 40970;
 
-// Adds a record to a score of so many bytes: once, or where a record and a number were read, so many times. The bytes of
-// the score after it.
+// Adds a record to a score of so many bytes: once, or where a record and a number were read, so many times. The bytes
+// of the score after it.
 pub fn added(size: usize, first: u64, last: u64, score: &mut [u8]) -> usize {
     let mut record = last;
     let mut times = 1;

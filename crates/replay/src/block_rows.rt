@@ -2,8 +2,7 @@
 // answer, the phase after the call and every sample are compared bit for bit; but the samples of a sine, which is ours,
 // must lie within 0.000001 of the original's, times the depth.
 use crate::fields;
-use crate::tally::Finding;
-use answers::Answer;
+use crate::nearness::Finding;
 use lfo::LfoBlock;
 use oscillator::OscillatorBlock;
 use waveform::Radians;
@@ -28,81 +27,56 @@ pub fn compared(row: &[u8]) -> Finding {
 // The depth scales the allowed difference of every sample: step 0.
 fn judged(row: &[u8], out: &mut [f64]) -> Finding {
     let told = is_called(row, out);
-    let has_sine = words::u64_at(row, 8) == 0;
-    let found = fields::compared(row, has_sine, words::u64_at(row, 64), ROW, 40, 0, out);
-    Finding {
-        equal: told & found.equal & (out.len() as u64 == words::u64_at(row, MORE)),
-        farthest: found.farthest,
-    }
+    let equal = told & (out.len() as u64 == words::u64_at(row, MORE));
+    let has_sine = (words::u64_at(row, 8) == 0) & (words::u64_at(row, 64) % 256 == 0);
+    fields::compared(equal, row, has_sine, ROW, 40, 0, out)
 }
 
 // Whether the call's answer and the phase that it leaves are the row's.
 fn is_called(row: &[u8], out: &mut [f64]) -> bool {
-    match words::u64_at(row, 0) {
-        0 | 2 | 3 | 5 => is_oscillated(row, out),
-        1 | 4 => is_modulated(row, out),
-        _ => false,
+    let op = words::u64_at(row, 0);
+    if (op == 1) | (op == 4) {
+        return is_modulated(op, row, out);
     }
-}
-
-fn is_oscillated(row: &[u8], out: &mut [f64]) -> bool {
-    let got = oscillator_of(row).process(words::u32_at(row, 24), out);
+    let got = oscillator_of(op, row).process(words::u32_at(row, 24), out);
     let answer = got.answer;
-    is_outcome(row, answer, got.block.phase.0)
+    (op < 6)
+        & fields::says(answer, words::u64_at(row, 64))
+        & (words::f64_bits(got.block.phase.0) == words::u64_at(row, 72))
 }
 
 // Calls 2 and 3 set settings over some that would be refused; call 5 clears a note's frequency that would be refused.
-fn oscillator_of(row: &[u8]) -> OscillatorBlock {
-    match words::u64_at(row, 0) {
-        0 => own_oscillator(row),
-        2 => set_oscillator(row),
-        3 => set_oscillator(row).reset(),
-        _ => own_oscillator(row)
-            .set_midi_frequency(UNHEARD)
-            .clear_midi_frequency(),
+fn oscillator_of(op: u64, row: &[u8]) -> OscillatorBlock {
+    let frequency = fields::float_at(row, 32);
+    let shape = fields::waveform_of(row, 8);
+    let start = Radians(fields::float_at(row, 48));
+    let mut block = match op {
+        2 | 3 => OscillatorBlock::new(UNHEARD, Waveform::Pulse(2.0)),
+        _ => OscillatorBlock::new(frequency, shape),
+    };
+    block.phase = start;
+    match op {
+        0 => block,
+        2 => block.set_waveform(shape).set_midi_frequency(frequency),
+        3 => block
+            .set_waveform(shape)
+            .set_midi_frequency(frequency)
+            .reset(),
+        _ => block.set_midi_frequency(UNHEARD).clear_midi_frequency(),
     }
 }
 
-fn own_oscillator(row: &[u8]) -> OscillatorBlock {
-    started(
-        row,
-        OscillatorBlock::new(fields::float_at(row, 32), fields::waveform_of(row, 8)),
-    )
-}
-
-fn set_oscillator(row: &[u8]) -> OscillatorBlock {
-    started(row, OscillatorBlock::new(UNHEARD, Waveform::Pulse(2.0)))
-        .set_waveform(fields::waveform_of(row, 8))
-        .set_midi_frequency(fields::float_at(row, 32))
-}
-
-fn started(row: &[u8], made: OscillatorBlock) -> OscillatorBlock {
+fn is_modulated(op: u64, row: &[u8], out: &mut [f64]) -> bool {
+    let frequency = fields::float_at(row, 32);
+    let depth = fields::float_at(row, 40);
     let start = Radians(fields::float_at(row, 48));
-    let mut block = made;
+    let mut block = LfoBlock::new(frequency, depth, fields::waveform_of(row, 8));
     block.phase = start;
-    block
-}
-
-fn is_modulated(row: &[u8], out: &mut [f64]) -> bool {
-    let got = lfo_of(row).process(words::u32_at(row, 24), out);
+    if op == 4 {
+        block = block.reset();
+    }
+    let got = block.process(words::u32_at(row, 24), out);
     let answer = got.answer;
-    is_outcome(row, answer, got.block.phase.0)
-}
-
-fn lfo_of(row: &[u8]) -> LfoBlock {
-    let start = Radians(fields::float_at(row, 48));
-    let mut block = LfoBlock::new(
-        fields::float_at(row, 32),
-        fields::float_at(row, 40),
-        fields::waveform_of(row, 8),
-    );
-    block.phase = start;
-    if words::u64_at(row, 0) == 4 {
-        return block.reset();
-    }
-    block
-}
-
-fn is_outcome(row: &[u8], answer: Answer, phase: f64) -> bool {
-    fields::says(answer, words::u64_at(row, 64)) & fields::is_word(row, 72, phase)
+    fields::says(answer, words::u64_at(row, 64))
+        & (words::f64_bits(got.block.phase.0) == words::u64_at(row, 72))
 }

@@ -10,40 +10,53 @@ use envelope::Processed;
 
 pub const ROW: usize = 192;
 
+// Whether the call's answer, the state that it leaves and the eight numbers are the row's.
 pub fn is_equal(row: &[u8]) -> bool {
     let lent = fields::at_most(words::u64_at(row, 48), 8);
     let mut slots = [fields::UNWRITTEN; 8];
-    let told = is_called(row, &mut slots[0..lent]);
-    told & (words::u64_at(row, 0) < 5) & fields::are_slots(row, 128, &slots)
-}
-
-// Whether the call's answer and what it leaves are the row's.
-fn is_called(row: &[u8], out: &mut [f64]) -> bool {
-    let got = called(row, given(row), out);
-    let answer = got.answer;
-    let after = got.block.envelope;
-    fields::says(answer, words::u64_at(row, 88)) & is_state(row, after)
-}
-
-fn called(row: &[u8], block: EnvelopeBlock, out: &mut [f64]) -> Processed {
-    match words::u64_at(row, 0) {
+    let op = words::u64_at(row, 0);
+    let block = given(row);
+    let adsr = block.adsr;
+    let got = match op {
         0 => block.note_on(),
         1 => block.note_off(),
         2 => block.reset(),
-        3 => block.process(words::u32_at(row, 40), out),
-        _ => made(block),
-    }
+        3 => block.process(words::u32_at(row, 40), &mut slots[0..lent]),
+        _ => Processed {
+            answer: Answer::Done(0),
+            block: EnvelopeBlock::new(adsr.attack, adsr.decay, adsr.sustain, adsr.release),
+        },
+    };
+    let answer = got.answer;
+    let after = got.block.envelope;
+    (op < 5)
+        & fields::says(answer, words::u64_at(row, 88))
+        & is_state(row, after)
+        & fields::are_slots(row, 128, &slots)
 }
 
-fn made(given: EnvelopeBlock) -> Processed {
-    let adsr = given.adsr;
-    Processed {
-        answer: Answer::Done(0),
-        block: EnvelopeBlock::new(adsr.attack, adsr.decay, adsr.sustain, adsr.release),
-    }
+fn is_state(row: &[u8], after: Envelope) -> bool {
+    let stage = after.stage;
+    let number = match stage {
+        EnvelopeStage::Idle => 0,
+        EnvelopeStage::Attack => 1,
+        EnvelopeStage::Decay => 2,
+        EnvelopeStage::Sustain => 3,
+        EnvelopeStage::Release => 4,
+    };
+    let told = [after.level, after.stage_time, after.release_level];
+    let is_stage = number == words::u64_at(row, 96);
+    fields::compared(is_stage, row, false, 104, 0, 0, &told).equal
 }
 
 fn given(row: &[u8]) -> EnvelopeBlock {
+    let stage = match words::u64_at(row, 56) {
+        0 => EnvelopeStage::Idle,
+        1 => EnvelopeStage::Attack,
+        2 => EnvelopeStage::Decay,
+        3 => EnvelopeStage::Sustain,
+        _ => EnvelopeStage::Release,
+    };
     EnvelopeBlock {
         adsr: Adsr {
             attack: fields::float_at(row, 8),
@@ -52,41 +65,10 @@ fn given(row: &[u8]) -> EnvelopeBlock {
             release: fields::float_at(row, 32),
         },
         envelope: Envelope {
-            stage: stage_of(words::u64_at(row, 56)),
+            stage,
             level: fields::float_at(row, 64),
             stage_time: fields::float_at(row, 72),
             release_level: fields::float_at(row, 80),
         },
-    }
-}
-
-fn is_state(row: &[u8], after: Envelope) -> bool {
-    let stage = after.stage;
-    let told = [
-        number_of(stage),
-        words::f64_bits(after.level),
-        words::f64_bits(after.stage_time),
-        words::f64_bits(after.release_level),
-    ];
-    fields::are_words(row, 96, &told)
-}
-
-fn stage_of(number: u64) -> EnvelopeStage {
-    match number {
-        0 => EnvelopeStage::Idle,
-        1 => EnvelopeStage::Attack,
-        2 => EnvelopeStage::Decay,
-        3 => EnvelopeStage::Sustain,
-        _ => EnvelopeStage::Release,
-    }
-}
-
-fn number_of(stage: EnvelopeStage) -> u64 {
-    match stage {
-        EnvelopeStage::Idle => 0,
-        EnvelopeStage::Attack => 1,
-        EnvelopeStage::Decay => 2,
-        EnvelopeStage::Sustain => 3,
-        EnvelopeStage::Release => 4,
     }
 }

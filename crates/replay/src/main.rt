@@ -4,8 +4,7 @@
 // ends the replay.
 use libc::STDIN_FILENO;
 use libc::STDOUT_FILENO;
-use tally::Finding;
-use tally::Tally;
+use nearness::Finding;
 
 mod block_rows;
 mod envelope_rows;
@@ -16,7 +15,6 @@ mod pitch_rows;
 mod polyblep_rows;
 mod render_rows;
 mod sine_rows;
-mod tally;
 mod voice_rows;
 mod waveform_rows;
 
@@ -25,6 +23,9 @@ const HEAD: usize = 16;
 
 // The most words that follow the first bytes of a row.
 const MOST: u64 = 25174;
+
+// The bytes of the longest row: the first ones of a render and the most words.
+const LONGEST: usize = 201744;
 
 // The names as words, low byte first.
 const PHASE: u64 = 0x65_7361_6870;
@@ -46,74 +47,74 @@ const BLOCKS: u64 = 0x736b_636f_6c62;
 const RENDER: u64 = 0x7265_646e_6572;
 
 fn main() {
-    let mut row = [0u8; 201744];
-    replay(&mut row);
+    let mut row = [0u8; LONGEST];
+    lend(&mut row);
 }
 
-// A proved loop has to end, and nothing says that the input does: the loop counts its turns down from 2^64 - 1.
+// An array that is lent as an array has its length by its type: `main` would have to count the zeros.
+fn lend(row: &mut [u8; LONGEST]) {
+    replay(row);
+}
+
+// Replays part after part, and says so where a head names none; at the end of the input it prints nothing. A proved
+// loop has to end, and nothing says that the input does: the loop counts its turns down from 2^64 - 1.
 fn replay(row: &mut [u8]) {
     let mut turns = u64::MAX;
     while turns > 0 {
-        if !is_part(row) {
+        let got = filled(row, 0, HEAD);
+        let name = words::u64_at(row, 0);
+        if (got < HEAD) | (first_of(name) == 0) {
+            if got > 0 {
+                io::write_all(STDOUT_FILENO, b"no part\n");
+            }
             return;
         }
+        replay_part(name, row);
         turns -= 1;
     }
 }
 
-// Replays a part and prints its line; whether there was a part.
-fn is_part(row: &mut [u8]) -> bool {
-    let got = filled(row, 0, HEAD);
-    let name = words::u64_at(row, 0);
-    if (got < HEAD) | (first_of(name) == 0) {
-        tell_no_part(got);
-        return false;
-    }
+// Replays the rows of a part; its line is begun before them and ended after them.
+fn replay_part(name: u64, row: &mut [u8]) {
     let rows = words::u64_at(row, 8);
-    tell(name, rows, replayed(name, rows, row));
-    true
-}
-
-fn replayed(name: u64, rows: u64, row: &mut [u8]) -> Tally {
-    let mut tally = Tally {
-        equal: 0,
-        farthest: 0.0,
-    };
+    tell_head(name, rows, row);
+    let mut equal = 0;
+    let mut farthest = 0.0;
     let mut left = rows;
     while left > 0 {
         if !is_read(name, row) {
-            return tally;
+            tell_found(name, equal, farthest);
+            return;
         }
-        tally = tally::counted(tally, compared(name, row));
+        let found = compared(name, row);
+        farthest = nearness::larger(found.farthest, farthest);
+        if found.equal {
+            equal = std::num::wrapping_add_u64(equal, 1);
+        }
         left -= 1;
     }
-    tally
+    tell_found(name, equal, farthest);
 }
 
-// Reads a row: its first bytes, then as many words as those say; whether all of the row was there.
+// Reads a row: its first bytes, then as many words as those say, none where those are too many; whether all of the row
+// was there.
 fn is_read(name: u64, row: &mut [u8]) -> bool {
     let first = first_of(name);
-    if filled(row, 0, first) < first {
-        return false;
-    }
-    let more = more_of(name, row);
-    if more > MOST {
-        return false;
-    }
-    let size = 8 * more as usize;
-    filled(row, first, size) == size
+    let is_begun = filled(row, 0, first) == first;
+    let more = match name {
+        BLOCKS => words::u64_at(row, block_rows::MORE),
+        RENDER => words::u64_at(row, render_rows::MORE),
+        _ => 0,
+    };
+    let size = if more <= MOST { 8 * more as usize } else { 0 };
+    is_begun & (more <= MOST) & (filled(row, first, size) == size)
 }
 
-// Reads `size` bytes to byte `first` of the row; how many there were, 0 where they do not fit.
+// Reads `size` bytes to byte `first` of the row, or as many as fit; how many there were.
 fn filled(row: &mut [u8], first: usize, size: usize) -> usize {
-    if first > row.len() {
-        return 0;
-    }
-    if size > row.len() - first {
-        return 0;
-    }
-    let end = first + size;
-    io::read_full(STDIN_FILENO, &mut row[first..end])
+    let start = fields::at_most(first as u64, row.len());
+    let end = start + fields::at_most(size as u64, row.len() - start);
+    io::read_full(STDIN_FILENO, &mut row[start..end])
 }
 
 // How many first bytes a row of the part has; 0 where no part has that name.
@@ -132,74 +133,55 @@ fn first_of(name: u64) -> usize {
     }
 }
 
-// How many words follow the first bytes of a row.
-fn more_of(name: u64, row: &[u8]) -> u64 {
-    match name {
-        BLOCKS => words::u64_at(row, block_rows::MORE),
-        RENDER => words::u64_at(row, render_rows::MORE),
-        _ => 0,
-    }
-}
-
+// Only the parts that measure a sine give a difference.
 fn compared(name: u64, row: &[u8]) -> Finding {
-    match name {
-        SINE => sine_rows::compared(row),
-        BLOCKS => block_rows::compared(row),
-        RENDER => render_rows::compared(row),
-        _ => Finding {
-            equal: is_equal(name, row),
-            farthest: 0.0,
-        },
-    }
-}
-
-fn is_equal(name: u64, row: &[u8]) -> bool {
-    match name {
+    let equal = match name {
         PHASE => phase_rows::is_equal(row),
         POLYBLEP => polyblep_rows::is_equal(row),
         PITCH => pitch_rows::is_equal(row),
+        SINE => return sine_rows::compared(row),
         ENVELOPE => envelope_rows::is_equal(row),
         WAVEFORM => waveform_rows::is_equal(row),
         VOICE => voice_rows::is_equal(row),
+        BLOCKS => return block_rows::compared(row),
+        RENDER => return render_rows::compared(row),
         _ => false,
+    };
+    Finding {
+        equal,
+        farthest: 0.0,
     }
 }
 
-// At the end of the input nothing is printed.
-fn tell_no_part(got: usize) {
-    if got > 0 {
-        io::write_all(STDOUT_FILENO, b"no part\n");
-    }
+// The name is still in the row, where the head was read.
+fn tell_head(name: u64, rows: u64, row: &[u8]) {
+    let letters = match name {
+        SINE => 4,
+        PHASE | PITCH | VOICE => 5,
+        BLOCKS | RENDER => 6,
+        _ => 8,
+    };
+    let end = fields::at_most(letters, row.len());
+    io::write_all(STDOUT_FILENO, &row[0..end]);
+    io::write_all(STDOUT_FILENO, b": ");
+    io::print_decimal(STDOUT_FILENO, rows);
+    io::write_all(STDOUT_FILENO, b" rows, ");
 }
 
-fn tell(name: u64, rows: u64, tally: Tally) {
-    tell_name(name);
-    tell_number(b": ", rows);
-    tell_number(b" rows, ", tally.equal);
+fn tell_found(name: u64, equal: u64, farthest: f64) {
+    io::print_decimal(STDOUT_FILENO, equal);
     match name {
-        SINE => tell_measure(b" within 0.000001, largest difference ", tally.farthest),
-        BLOCKS | RENDER => tell_measure(b" equal, largest difference of a sine ", tally.farthest),
+        SINE => {
+            io::write_all(STDOUT_FILENO, b" within 0.000001, largest difference ");
+        }
+        BLOCKS | RENDER => {
+            io::write_all(STDOUT_FILENO, b" equal, largest difference of a sine ");
+        }
         _ => {
             io::write_all(STDOUT_FILENO, b" equal\n");
+            return;
         }
     }
-}
-
-fn tell_measure(before: &[u8], farthest: f64) {
-    tell_number(before, nearness::billionths(farthest) as u64);
+    io::print_decimal(STDOUT_FILENO, nearness::billionths(farthest) as u64);
     io::write_all(STDOUT_FILENO, b" billionths\n");
-}
-
-fn tell_number(before: &[u8], number: u64) {
-    io::write_all(STDOUT_FILENO, before);
-    io::print_decimal(STDOUT_FILENO, number);
-}
-
-fn tell_name(name: u64) {
-    let mut rest = name;
-    while rest > 0 {
-        let letter = [(rest % 256) as u8];
-        io::write_all(STDOUT_FILENO, &letter);
-        rest /= 256;
-    }
 }

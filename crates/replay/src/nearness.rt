@@ -1,4 +1,4 @@
-// How far two numbers are apart, and the largest such difference in billionths.
+// How far a sine is off: what is found of a row, and the largest difference in billionths.
 
 // The largest difference allowed to a sine at full level.
 pub const NEAR: f64 = 0.000001;
@@ -6,15 +6,13 @@ pub const NEAR: f64 = 0.000001;
 // The largest number of billionths that is printed.
 const MOST: u32 = 1000000;
 
-// The difference without its sign.
-pub fn apart(x: f64, y: f64) -> f64 {
-    if x < y {
-        return y - x;
-    }
-    x - y
+// Whether a row, or its samples, are as they must be; and the largest difference of a sine.
+pub struct Finding {
+    pub equal: bool,
+    pub farthest: f64,
 }
 
-// The larger of two numbers; the second where either is a NaN.
+// The larger of two numbers; the second where either is a NaN. Of x - y and y - x it is how far x and y are apart.
 pub fn larger(x: f64, y: f64) -> f64 {
     if y < x {
         return x;

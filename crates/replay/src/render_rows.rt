@@ -3,11 +3,10 @@
 // is ours, a sample must only be within 0.000001 times its scale, which the row has. A re-render's row has, before the
 // samples that it must leave, its old score and the samples and the shelf that it starts with.
 use crate::fields;
-use crate::tally::Finding;
+use crate::nearness::Finding;
 use envelope::Adsr;
 use render::Rendered;
 use state::Settings;
-use state::State;
 use tremolo::Lfo;
 
 // The bytes of a row before its score.
@@ -28,78 +27,65 @@ pub fn compared(row: &[u8]) -> Finding {
     judged(row, &mut out[0..samples], &mut shelf[0..kept])
 }
 
-// A row ends with the shelf; before it lie the samples, and before them, where a sine is heard, their scales.
+// A row ends with the shelf; before it lie the samples, and before them, where a sine is heard, their scales. A sine is
+// heard where the call was done, and the oscillator is one, or the LFO at a depth other than 0, of either sign.
 fn judged(row: &[u8], out: &mut [f64], shelf: &mut [u64]) -> Finding {
     let told = is_called(row, out, shelf);
-    let end = fields::after(ROW, words::u64_at(row, MORE) as usize);
-    let first = fields::before(end, shelf.len());
-    let samples = fields::before(first, out.len());
-    let scales = fields::before(samples, out.len());
-    let found = fields::compared(
-        row,
-        has_sine(row),
-        words::u64_at(row, 240),
-        samples,
-        scales,
-        8,
-        out,
-    );
-    Finding {
-        equal: told & found.equal & fields::are_words(row, first, shelf),
-        farthest: found.farthest,
-    }
-}
-
-// Whether the oscillator is a sine, or the LFO at a depth other than 0, of either sign.
-fn has_sine(row: &[u8]) -> bool {
-    let depth = words::u64_at(row, 96);
-    (words::u64_at(row, 24) == 0) | ((words::u64_at(row, 72) == 0) & (depth << 1 != 0))
+    let size = out.len() << 3;
+    let more = words::u64_at(row, MORE) as usize;
+    let end = std::num::wrapping_add_usize(ROW, more << 3);
+    let first = std::num::wrapping_sub_usize(end, shelf.len() << 3);
+    let samples = std::num::wrapping_sub_usize(first, size);
+    let scales = std::num::wrapping_sub_usize(samples, size);
+    let equal = told & fields::are_words(row, first, shelf);
+    let is_swayed = (words::u64_at(row, 72) == 0) & (words::u64_at(row, 96) << 1 != 0);
+    let is_done = words::u64_at(row, 240) % 256 == 0;
+    let has_sine = is_done & ((words::u64_at(row, 24) == 0) | is_swayed);
+    fields::compared(equal, row, has_sine, samples, scales, 8, out)
 }
 
 // Whether the call's answer and the state after it are the row's.
 fn is_called(row: &[u8], out: &mut [f64], shelf: &mut [u64]) -> bool {
+    let settings = settings_of(row);
+    let score = bytes_at(row, ROW, 112);
     match words::u64_at(row, 0) {
-        0 => is_rendered(row, out, shelf),
-        1 => is_continued(row, out),
-        2 => is_rerendered(row, out, shelf),
+        0 => is_outcome(row, render::render(settings, score, out, shelf)),
+        1 => is_continued(row, settings, score, out),
+        2 => is_rerendered(row, settings, score, out, shelf),
         _ => false,
     }
 }
 
-fn is_rendered(row: &[u8], out: &mut [f64], shelf: &mut [u64]) -> bool {
-    let got = render::render(settings_of(row), bytes_at(row, ROW, 112), out, shelf);
-    is_outcome(row, got)
-}
-
-fn is_continued(row: &[u8], out: &mut [f64]) -> bool {
+fn is_continued(row: &[u8], settings: Settings, score: &[u8], out: &mut [f64]) -> bool {
+    let mut entry = [0u64; 13];
+    fields::put_words(row, 136, &mut entry);
+    let state = shelf::decode(&entry).state;
     let position = words::u64_at(row, 128);
-    let got = render::continue_render(
-        settings_of(row),
-        bytes_at(row, ROW, 112),
-        state_of(row),
-        position,
-        out,
-    );
-    is_outcome(row, got)
+    is_outcome(
+        row,
+        render::continue_render(settings, score, state, position, out),
+    )
 }
 
-// A re-render hands back no state.
-fn is_rerendered(row: &[u8], out: &mut [f64], shelf: &mut [u64]) -> bool {
-    find(row, out, shelf);
-    let answer = rerender::rerender(
-        settings_of(row),
-        bytes_at(row, past(row, ROW, 112), 128),
-        bytes_at(row, ROW, 112),
-        out,
+// A re-render hands back no state. It finds samples and a shelf, which lie after the old score.
+fn is_rerendered(
+    row: &[u8],
+    settings: Settings,
+    score: &[u8],
+    out: &mut [f64],
+    shelf: &mut [u64],
+) -> bool {
+    let old_at = past(row, ROW, 112);
+    let first = past(row, old_at, 128);
+    fields::put_floats(row, first, out);
+    fields::put_words(
+        row,
+        std::num::wrapping_add_usize(first, out.len() << 3),
         shelf,
     );
+    let old = bytes_at(row, old_at, 128);
+    let answer = rerender::rerender(settings, old, score, out, shelf);
     fields::says(answer, words::u64_at(row, 240))
-}
-
-fn find(row: &[u8], out: &mut [f64], shelf: &mut [u64]) {
-    let first = past(row, past(row, ROW, 112), 128);
-    fields::put_floats(row, first, out);
-    fields::put_words(row, fields::after(first, out.len()), shelf);
 }
 
 // The bytes of the score at byte `at`: as many as the word at `size_at` says, at most as many as are left.
@@ -113,7 +99,7 @@ fn bytes_at(row: &[u8], at: usize, size_at: usize) -> &[u8] {
 // The byte after the score at byte `at` and the zeros that pad it to whole words.
 fn past(row: &[u8], at: usize, size_at: usize) -> usize {
     let size = words::u64_at(row, size_at) as usize;
-    fields::after(at, std::num::wrapping_add_usize(size, 7) >> 3)
+    std::num::wrapping_add_usize(at, std::num::wrapping_add_usize(size, 7) >> 3 << 3)
 }
 
 fn settings_of(row: &[u8]) -> Settings {
@@ -132,12 +118,6 @@ fn settings_of(row: &[u8]) -> Settings {
             depth: fields::float_at(row, 96),
         },
     }
-}
-
-fn state_of(row: &[u8]) -> State {
-    let mut entry = [0u64; 13];
-    fields::put_words(row, 136, &mut entry);
-    shelf::decode(&entry).state
 }
 
 fn is_outcome(row: &[u8], got: Rendered) -> bool {

@@ -2,14 +2,15 @@
 // lie within 0.000001 of it. A refused phase is unequal; the rows of refused phases are in part `waveform` of `replay`.
 use crate::fields;
 use crate::nearness;
-use crate::tally::Finding;
+use crate::nearness::Finding;
 
 pub const ROW: usize = 16;
 
 pub fn compared(row: &[u8]) -> Finding {
     let ours = sine::sine(fields::float_at(row, 0));
+    let theirs = fields::float_at(row, 8);
     let answer = ours.answer;
-    let off = nearness::apart(ours.value, fields::float_at(row, 8));
+    let off = nearness::larger(ours.value - theirs, theirs - ours.value);
     Finding {
         equal: fields::says(answer, 0) & (off <= nearness::NEAR),
         farthest: off,

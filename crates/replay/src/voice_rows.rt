@@ -2,6 +2,7 @@
 // the call gives, and the state after with its held keys, whose pairs are 0 beyond their count.
 use crate::fields;
 use answers::Answer;
+use voice::Changed;
 use voice::VoiceState;
 use voice::keys::ActiveNote;
 use voice::keys::Keys;
@@ -13,21 +14,22 @@ const NONE: u32 = 256;
 
 // Whether the call's answer and what it leaves are the row's.
 pub fn is_equal(row: &[u8]) -> bool {
-    match words::u32_at(row, 0) {
-        0 | 2 => is_changed(row),
+    let op = words::u32_at(row, 0);
+    match op {
         1 => is_lifted(row),
-        3 => is_activity(row),
-        4 => is_count(row),
-        5 => is_outcome(row, Answer::Done(0), 0, VoiceState::new()),
-        _ => false,
+        3 | 4 => is_shown(op, row),
+        _ => (op < 6) & is_changed(op, row),
     }
 }
 
-fn is_changed(row: &[u8]) -> bool {
-    let got = if words::u32_at(row, 0) == 0 {
-        given(row).note_on(byte_at(row, 56), byte_at(row, 60))
-    } else {
-        given(row).reset()
+fn is_changed(op: u32, row: &[u8]) -> bool {
+    let got = match op {
+        0 => given(row).note_on(byte_at(row, 56, 0), byte_at(row, 60, 0)),
+        2 => given(row).reset(),
+        _ => Changed {
+            answer: Answer::Done(0),
+            voice: VoiceState::new(),
+        },
     };
     let answer = got.answer;
     let after = got.voice;
@@ -35,23 +37,25 @@ fn is_changed(row: &[u8]) -> bool {
 }
 
 fn is_lifted(row: &[u8]) -> bool {
-    let got = given(row).note_off(byte_at(row, 56));
+    let got = given(row).note_off(byte_at(row, 56, 0));
     let answer = got.answer;
     let after = got.voice;
-    is_outcome(row, answer, number_of(got.released), after)
+    let released = if got.released { 1 } else { 0 };
+    is_outcome(row, answer, released, after)
 }
 
 // A getter hands back no state: the row has the given one.
-fn is_activity(row: &[u8]) -> bool {
-    let got = given(row).is_active();
+fn is_shown(op: u32, row: &[u8]) -> bool {
+    let voice = given(row);
+    if op == 4 {
+        let got = voice.held_note_count();
+        let answer = got.answer;
+        return is_outcome(row, answer, got.count as u64, voice);
+    }
+    let got = voice.is_active();
     let answer = got.answer;
-    is_outcome(row, answer, number_of(got.active), given(row))
-}
-
-fn is_count(row: &[u8]) -> bool {
-    let got = given(row).held_note_count();
-    let answer = got.answer;
-    is_outcome(row, answer, got.count as u64, given(row))
+    let active = if got.active { 1 } else { 0 };
+    is_outcome(row, answer, active, voice)
 }
 
 // Whether the answer, the value (a yes or no, or a number of keys) and the state after are the row's.
@@ -68,17 +72,28 @@ fn is_keys(row: &[u8], keys: Keys) -> bool {
     let active = keys.active;
     let notes = keys.notes;
     let velocities = keys.velocities;
-    (code_of(active) == words::u32_at(row, 72))
-        & (number_of(keys.gate) == words::u32_at(row, 76) as u64)
+    let code = match active {
+        ActiveNote::Silent => NONE,
+        ActiveNote::Note(note) => note as u32,
+    };
+    let gate = if keys.gate { 1 } else { 0 };
+    (code == words::u32_at(row, 72))
+        & (gate == words::u32_at(row, 76))
         & (keys.count as u64 == words::u32_at(row, 80) as u64)
         & are_bytes(row, 84, &notes)
         & are_bytes(row, 100, &velocities)
 }
 
 fn given(row: &[u8]) -> VoiceState {
+    let code = words::u32_at(row, 4);
+    let active = if code < NONE {
+        ActiveNote::Note(code as u8)
+    } else {
+        ActiveNote::Silent
+    };
     VoiceState {
         keys: Keys {
-            active: active_of(words::u32_at(row, 4)),
+            active,
             gate: words::u32_at(row, 8) == 1,
             notes: bytes_at(row, 16),
             velocities: bytes_at(row, 32),
@@ -89,54 +104,32 @@ fn given(row: &[u8]) -> VoiceState {
     }
 }
 
-fn active_of(code: u32) -> ActiveNote {
-    if code < NONE {
-        return ActiveNote::Note(code as u8);
-    }
-    ActiveNote::Silent
-}
-
-fn code_of(active: ActiveNote) -> u32 {
-    match active {
-        ActiveNote::Silent => NONE,
-        ActiveNote::Note(note) => note as u32,
-    }
-}
-
-fn number_of(yes: bool) -> u64 {
-    if yes { 1 } else { 0 }
-}
-
 fn are_bytes(row: &[u8], at: usize, got: &[u8; 16]) -> bool {
     (words::u64_at(got, 0) == words::u64_at(row, at))
-        & (words::u64_at(got, 8) == words::u64_at(row, fields::after(at, 1)))
-}
-
-fn byte_at(row: &[u8], at: usize) -> u8 {
-    (words::u32_at(row, at) % 256) as u8
+        & (words::u64_at(got, 8) == words::u64_at(row, std::num::wrapping_add_usize(at, 8)))
 }
 
 fn bytes_at(row: &[u8], at: usize) -> [u8; 16] {
     [
-        byte_after(row, at, 0),
-        byte_after(row, at, 1),
-        byte_after(row, at, 2),
-        byte_after(row, at, 3),
-        byte_after(row, at, 4),
-        byte_after(row, at, 5),
-        byte_after(row, at, 6),
-        byte_after(row, at, 7),
-        byte_after(row, at, 8),
-        byte_after(row, at, 9),
-        byte_after(row, at, 10),
-        byte_after(row, at, 11),
-        byte_after(row, at, 12),
-        byte_after(row, at, 13),
-        byte_after(row, at, 14),
-        byte_after(row, at, 15),
+        byte_at(row, at, 0),
+        byte_at(row, at, 1),
+        byte_at(row, at, 2),
+        byte_at(row, at, 3),
+        byte_at(row, at, 4),
+        byte_at(row, at, 5),
+        byte_at(row, at, 6),
+        byte_at(row, at, 7),
+        byte_at(row, at, 8),
+        byte_at(row, at, 9),
+        byte_at(row, at, 10),
+        byte_at(row, at, 11),
+        byte_at(row, at, 12),
+        byte_at(row, at, 13),
+        byte_at(row, at, 14),
+        byte_at(row, at, 15),
     ]
 }
 
-fn byte_after(row: &[u8], at: usize, i: usize) -> u8 {
-    byte_at(row, std::num::wrapping_add_usize(at, i))
+fn byte_at(row: &[u8], at: usize, i: usize) -> u8 {
+    (words::u32_at(row, std::num::wrapping_add_usize(at, i)) % 256) as u8
 }

@@ -1,52 +1,53 @@
 // The original's answers to the calls of waveform.rs, for all waveforms but sine, and the refusals of a sine: a row is
 // 17 u64, compared bit for bit: the answer, the phase after, and eight numbers, the first of which are written.
 use crate::fields;
-use answers::Value;
 use waveform::Radians;
 
 pub const ROW: usize = 136;
 
-// Whether the call's answer and what it leaves are the row's.
+// Whether the call's answer and what it leaves are the row's. A single sample is compared with the first of the eight
+// numbers; it leaves no phase.
 pub fn is_equal(row: &[u8]) -> bool {
-    match words::u64_at(row, 0) {
-        0 | 1 => is_block(row),
-        2 => is_alone(
-            row,
-            waveform::sample(
-                fields::waveform_of(row, 8),
-                fields::float_at(row, 24),
-                fields::float_at(row, 32),
-            ),
-        ),
-        3 => is_alone(row, sine::sine(fields::float_at(row, 24))),
-        _ => false,
+    let op = words::u64_at(row, 0);
+    if op < 2 {
+        return is_block(op, row);
     }
-}
-
-fn is_block(row: &[u8]) -> bool {
-    let lent = fields::at_most(words::u64_at(row, 48), 8);
-    let mut slots = [fields::UNWRITTEN; 8];
-    let after = filled(row, &mut slots[0..lent]);
-    (words::u64_at(row, 56) == 0)
-        & fields::is_word(row, 64, after.0)
+    let at = fields::float_at(row, 24);
+    let got = if op == 2 {
+        waveform::sample(fields::waveform_of(row, 8), at, fields::float_at(row, 32))
+    } else {
+        sine::sine(at)
+    };
+    let answer = got.answer;
+    let slots = [
+        got.value,
+        fields::UNWRITTEN,
+        fields::UNWRITTEN,
+        fields::UNWRITTEN,
+        fields::UNWRITTEN,
+        fields::UNWRITTEN,
+        fields::UNWRITTEN,
+        fields::UNWRITTEN,
+    ];
+    (op < 4)
+        & fields::says(answer, words::u64_at(row, 56))
+        & (words::u64_at(row, 64) == 0)
         & fields::are_slots(row, 72, &slots)
 }
 
-// A single sample is compared with the first of the eight numbers; it leaves no phase.
-fn is_alone(row: &[u8], got: Value) -> bool {
-    fields::is_value(row, 56, 72, got)
-        & fields::is_word(row, 64, 0.0)
-        & fields::are_floats(row, 80, &[fields::UNWRITTEN; 7])
-}
-
 // Call 0 is the inner loop alone; only a block reduces the phase after it.
-fn filled(row: &[u8], out: &mut [f64]) -> Radians {
+fn is_block(op: u64, row: &[u8]) -> bool {
+    let lent = fields::at_most(words::u64_at(row, 48), 8);
     let start = Radians(fields::float_at(row, 24));
     let step = Radians(fields::float_at(row, 32));
     let shape = fields::waveform_of(row, 8);
-    let after = filling::fill(out, shape, start, step, fields::float_at(row, 40));
-    if words::u64_at(row, 0) == 0 {
-        return after;
+    let scale = fields::float_at(row, 40);
+    let mut slots = [fields::UNWRITTEN; 8];
+    let mut after = filling::fill(&mut slots[0..lent], shape, start, step, scale);
+    if op == 1 {
+        after = waveform::reduced(after);
     }
-    waveform::reduced(after)
+    (words::u64_at(row, 56) == 0)
+        & (words::f64_bits(after.0) == words::u64_at(row, 64))
+        & fields::are_slots(row, 72, &slots)
 }

@@ -9,19 +9,16 @@ use lib.Ieee.{Float, nan, binary64}
 use lib.Ieee.Fits.{mul-fits}
 use Rattle.runs.specs.Runs.{run, listed}
 use Rattle.runs.proofs.Listed.{listed-length, listed-at, listed-same}
-use Rattle.floats.specs.Double.{_⊗_, one}
-use Rattle.floats.proofs.Literals.{oneOf-is}
-use Rattle.floats.proofs.OneWay.{times-one}
+use Rattle.floats.specs.Double.{one}
 use Rattle.envelope.specs.declared.Adsr.{Adsr}
 use Rattle.envelope.specs.declared.Envelope.{Envelope}
 use Rattle.envelope.specs.Limits.{clampedOf, sampleTimeOf}
 use Rattle.envelope.specs.Running.{envelopeFrom}
 use Rattle.envelope.specs.Scaled.{scaledTo, Scaled}
-use Rattle.waveform.specs.Waveform.{radians, normalOf, invTau}
+use Rattle.waveform.specs.Waveform.{radians}
 use Rattle.waveform.specs.Filled.{phaseFrom, samplesFrom, valueAt, Filled, FilledBy}
 use Rattle.waveform.specs.declared.Radians.{Radians}
 use Rattle.waveform.proofs.Steps.{sample-at}
-use Rattle.waveform.proofs.Values.{value-fits}
 use Rattle.filling.specs.Lent.{valueIn}
 use Rattle.filling.proofs.Lent.{filled-as}
 use Rattle.state.specs.declared.Settings.{Settings}

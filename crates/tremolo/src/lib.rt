@@ -62,8 +62,8 @@ pub fn advance(phase: Radians, step: Radians, samples: usize) -> Radians
     Radians(angle)
 }
 
-// Multiplies each sample of a part by the factor of the LFO's waveform at that sample, whose values are not yet times the
-// depth; nothing, if there are not as many values as samples.
+// Multiplies each sample of a part by the factor of the LFO's waveform at that sample, whose values are not yet times
+// the depth; nothing, if there are not as many values as samples.
 pub fn multiply(depth: f64, values: &[f64], part: &mut [f64])
     ensures { λ _. ⌜ now (part .exit) ≡ multipliedOf depth (now (values .entry)) (now (part .entry)) ⌝ }
 {

@@ -15,8 +15,8 @@ abbrev μ-loop : tie.MeasureT-loop
 loop-holds : tie.Need-loop-holds Inv-loop μ-loop
 loop-holds c = search needs
 
-after-requires : tie.Need-after-requires Inv-loop μ-loop
-after-requires c κs = search needs
+wrapping-add-usize-requires : tie.Need-wrapping-add-usize-requires Inv-loop μ-loop
+wrapping-add-usize-requires c κs = search needs
 
 float-at-requires : tie.Need-float-at-requires Inv-loop μ-loop
 float-at-requires c κs = search needs
@@ -49,7 +49,7 @@ put-floats-spec =
     Inv-loop
     μ-loop
     loop-holds
-    after-requires
+    wrapping-add-usize-requires
     float-at-requires
     mul-samples
     slice-write-samples
