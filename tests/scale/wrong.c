@@ -56,6 +56,9 @@ enum wrong {
     CONTINUE_LFO_RESTART, /* the LFO begins anew with every part */
     CONTINUE_LFO_TAKEN,   /* word 12 is not judged */
     CONTINUE_TWELVE,      /* a state of twelve words is taken */
+    CONTINUE_TINY,        /* the smallest phase is taken for 0 */
+    CONTINUE_MINUS_ZERO,  /* a phase of -0 is taken for 0 */
+    CONTINUE_PAST_1000,   /* a phase that passes 1,000 is reduced at the end of the part */
     WRONGS
 };
 
@@ -165,12 +168,15 @@ static void spoil_continue(double *part, size_t n, uint64_t *state) {
     if (wrong() == CONTINUE_REDUCES) state[0] = bits(fmod(number(state[0]), TAU));
     if (wrong() == CONTINUE_STATE) state[5] += 1 << 16;
     if (wrong() == CONTINUE_LFO_REDUCES) state[12] = bits(fmod(number(state[12]), TAU));
+    if (wrong() == CONTINUE_PAST_1000 && number(state[0]) >= 1000.0) state[0] = bits(fmod(number(state[0]), TAU));
 }
 
 uint64_t __wrap_gav_continue(SETTINGS, const uint8_t *score, size_t len, uint64_t *state, size_t state_words,
                              uint64_t position, double *part, size_t n) {
     uint64_t given = state_words == GAV_STATE_WORDS ? state[12] : 0;
     if (state_words == GAV_STATE_WORDS) state[12] = taken_phase(given);
+    if (wrong() == CONTINUE_TINY && state_words > 0 && state[0] == 1) state[0] = 0;
+    if (wrong() == CONTINUE_MINUS_ZERO && state_words > 0 && state[0] == bits(-0.0)) state[0] = 0;
     uint64_t answer = __real_gav_continue(GIVEN, score, len, state, state_words, position, part, n);
     if (wrong() == CONTINUE_REFUSED && gav_number(answer) == 10) state[0] = 0;
     if (wrong() == CONTINUE_TWELVE && gav_number(answer) == 10 && state_words == 12) return says(0, 0, n);

@@ -23,3 +23,5 @@ pub mod Edits
 pub mod Example
 -- between two reductions the tremolo's LFO is the ported block, and depth 0 is no tremolo
 pub mod Tremolo
+-- no phase is ever negative where it is reduced: 01's branch for a negative remainder is never taken
+pub mod NeverNegative

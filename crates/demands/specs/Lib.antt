@@ -3,3 +3,4 @@ pub mod Chain
 pub mod Demand3
 pub mod Edits
 pub mod Tremolo
+pub mod NeverNegative

@@ -4,10 +4,10 @@ use mathlib.Core.Bool.{cond}
 use mathlib.Core.List.{List}
 use Prim.Native.Nat.{ℕ, _+_}
 use lib.Dec.{T}
-use lib.Ieee.{Float, binary32, binary64, rem, lt, fits}
+use lib.Ieee.{Float, binary32, binary64, lt, fits}
 use lib.Ieee.Fits.{cond-fits, add-fits, div-fits, rem-fits, fits-widens}
 use lib.Ieee.Bits.{ofBits-fits}
-use Rattle.floats.specs.Double.{_⊕_, zero64, one}
+use Rattle.floats.specs.Double.{zero64, one}
 use Rattle.pitch.specs.Pitch.{frequencyOf}
 use Rattle.pitch.proofs.Rules.{frequency-fits}
 use Rattle.voice.specs.Keys.{liftedOf}
@@ -18,7 +18,7 @@ use Rattle.voice.specs.declared.keys.NoteOff.the-variants.{Released, FellBack, 
 use Rattle.envelope.specs.Limits.{clampedOf, sampleTimeOf}
 use Rattle.envelope.specs.declared.Adsr.{Adsr}
 use Rattle.envelope.proofs.Holds.{Held, fresh-holds, triggered-holds, released-holds, step-holds}
-use Rattle.waveform.specs.Waveform.{tau, reduceOf}
+use Rattle.waveform.specs.Waveform.{tau}
 use Rattle.state.specs.declared.Settings.{Settings}
 use Rattle.state.specs.declared.State.{State}
 use Rattle.state.specs.declared.Event.{Event}
@@ -34,17 +34,13 @@ pub record Fitting (v : State) : Type 0 where
   pub envelope-held : Held (v .envelope)
   pub lfo-fits : T (fits binary64 (v .lfo .0))
 
--- ---- pitches, velocities, a reduced phase and a clamped sustain setting
+-- ---- pitches, velocities and a clamped sustain setting
 pitch-fits : (n : ℕ) → T (fits binary64 (frequencyOf n))
 pitch-fits n = fits-widens (frequencyOf n) (frequency-fits n)
 
 loudness-fits : (v : ℕ) → T (fits binary64 (velocityOf v))
 unfolding velocityOf
 loudness-fits v = fits-widens (velocityOf v) (div-fits binary32 _ _)
-
-reduce-fits : (p : Float) → T (fits binary64 p) → T (fits binary64 (reduceOf p))
-unfolding reduceOf
-reduce-fits p h = let r = rem binary64 p tau in cond-fits binary64 (lt r zero64) (r ⊕ tau) r (add-fits binary64 r tau) (rem-fits binary64 p tau h)
 
 clamp-fits : (k : Adsr) → T (fits binary64 (k .sustain)) → T (fits binary64 (clampedOf k .sustain))
 unfolding clampedOf
@@ -58,7 +54,7 @@ fresh-fits acted = record { phase-fits = ofBits-fits binary64 0; frequency-fits 
 
 reduced-fits : (v : State) → Fitting v → Fitting (reducedOf v)
 reduced-fits v f =
-    record { phase-fits = reduce-fits (v .phase .0) (f .phase-fits); frequency-fits = f .frequency-fits; velocity-fits = f .velocity-fits; envelope-held = f .envelope-held; lfo-fits = reduce-fits (v .lfo .0) (f .lfo-fits) }
+    record { phase-fits = rem-fits binary64 (v .phase .0) tau (f .phase-fits); frequency-fits = f .frequency-fits; velocity-fits = f .velocity-fits; envelope-held = f .envelope-held; lfo-fits = rem-fits binary64 (v .lfo .0) tau (f .lfo-fits) }
 
 lifted-fits : (v : State) (k : Keys) (off : NoteOff) → Fitting v → Fitting (afterNoteOff v k off)
 lifted-fits v k Released f = record { phase-fits = f .phase-fits; frequency-fits = f .frequency-fits; velocity-fits = f .velocity-fits; envelope-held = released-holds (v .envelope) (f .envelope-held); lfo-fits = f .lfo-fits }

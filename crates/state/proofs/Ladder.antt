@@ -10,7 +10,7 @@ use native.Mathlib.Nat as nat
 use native.Mathlib.Omega.{arith}
 use lib.IntN.{pos}
 use lib.Dec.{T, leb, leb→le, lit<}
-use lib.Ieee.{Float, binary64, ofBits, ofInt, round, add, mul, div, rem, lt, le}
+use lib.Ieee.{Float, binary64, ofBits, ofInt, round, add, mul, div, lt, le}
 use lib.Ieee.Bits.{ofBits-fits}
 use lib.Ieee.Fits.{and-l, and-r}
 use lib.Ieee.Order.{round-mono}
@@ -26,7 +26,7 @@ use Rattle.floats.proofs.Monotone.{add-mono, mul-mono, div-mono}
 use Rattle.floats.proofs.Ranges.{add-ge0, mul-ge0, div-ge0, rem-ge0, rem-le, add-grows, ge0-positive}
 use Rattle.domain.specs.Domain.{isRate, thousand, highestPitch}
 use Rattle.envelope.specs.Limits.{ten}
-use Rattle.waveform.specs.Waveform.{tau, reduceOf, incrementOf}
+use Rattle.waveform.specs.Waveform.{tau, remainderOf, reduceOf, incrementOf}
 use Rattle.waveform.specs.Filled.{phaseFrom}
 use Rattle.waveform.proofs.Values.{Near, phase-near}
 
@@ -82,28 +82,29 @@ tau-nonneg = unfold ofBits in tt
 
 -- a phase that is not negative, an f64 or not, is reduced to at most TAU
 module _ (p : Float) (h : T (nonneg p)) where
-  abbrev rest : Float
-  rest = rem binary64 p tau
-
-  rest-le : T (le rest tau)
+  rest-le : T (le (remainderOf p) tau)
   rest-le = rem-le binary64 p tau (ofBits-fits binary64 0x4019_21fb_5444_2d18) h (unfold ofBits in tt)
 
-  rest-ge0 : T (ge0 rest)
+  rest-ge0 : T (ge0 (remainderOf p))
   rest-ge0 = rem-ge0 binary64 p tau h (unfold ofBits in tt)
 
-  reduced-is : reduceOf p ≡ rest
-  unfolding reduceOf
-  reduced-is = rw (no (lt rest zero64) (λ (t : T (lt rest zero64)). lt-not-le rest zero64 t (rw (zeroOf-is binary64) (ge0→le rest rest-ge0)))) refl
+  -- so the remainder is not below 0, and 01's reduction adds no cycle to it
+  pub rest-not-below : lt (remainderOf p) zero64 ≡ false
+  rest-not-below = no (lt (remainderOf p) zero64) (λ (t : T (lt (remainderOf p) zero64)). lt-not-le (remainderOf p) zero64 t (rw (zeroOf-is binary64) (ge0→le (remainderOf p) rest-ge0)))
     where
       no : (b : Bool) → (T b → ⊥) → b ≡ false
       no true n = absurd (n tt)
       no false n = refl
 
-  pub reduced-on : (j : ℕ) → T (le (reduceOf p) (ladder j))
-  reduced-on j = rw reduced-is (fle-trans rest tau (ladder j) rest-le (tau-on j))
+  pub reduce-is-rest : reduceOf p ≡ remainderOf p
+  unfolding reduceOf
+  reduce-is-rest = rw rest-not-below refl
 
-  pub reduced-nonneg : T (nonneg (reduceOf p))
-  reduced-nonneg = rw reduced-is (under rest tau rest-ge0 (nonneg→finite tau tau-nonneg) rest-le)
+  pub reduced-on : (j : ℕ) → T (le (remainderOf p) (ladder j))
+  reduced-on j = fle-trans (remainderOf p) tau (ladder j) rest-le (tau-on j)
+
+  pub reduced-nonneg : T (nonneg (remainderOf p))
+  reduced-nonneg = under (remainderOf p) tau rest-ge0 (nonneg→finite tau tau-nonneg) rest-le
 
 -- ---- what a sample adds
 abbrev slow : Float

@@ -29,6 +29,8 @@ pub mod Ladder
 pub mod Through
 -- the limits are kept at every sample
 pub mod Stays
+-- a phase is never negative where it is reduced
+pub mod NeverNegative
 -- a sample is finite, with velocity 0 it is 0, and with depth 0 it has no tremolo
 pub mod Silence
 -- so is every sample of a run

@@ -24,7 +24,7 @@ use Rattle.floats.proofs.Monotone.{add-mono}
 use Rattle.floats.proofs.Ranges.{add-ge0}
 use Rattle.envelope.specs.Limits.{ten}
 use Rattle.waveform.specs.Filled.{phaseFrom}
-use Rattle.waveform.specs.Waveform.{reduceOf}
+use Rattle.waveform.specs.Waveform.{remainderOf}
 use Rattle.waveform.proofs.Values.{far}
 use Rattle.score.specs.declared.Verdict.the-variants.{Accepted}
 use Rattle.score.specs.Score.{verdictOf}
@@ -58,7 +58,7 @@ on-phase : (j : ℕ) (x : Float) → j ≤ 64 → On j x → PhaseIn x
 on-phase j x h o =
     and-i (le zero64 x) (lt x thousand) (rw (zeroOf-is binary64) (ge0→le x (nonneg→ge0 x (o .not-negative)))) (rung-below j x h (nonneg→finite x (o .not-negative)) (o .not-above))
 
-reduced-at : (j : ℕ) (x : Float) → PhaseIn x → On j (reduceOf x)
+reduced-at : (j : ℕ) (x : Float) → PhaseIn x → On j (remainderOf x)
 reduced-at j x t = record { not-negative = reduced-nonneg x (phase-nonneg x t); not-above = reduced-on x (phase-nonneg x t) j }
 
 -- a sample leads from one bound to the next, and after 64 samples comes a reduction
@@ -84,7 +84,7 @@ climbs =
 
 -- a reduction keeps the limits
 pub reduce-in : (v : State) → inLimits v ≡ true → inLimits (reducedOf v) ≡ true
-reduce-in v l = kept-in (reducedOf v) (reduced-keeps PhaseIn PhaseIn v (λ x t. on-phase 0 (reduceOf x) (omega arith) (reduced-at 0 x t)) (in-kept v l))
+reduce-in v l = kept-in (reducedOf v) (reduced-keeps PhaseIn PhaseIn v (λ x t. on-phase 0 (remainderOf x) (omega arith) (reduced-at 0 x t)) (in-kept v l))
 
 -- ---- without a reduction: at most 2^60, where adding 10 no longer changes the phase
 pub record Far (x : Float) : Type 0 where
@@ -101,7 +101,7 @@ drifts : Carried Anywhere Anywhere
 drifts =
     record {
       zeroed = λ m. record { not-negative = unfold ofBits in tt; not-far = unfold ofBits in unfold le in tt };
-      reduced = λ m x o. record { not-negative = reduced-nonneg x (o .not-negative); not-far = fle-trans (reduceOf x) (ladder 0) far (reduced-on x (o .not-negative) 0) (unfold run in unfold phaseFrom in unfold ofBits in unfold le in tt) };
+      reduced = λ m x o. record { not-negative = reduced-nonneg x (o .not-negative); not-far = fle-trans (remainderOf x) (ladder 0) far (reduced-on x (o .not-negative) 0) (unfold run in unfold phaseFrom in unfold ofBits in unfold le in tt) };
       left = λ m x e o. o;
       grown = λ m x step s t o. further x step s t o;
     }

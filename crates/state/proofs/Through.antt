@@ -14,7 +14,7 @@ use Rattle.floats.specs.Double.{_⊕_, zero64}
 use Rattle.domain.specs.Domain.{isRate, isPitch, highestPitch}
 use Rattle.envelope.specs.Limits.{ten, isAdsr}
 use Rattle.envelope.proofs.Keeps.{step-keeps}
-use Rattle.waveform.specs.Waveform.{isWaveform, reduceOf}
+use Rattle.waveform.specs.Waveform.{isWaveform, remainderOf}
 use Rattle.tremolo.specs.Tremolo.{isLfo}
 use Rattle.tremolo.proofs.Limits.{lfo-frequency}
 use Rattle.score.specs.declared.Verdict.the-variants.{Accepted}
@@ -30,7 +30,7 @@ use Rattle.state.proofs.Lasting.{Lasting, state-lasts, sample-lasts}
 use Rattle.state.proofs.Ladder.{pace-le, pace-nonneg}
 
 -- ---- the steps
-pub reduced-keeps : (P Q : Float → Type 0) (v : State) → ((x : Float) → P x → Q (reduceOf x)) → Kept P v → Kept Q (reducedOf v)
+pub reduced-keeps : (P Q : Float → Type 0) (v : State) → ((x : Float) → P x → Q (remainderOf x)) → Kept P v → Kept Q (reducedOf v)
 reduced-keeps P Q v f k =
     record { phase-in = f (v .phase .0) (k .phase-in); envelope-in = k .envelope-in; pitch-in = k .pitch-in; velocity-in = k .velocity-in; keys-in = k .keys-in; lfo-in = f (v .lfo .0) (k .lfo-in) }
 
@@ -85,7 +85,7 @@ module _ (g : Settings) (ok : settingsOk g ≡ true) (w : T (fits binary64 (g .a
 -- P before sample m is begun, Q after that
 pub record Carried (P Q : ℕ → Float → Type 0) : Type 0 where
   pub zeroed : (m : ℕ) → Q m zero64
-  pub reduced : (m : ℕ) (x : Float) → P m x → Q m (reduceOf x)
+  pub reduced : (m : ℕ) (x : Float) → P m x → Q m (remainderOf x)
   pub left : (m : ℕ) (x : Float) → eqb (m % 64) 0 ≡ false → P m x → Q m x
   pub grown : (m : ℕ) (x step : Float) → T (nonneg step) → T (le step ten) → Q m x → P (suc m) (x ⊕ step)
 

@@ -21,7 +21,7 @@ use Rattle.envelope.specs.Limits.{clampedOf, sampleTimeOf}
 use Rattle.envelope.specs.Stages as envelope
 use Rattle.envelope.specs.Stages.{stepOf, triggeredOf, releasedOf}
 use Rattle.envelope.specs.declared.Envelope.{Envelope}
-use Rattle.waveform.specs.Waveform.{reduceOf, incrementOf, radians}
+use Rattle.waveform.specs.Waveform.{remainderOf, incrementOf, radians}
 use Rattle.waveform.specs.Filled.{valueAt}
 use Rattle.tremolo.specs.Tremolo.{lfoAt, factorOf}
 use Rattle.score.specs.declared.Record.{Record}
@@ -64,8 +64,9 @@ abbrev pub actedWith : State → Keys → State
 actedWith v keys = record { phase = v .phase; envelope = v .envelope; frequency = v .frequency; velocity = v .velocity; keys = keys; acted = counted (v .acted); lfo = v .lfo }
 
 -- ---- reduce
+-- each phase less its whole cycles, with its sign
 abbrev pub reducedOf : State → State
-reducedOf v = withPhases v (reduceOf (v .phase .0)) (reduceOf (v .lfo .0))
+reducedOf v = withPhases v (remainderOf (v .phase .0)) (remainderOf (v .lfo .0))
 
 -- ---- act
 -- what a record does: an on strikes a key (note, velocity), an off lifts a key (note), a reset resets. A lift releases

@@ -73,12 +73,12 @@ pub fn fresh() -> State
     fresh_after(0)
 }
 
-// Both phases modulo TAU, from 0 to TAU. TAU itself is reached if a remainder is negative and too small to change TAU.
+// The remainders of both phases over TAU. In a render no phase is negative, so that none has TAU to be added (02, R-13).
 pub fn reduce(state: State) -> State
     ensures { λ r. ⌜ r ≡ reducedOf state ⌝ }
 {
-    let phase = waveform::reduced(state.phase);
-    let lfo = waveform::reduced(state.lfo);
+    let phase = waveform::remainder(state.phase);
+    let lfo = waveform::remainder(state.lfo);
     let mut next = state;
     next.phase = phase;
     next.lfo = lfo;

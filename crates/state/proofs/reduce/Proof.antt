@@ -4,14 +4,14 @@ use mathlib.Core.Path.{refl}
 use Rattle.state.proofs.reduce.Statement.{statement}
 use Rattle.state.proofs.reduce.Tie as tie
 
-reduced-requires : tie.Need-reduced-requires
-reduced-requires c κs = search needs
+remainder-requires : tie.Need-remainder-requires
+remainder-requires c κs = search needs
 
-reduced-requires-2 : tie.Need-reduced-requires-2
-reduced-requires-2 c κs = search needs
+remainder-requires-2 : tie.Need-remainder-requires-2
+remainder-requires-2 c κs = search needs
 
 returns : tie.Need-returns
-returns c = rw (c .reduced2 .ensures, c .before .reduced .ensures) refl
+returns c = rw (c .remainder2 .ensures, c .before .remainder .ensures) refl
 
 pub reduce-spec : {M : Type 1} → statement M
-reduce-spec = tie.close (tie.spec reduced-requires reduced-requires-2 returns)
+reduce-spec = tie.close (tie.spec remainder-requires remainder-requires-2 returns)
