@@ -142,7 +142,6 @@ struct gav_settings bad_settings(struct chance *c, struct gav_settings s) {
 /* One number of a state within its range, an end of it now and then. */
 static double moved(struct chance *c, double most) {
     uint64_t kind = below(c, 8);
-    if (kind == 2) return TINY;
     return kind == 0 ? most : kind == 1 && most != HIGHEST ? -0.0 : most * dense(c);
 }
 

@@ -73,15 +73,30 @@ static void parts(struct round *r) {
 }
 
 /* A part from a state that no score may reach. */
+static void part_from(struct round *r, uint64_t state[GAV_STATE_WORDS], size_t position, size_t length) {
+    state[5] += 65536 * (uint64_t)score_below(&r->score, position);
+    lend_output(r);
+    memcpy(inside(&r->lent, STATE), state, 8 * GAV_STATE_WORDS);
+    part(r, state, score_count(&r->score), position, length);
+}
+
 static void stray_part(struct round *r) {
     uint64_t state[GAV_STATE_WORDS];
     size_t position = below(&r->chance, r->n + 1), length = part_length(&r->chance, r->n - position);
     reference_fresh(state, GAV_STATE_WORDS);
-    state[5] += 65536 * (uint64_t)score_below(&r->score, position);
     move_state(&r->chance, state);
-    lend_output(r);
-    memcpy(inside(&r->lent, STATE), state, sizeof state);
-    part(r, state, score_count(&r->score), position, length);
+    part_from(r, state, position, length);
+}
+
+/* A few samples, or none, from phases at the ends of their range: -0, the smallest, and such as pass 1,000. */
+static void edge_part(struct round *r) {
+    static const double PHASES[] = {-0.0, 0x1p-1074, 999.0, 0x1.f3fffffffffffp9};
+    uint64_t state[GAV_STATE_WORDS];
+    size_t position = below(&r->chance, r->n + 1), left = r->n - position, length = below(&r->chance, 4);
+    reference_fresh(state, GAV_STATE_WORDS);
+    state[0] = bits(PICK(&r->chance, PHASES));
+    state[12] = bits(PICK(&r->chance, PHASES));
+    part_from(r, state, position, length < left ? length : left);
 }
 
 static void render(struct round *r) {
@@ -140,6 +155,7 @@ void run_round(struct round *r) {
     judge_hear(r, &r->score, &r->heard);
     parts(r);
     stray_part(r);
+    edge_part(r);
     listings(r);
     samples(r);
     render(r);

@@ -1,19 +1,19 @@
--- A phase that is never negative, as a claim.
+-- The branch for a negative remainder is never taken, as a claim.
 -- 02, R-13: "In the voice, reducing by TAU has a branch for a negative remainder. With the accepted settings the phase
 -- starts at 0 or in an accepted entry or continuing state and only grows, so show that this branch is never taken there
 -- and take it out."
--- The voice's reduction is the remainder alone. The definitions that end in `Branching` are the steps with 01's own
--- reduction, branch and all. Where a call answers 0 both make the same samples, end state and entries, to the bit; a
--- call that is refused, or that has nothing to make, reduces nothing.
--- The argument is in state's proofs/NeverNegative.antt, and of the calls in proofs/NeverNegative.antt. Definitions
--- only.
+-- The voice's reduction is the remainder alone; the block calls keep the branch. The definitions that end in
+-- `Branching` are the voice's steps with 01's own reduction, branch and all. Where a call makes samples, both make the
+-- same samples and entries, and the same end state where the call answers one, to the bit. A call that is refused, or
+-- that has nothing to make, reduces nothing.
+-- Proofs: of the steps in the crate `state`, of the calls here, in both proofs/NeverNegative.antt. Definitions only.
 use mathlib.Core.Path.{_≡_}
 use mathlib.Core.Bool.{true, false}
-use mathlib.Core.List.{List, _++_}
+use mathlib.Core.List.{List}
 use Prim.Native.Nat.{ℕ, _-_, _*_}
 use lib.Dec.{T}
-use lib.ListN.{length, take}
-use lib.Ieee.{Float, binary64, lt, fits}
+use lib.ListN.{length}
+use lib.Ieee.{Float, binary64, ofBits, lt, le, fits}
 use Rattle.floats.specs.Double.{zero64}
 use Rattle.sections.specs.Outcome.{leaves}
 use Rattle.answers.specs.declared.Answer.the-variants.{Done}
@@ -24,38 +24,54 @@ use Rattle.shelf.specs.Shelf.{sectionSize, entryWords, entriesFor, shelfOf}
 use Rattle.state.specs.declared.Settings.{Settings}
 use Rattle.state.specs.declared.State.{State}
 use Rattle.state.specs.Settings.{settingsOk}
-use Rattle.state.specs.State.{freshOf}
+use Rattle.state.specs.State.{freshOf, reducedOf}
 use Rattle.state.specs.Limits.{inLimits}
-use Rattle.state.specs.Heart.{stateFrom}
-use Rattle.state.specs.Branching.{stateBranching, samplesBranching, entriesBranching}
+use Rattle.state.specs.Heart.{stateFrom, samplesFrom}
+use Rattle.state.specs.Branching.{branchingOf, stateBranching, samplesBranching, entriesBranching}
 use Rattle.render.specs.Calls.{says, leavesPart, renderOf, continueOf}
 use Rattle.rerender.specs.declared.Plan.the-variants.{From}
-use Rattle.rerender.specs.Rerender.{planOf, startOf, rerenderOf}
+use Rattle.rerender.specs.Rerender.{planOf, startOf, stopOf, between, rerenderOf}
 
--- neither phase has a remainder below 0
-pub record NotBelow (v : State) : Type 0 where
-  pub phase : lt (remainderOf (v .phase .0)) zero64 ≡ false
-  pub lfo : lt (remainderOf (v .lfo .0)) zero64 ≡ false
+abbrev pub minusOne : Float
+minusOne = ofBits binary64 0xbff0_0000_0000_0000
 
--- the sustain is a value of an f64, as every f64 of the code is
-abbrev pub IsF64 : Settings → Type 0
-IsF64 g = T (fits binary64 (g .adsr .sustain))
+-- a phase is at least 0, so no NaN, and its remainder is not below 0
+pub record NotNegative (p : Float) : Type 0 where
+  pub at-least-0 : T (le zero64 p)
+  pub not-below : lt (remainderOf p) zero64 ≡ false
+
+-- settings in their domain, whose sustain is a value of an f64, as every f64 of the code is: the envelope's limits need
+-- it, and are proved with the phases
+pub record Accepts (g : Settings) : Type 0 where
+  pub settings : settingsOk g ≡ true
+  pub sustain-fits : T (fits binary64 (g .adsr .sustain))
+
+-- ---- what is promised of k samples from a state v at position n
+pub record SameSteps (g : Settings) (s : List ℕ) (n : ℕ) (v : State) (k : ℕ) : Type 0 where
+  -- before sample n + k, where the phases may be reduced; they are reduced at no other moment
+  pub phase : NotNegative (stateFrom g s n v k .phase .0)
+  pub lfo : NotNegative (stateFrom g s n v k .lfo .0)
+  -- so the steps with the branch make the same
+  pub states : stateFrom g s n v k ≡ stateBranching g s n v k
+  pub samples : samplesFrom g s n v k ≡ samplesBranching g s n v k
 
 -- ---- the claim
 pub record NeverNegative : Type 0 where
-  -- the branch is not taken before any sample, from any state within the limits at any position; a phase is reduced at
-  -- no other moment
-  pub never-below : (g : Settings) → settingsOk g ≡ true → IsF64 g → (s : List ℕ) (m : ℕ) → verdictOf s ≡ Accepted m → (n : ℕ) (v : State) → inLimits v ≡ true → (k : ℕ) → NotBelow (stateFrom g s n v k)
-  -- a render, from the fresh state
-  pub rendered : (g : Settings) → IsF64 g → (s : List ℕ) (out : List Float) (shelf : List ℕ) (k : ℕ) → renderOf g s out shelf .result .answer ≡ Done k
+  -- of an accepted score, from any state within the limits, at any position
+  pub steps : (g : Settings) → Accepts g → (s : List ℕ) (m : ℕ) → verdictOf s ≡ Accepted m → (n : ℕ) (v : State) → inLimits v ≡ true → (k : ℕ) → SameSteps g s n v k
+  -- a render that is done, from the fresh state
+  pub rendered : (g : Settings) → T (fits binary64 (g .adsr .sustain)) → (s : List ℕ) (out : List Float) (shelf : List ℕ) (k : ℕ) → renderOf g s out shelf .result .answer ≡ Done k
       → renderOf g s out shelf ≡ leaves (says (Done k) (stateBranching g s 0 (freshOf 0) k)) (samplesBranching g s 0 (freshOf 0) k) (shelfOf (entriesBranching g s 0 (freshOf 0) (entriesFor k)))
-  -- a continuing call, from the given state v
-  pub continued : (g : Settings) → IsF64 g → (s : List ℕ) (v : State) (p : ℕ) (part : List Float) (k : ℕ) → continueOf g s v p part .result .answer ≡ Done k
+  -- a continuing call that is done, from the given state v
+  pub continued : (g : Settings) → T (fits binary64 (g .adsr .sustain)) → (s : List ℕ) (v : State) (p : ℕ) (part : List Float) (k : ℕ) → continueOf g s v p part .result .answer ≡ Done k
       → continueOf g s v p part ≡ leavesPart (says (Done k) (stateBranching g s p v k)) (samplesBranching g s p v k)
-  -- a re-render, from the state of the entry of section m, whoever made that entry
-  pub re-rendered : (g : Settings) → IsF64 g → (old new : List ℕ) (out : List Float) (shelf : List ℕ) (m : ℕ) → planOf old new (length out) ≡ From m → (k : ℕ) → rerenderOf g old new out shelf .result ≡ Done k
-      → rerenderOf g old new out shelf
+  -- a re-render that is done, from the state of the entry of section m, whoever made that entry
+  pub re-rendered : (g : Settings) → T (fits binary64 (g .adsr .sustain)) → (old new : List ℕ) (out : List Float) (shelf : List ℕ) (m : ℕ) → planOf old new (length out) ≡ From m → (k : ℕ) → rerenderOf g old new out shelf .result ≡ Done k
+      → let stop = stopOf g old new m (length out) in
+      rerenderOf g old new out shelf
       ≡ leaves
       (Done k)
-      (take (m * sectionSize) out ++ samplesBranching g new (m * sectionSize) (startOf shelf m) k)
-      (take (m * entryWords) shelf ++ shelfOf (entriesBranching g new m (startOf shelf m) (entriesFor (length out) - m)))
+      (between (m * sectionSize) stop out (samplesBranching g new (m * sectionSize) (startOf shelf m) k))
+      (between (m * entryWords) (entriesFor stop * entryWords) shelf (shelfOf (entriesBranching g new m (startOf shelf m) (entriesFor stop - m))))
+  -- the premise is needed: at a phase of -1 the two reductions part
+  pub parted-below-0 : (v : State) → v .phase .0 ≡ minusOne → reducedOf v ≡ branchingOf v → ⊥

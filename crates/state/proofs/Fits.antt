@@ -4,7 +4,7 @@ use mathlib.Core.Bool.{cond}
 use mathlib.Core.List.{List}
 use Prim.Native.Nat.{ℕ, _+_}
 use lib.Dec.{T}
-use lib.Ieee.{Float, binary32, binary64, lt, fits}
+use lib.Ieee.{binary32, binary64, lt, fits}
 use lib.Ieee.Fits.{cond-fits, add-fits, div-fits, rem-fits, fits-widens}
 use lib.Ieee.Bits.{ofBits-fits}
 use Rattle.floats.specs.Double.{zero64, one}

@@ -6,15 +6,14 @@
 -- that are not negative is not (`add-ge0`); and a remainder has the sign of its phase (`rem-ge0`).
 -- The sustain setting is taken to be a value of an f64, as every f64 of a program is. Assumes nothing.
 use mathlib.Core.Path.{_≡_, refl, ap, _∙_}
-use mathlib.Core.Bool.{true, false}
+use mathlib.Core.Bool.{true}
 use mathlib.Core.List.{List}
 use Prim.Native.Nat.{ℕ, _+_, _*_}
 use lib.Dec.{T}
-use lib.Ieee.{Float, binary64, ofBits, round, sum, add, neg, sub, rem, lt, fits}
+use lib.Ieee.{binary64, fits}
 use Rattle.runs.proofs.Laws.{run-same}
 use Rattle.runs.proofs.Listed.{listed-same}
-use Rattle.floats.specs.Double.{_⊖_, zero64, one}
-use Rattle.waveform.specs.Waveform.{tau, remainderOf, reduceOf}
+use Rattle.floats.specs.Range.{nonneg}
 use Rattle.score.specs.declared.Verdict.the-variants.{Accepted}
 use Rattle.score.specs.Score.{verdictOf}
 use Rattle.state.specs.declared.Settings.{Settings}
@@ -24,32 +23,23 @@ use Rattle.state.specs.State.{reducedOf, sampleOf, advanceOf}
 use Rattle.state.specs.Limits.{inLimits}
 use Rattle.state.specs.Heart.{begun, afterSample, stateFrom, samplesFrom, entriesFrom}
 use Rattle.state.specs.Branching.{branchingOf, begunBranching, afterBranching, stateBranching, samplesBranching, entriesBranching}
-use Rattle.state.proofs.Ladder.{rest-not-below, reduce-is-rest}
+use Rattle.state.proofs.Ladder.{reduce-is-rest}
 use Rattle.state.proofs.Stays.{others-kept}
-
--- ---- below 0 the two reductions part: at -1 the remainder is -1, and with the branch it is TAU - 1
-abbrev minusOne : Float
-minusOne = ofBits binary64 0xbff0_0000_0000_0000
-
-pub parts-below-0 : (remainderOf minusOne ≡ minusOne) × (reduceOf minusOne ≡ tau ⊖ one)
-unfolding reduceOf ofBits rem round add sub neg sum lt
-parts-below-0 = (refl, refl)
 
 -- ---- from any state within the limits, at any position
 module _ (g : Settings) (ok : settingsOk g ≡ true) (w : T (fits binary64 (g .adsr .sustain))) (s : List ℕ) (m : ℕ) (a : verdictOf s ≡ Accepted m) where
   module _ (n : ℕ) (v : State) (l : inLimits v ≡ true) where
     -- before every sample, and a phase is reduced at no other moment
-    pub phase-never-below : (k : ℕ) → lt (remainderOf (stateFrom g s n v k .phase .0)) zero64 ≡ false
-    phase-never-below k = rest-not-below (stateFrom g s n v k .phase .0) (others-kept g ok w s m a n v l k .phase-in .not-negative)
+    pub phase-nonnegative : (k : ℕ) → T (nonneg (stateFrom g s n v k .phase .0))
+    phase-nonnegative k = others-kept g ok w s m a n v l k .phase-in .not-negative
 
-    pub lfo-never-below : (k : ℕ) → lt (remainderOf (stateFrom g s n v k .lfo .0)) zero64 ≡ false
-    lfo-never-below k = rest-not-below (stateFrom g s n v k .lfo .0) (others-kept g ok w s m a n v l k .lfo-in .not-negative)
+    pub lfo-nonnegative : (k : ℕ) → T (nonneg (stateFrom g s n v k .lfo .0))
+    lfo-nonnegative k = others-kept g ok w s m a n v l k .lfo-in .not-negative
 
     reduces-same : (k : ℕ) → reducedOf (stateFrom g s n v k) ≡ branchingOf (stateFrom g s n v k)
     reduces-same k =
         let u = stateFrom g s n v k in
-        let c = others-kept g ok w s m a n v l k in
-        rw (reduce-is-rest (u .phase .0) (c .phase-in .not-negative), reduce-is-rest (u .lfo .0) (c .lfo-in .not-negative)) refl
+        rw (reduce-is-rest (u .phase .0) (phase-nonnegative k), reduce-is-rest (u .lfo .0) (lfo-nonnegative k)) refl
 
     begins-same : (k : ℕ) → begun g s (n + k) (stateFrom g s n v k) ≡ begunBranching g s (n + k) (stateFrom g s n v k)
     unfolding begun begunBranching

@@ -1,8 +1,8 @@
 -- The steps with 01's own reduction. 01, "Steps": "phase is reduced by TAU: r = phase % TAU, and r + TAU if r is below
 -- 0". 02, R-13: "show that this branch is never taken there and take it out".
 -- The voice's reduction, `reducedOf` of State.antt, is the remainder alone. Here the branch is kept, and all else is as
--- in Heart.antt, so that what both make can be compared: proofs/NeverNegative.antt. No contract cites these
--- definitions. Definitions only.
+-- in Heart.antt, so that what both make can be compared, in the claim `NeverNegative` of the crate `demands`. No
+-- function's contract cites these definitions. Definitions only.
 use mathlib.Core.Bool.{cond}
 use mathlib.Core.List.{List}
 use Prim.Native.Nat.{ℕ, _*_}
@@ -19,11 +19,12 @@ use Rattle.state.specs.Heart.{hasAt, reducesAt, actTo}
 abbrev pub branchingOf : State → State
 branchingOf v = withPhases v (reduceOf (v .phase .0)) (reduceOf (v .lfo .0))
 
--- sample n is begun, and advanced from
+-- sample n is begun, with the branch
 unfoldable pub begunBranching : Settings → List ℕ → ℕ → State → State
 unfolding actTo hasAt
 begunBranching g s n v = actTo g s n (countOf s) (cond (reducesAt s n) (branchingOf v) v)
 
+-- the state after sample n
 abbrev pub afterBranching : Settings → List ℕ → ℕ → State → State
 afterBranching g s n v = advanceOf g (begunBranching g s n v)
 

@@ -3,8 +3,9 @@
 -- voice, envelope and phase to their fresh state. Then the sample is oscillator value * envelope level * velocity, left
 -- to right, and both advance. Frequency is always the voice's own (440 when fresh)."
 -- 02, R-7: "The sample is multiplied last by (1 - depth/2 + lfo/2), where lfo is the ported block's scaled value. Its
--- phase is reduced at the same moments as the oscillator's, set to 0 by a reset record". When they act, ons and offs
--- leave it.
+-- phase is reduced at the same moments as the oscillator's, set to 0 by a reset record". An on and an off do not change
+-- it.
+-- 02, R-13, takes the branch for a negative remainder out of the voice's reduction; the block calls keep it.
 -- A reset does not set the number of records acted to 0: it is counted as one more. Definitions only.
 use mathlib.Core.Bool.{Bool, true, cond}
 use Prim.Native.Nat.{ℕ, _+_}
@@ -64,7 +65,7 @@ abbrev pub actedWith : State → Keys → State
 actedWith v keys = record { phase = v .phase; envelope = v .envelope; frequency = v .frequency; velocity = v .velocity; keys = keys; acted = counted (v .acted); lfo = v .lfo }
 
 -- ---- reduce
--- each phase less its whole cycles, with its sign
+-- both phases modulo TAU; a remainder has the sign of its phase, and no TAU is added to it (02, R-13)
 abbrev pub reducedOf : State → State
 reducedOf v = withPhases v (remainderOf (v .phase .0)) (remainderOf (v .lfo .0))
 

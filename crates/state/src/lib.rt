@@ -73,7 +73,7 @@ pub fn fresh() -> State
     fresh_after(0)
 }
 
-// The remainders of both phases over TAU. In a render no phase is negative, so that none has TAU to be added (02, R-13).
+// Both phases modulo TAU, each with its sign. No phase of a render is negative, so that none gets TAU added (02, R-13).
 pub fn reduce(state: State) -> State
     ensures { λ r. ⌜ r ≡ reducedOf state ⌝ }
 {
