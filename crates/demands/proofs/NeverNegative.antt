@@ -6,7 +6,7 @@ use mathlib.Core.List.{List}
 use Prim.Native.Nat.{ℕ, _-_, _*_}
 use lib.Dec.{T, eqb}
 use lib.ListN.{length}
-use lib.Ieee.{Float, binary64, ofBits, round, sum, add, rem, lt, le, fits}
+use lib.Ieee.{Float, binary64, ofBits, round, sum, add, rem, lt, fits}
 use Rattle.floats.specs.Range.{nonneg}
 use Rattle.floats.specs.Double.{zero64}
 use Rattle.floats.proofs.Literals.{zeroOf-is}
