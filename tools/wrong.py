@@ -35,6 +35,7 @@ FORM = re.compile(
 EDIT = re.compile(r"^(file|old|new):(?: (.*))?$", re.M)
 # What begins a function, of a type or not, or another item of a file.
 ITEM = re.compile(r"^(?:impl (?P<type>\w+)|(?P<inner> +)?(?:pub )?(?:extern \"C\" )?fn (?P<fn>\w+)|(?:pub )?(?:const|struct|enum) )", re.M)
+COPY = "_again"  # in the name of a function's copy, before its number
 PLACE = re.compile(r"(?:(src/\S+\.rt):(\d+):|proofs/(\S+)/Proof\.antt:)")
 
 
@@ -130,18 +131,65 @@ def function_of(program):
 
 
 def batches(programs):
-    """The programs in lists, each of one crate and of as many functions as programs: one check tries all of a list,
-    since a function's proof knows the others by their contracts alone, which no such program changes."""
-    lists = {}
+    """The programs in lists, by the function that each makes wrong: one check tries all of a crate that change the body
+    of one function, since a function's proof knows the others by their contracts alone, which no such program changes.
+    Where several change the same function, each but the first makes a copy of it wrong, under a name of its own."""
+    together, alone = {}, []
     for program in programs:
         function = function_of(program)
-        of_crate = lists.setdefault(program.crate, [])
-        fitting = [batch for batch in of_crate if function and None not in batch and function not in batch]
-        if fitting:
-            fitting[0][function] = program
-        else:
-            of_crate.append({function: program})
-    return [batch for of_crate in lists.values() for batch in of_crate]
+        if function is None:
+            alone.append({None: program})
+            continue
+        of_crate = together.setdefault(program.crate, {})
+        names = (function, *(f"{function}{COPY}{i}" for i in range(2, len(programs) + 2)))
+        of_crate[next(name for name in names if name not in of_crate)] = program
+    return [*together.values(), *alone]
+
+
+def crate_of(batch):
+    return next(iter(batch.values())).crate
+
+
+def span_of(name, text, function):
+    """Where a function of a file begins and ends: from its line with `fn` to its last brace."""
+    for item in ITEM.finditer(text):
+        if item["fn"] and function_at(name, text, item.start()) == function:
+            end = f"\n{item['inner'] or ''}}}\n"
+            return item.start(), text.index(end, item.start()) + len(end)
+    raise ValueError(f"{name} has no function {function}")
+
+
+def with_copy(texts, plain, name, function, copy, body):
+    """Texts with a copy of a function of a plain crate added, under its own name and with this body, and of its proof."""
+    old, new = (path.split("/")[-1] for path in (function, copy))
+    body = re.sub(rf"(?:pub )?(?:extern \"C\" )?fn {old}\b", f"fn {new}", body, count=1)
+    _, end = span_of(name, texts[name], function)
+    texts = texts | {name: texts[name][:end] + "\n" + body + texts[name][end:]}
+    for file, text in plain.items():
+        if file.startswith(f"proofs/{function}/"):
+            text = text.replace(f"proofs.{function.replace('/', '.')}.", f"proofs.{copy.replace('/', '.')}.")
+            text = re.sub(rf"(?<![\w-]){old.replace('_', '-')}-spec\b", f"{new.replace('_', '-')}-spec", text)
+            texts[f"proofs/{copy}/{file.removeprefix(f'proofs/{function}/')}"] = text
+    return texts
+
+
+def made_together(batch, are_wrong=True):
+    """The files of a crate with all programs of a batch in it, or only with the copies that they need, as they are.
+    ValueError where two do not fit together."""
+    plain = texts_of(ROOT / "crates" / crate_of(batch))
+    texts = plain
+    for name, program in batch.items():
+        function, is_copy, _ = (name or "").partition(COPY)
+        if is_copy:
+            file = program.edits[0]["file"]
+            start, end = span_of(file, plain[file], function)
+            body = plain[file][start:end]
+            if are_wrong:
+                body = made(program, plain | {file: body})[file]
+            texts = with_copy(texts, plain, file, function, name, body)
+        elif are_wrong:
+            texts = made(program, texts)
+    return texts
 
 
 def is_of(function, texts):
@@ -163,8 +211,8 @@ class Checker:
     A check of one function's edit need not prove the others again: it may start from the modules of the crate that were
     checked when target/rlib/CRATE.rlib was made, its seed, which rattle takes from a folder of its own in the one that
     --incremental names. What a program is refused for is judged by the complaint; whatever a fact does not refuse over
-    the seed is checked again from nothing, and that counts. Programs of different functions are tried by one check, and
-    each is judged by the complaints of its own function.
+    the seed is checked again from nothing, and that counts. Programs of different functions, and of copies of one, are
+    tried by one check, and each is judged by the complaints of its own function.
     """
 
     def __init__(self, room):
@@ -189,12 +237,14 @@ class Checker:
     def seed_of(self, crate):
         return ROOT / f"target/rlib/{crate}.rlib/toolchain/checked"
 
-    def learn_seeds(self, crate):
-        """Checks a crate as it is, which must be proved, and sees where rattle keeps what it checked."""
-        home = self.folder(texts_of(ROOT / "crates" / crate))
+    def learn_seeds(self, batch):
+        """Checks a crate as it is, with the copies of functions that a batch needs, which must be proved, and sees where
+        rattle keeps what it checked."""
+        crate = crate_of(batch)
+        home = self.folder(made_together(batch, are_wrong=False))
         status, log = self.run([*self.words(crate, home), "--incremental", home / "kept"])
         if status != 0:
-            raise ValueError(f"{crate} itself is not proved:\n{log}")
+            raise ValueError(f"{crate} itself, or a copy of a function of it, is not proved:\n{log}")
         kept = [f.name for f in (home / "kept").iterdir() if any(f.glob("*.oantt"))] if (home / "kept").is_dir() else []
         self.seeds = kept[0] if len(kept) == 1 else ""
         shutil.rmtree(home)
@@ -251,14 +301,11 @@ class Checker:
 
     def tried(self, batch):
         """What becomes of a batch's programs: all in one check, then each alone that no fact of its own refuses."""
-        programs = list(batch.values())
-        crate = programs[0].crate
+        programs, crate = list(batch.values()), crate_of(batch)
         if len(programs) == 1 or not (self.seeds and self.seed_of(crate).is_dir()):
             return [self.alone(program) for program in programs]
-        texts = texts_of(ROOT / "crates" / crate)
         try:
-            for program in programs:
-                texts = made(program, texts)
+            texts = made_together(batch)
         except ValueError:  # where one's new text is another's old one, each is tried alone
             return [self.alone(program) for program in programs]
         status, log, home, taken = self.check(crate, texts, True)
@@ -308,16 +355,17 @@ def try_all(programs):
             await_proof(lowest_first[0])
         else:
             current(lowest_first)
-        checker.learn_seeds(lowest_first[0])
         rank = {crate: i for i, crate in enumerate(lowest_first if beside else lowest_first[::-1])}
+        in_turn = sorted(batches(programs), key=lambda batch: rank[crate_of(batch)])
+        checker.learn_seeds(next(batch for batch in in_turn if crate_of(batch) == lowest_first[0]))
 
         def tried(batch):
             if beside:
-                await_proof(next(iter(batch.values())).crate)
+                await_proof(crate_of(batch))
             return checker.tried(batch)
 
         try:
-            for all_of_it in pool.map(tried, sorted(batches(programs), key=lambda batch: rank[next(iter(batch.values())).crate])):
+            for all_of_it in pool.map(tried, in_turn):
                 yield from all_of_it
         finally:
             pool.shutdown(cancel_futures=True)
