@@ -131,9 +131,10 @@ def function_of(program):
 
 
 def batches(programs):
-    """The programs in lists, by the function that each makes wrong: one check tries all of a crate that change the body
-    of one function, since a function's proof knows the others by their contracts alone, which no such program changes.
-    Where several change the same function, each but the first makes a copy of it wrong, under a name of its own."""
+    """The programs in batches, by the function that each makes wrong: one check tries all of a crate that change the
+    body of one function, since a function's proof knows the others by their contracts alone, which no such program
+    changes. Where several change the same function, each but the first makes a copy of it wrong, under a name of its
+    own."""
     together, alone = {}, []
     for program in programs:
         function = function_of(program)

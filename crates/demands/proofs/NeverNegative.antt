@@ -26,6 +26,7 @@ use Rattle.shelf.specs.Shelf.{sectionSize, entryWords, entriesFor, isEntry, she
 use Rattle.shelf.proofs.Back.{entry-is-state}
 use Rattle.state.specs.declared.Settings.{Settings}
 use Rattle.state.specs.declared.State.{State}
+use Rattle.state.specs.Settings.{settingsOk}
 use Rattle.state.specs.State.{freshOf, withPhases, reducedOf}
 use Rattle.state.specs.Limits.{inLimits, isState}
 use Rattle.state.specs.Branching.{branchingOf, stateBranching, samplesBranching, entriesBranching}
@@ -39,16 +40,14 @@ use Rattle.render.proofs.Outcomes.{render-decided, continue-decided}
 use Rattle.rerender.specs.declared.Plan.the-variants.{From}
 use Rattle.rerender.specs.Rerender.{planOf, entryAt, startOf, stopOf, isStart, between, startRefusals, rerenderOf}
 use Rattle.rerender.proofs.Cases.{checks, all-checked, rerender-decided}
-use Rattle.demands.specs.NeverNegative.{minusOne, NotNegative, Accepts, SameSteps, NeverNegative}
+use Rattle.demands.specs.NeverNegative.{minusOne, NotNegative, SameSteps, NeverNegative}
 
 -- ---- the steps
 not-negative : (p : Float) → T (nonneg p) → NotNegative p
 not-negative p h = record { at-least-0 = rw (zeroOf-is binary64) (ge0→le p (nonneg→ge0 p h)); not-below = rest-not-below p h }
 
-steps : (g : Settings) → Accepts g → (s : List ℕ) (m : ℕ) → verdictOf s ≡ Accepted m → (n : ℕ) (v : State) → inLimits v ≡ true → (k : ℕ) → SameSteps g s n v k
-steps g c s m a n v l k =
-    let ok = c .settings in
-    let w = c .sustain-fits in
+steps : (g : Settings) → settingsOk g ≡ true → T (fits binary64 (g .adsr .sustain)) → (s : List ℕ) (m : ℕ) → verdictOf s ≡ Accepted m → (n : ℕ) (v : State) → inLimits v ≡ true → (k : ℕ) → SameSteps g s n v k
+steps g ok w s m a n v l k =
     record {
       phase = not-negative _ (phase-nonnegative g ok w s m a n v l k);
       lfo = not-negative _ (lfo-nonnegative g ok w s m a n v l k);

@@ -3,10 +3,11 @@
 -- starts at 0 or in an accepted entry or continuing state and only grows, so show that this branch is never taken there
 -- and take it out."
 -- The voice's reduction is the remainder alone; the block calls keep the branch. The definitions that end in
--- `Branching` are the voice's steps with 01's own reduction, branch and all. Where a call makes samples, both make the
--- same samples and entries, and the same end state where the call answers one, to the bit. A call that is refused, or
--- that has nothing to make, reduces nothing.
--- Proofs: of the steps in the crate `state`, of the calls here, in both proofs/NeverNegative.antt. Definitions only.
+-- `Branching` are the voice's steps with 01's own reduction, branch and all. Where a call makes samples, the steps with
+-- the branch make the samples and entries that the call leaves, and the end state where the call answers one, to the
+-- bit. A call that is refused, or that has nothing to make, reduces nothing.
+-- The argument is in proofs/NeverNegative.antt: of the steps in that file of the crate `state`, of the calls in that of
+-- this crate. Definitions only.
 use mathlib.Core.Path.{_≡_}
 use mathlib.Core.Bool.{true, false}
 use mathlib.Core.List.{List}
@@ -40,25 +41,19 @@ pub record NotNegative (p : Float) : Type 0 where
   pub at-least-0 : T (le zero64 p)
   pub not-below : lt (remainderOf p) zero64 ≡ false
 
--- settings in their domain, whose sustain is a value of an f64, as every f64 of the code is: the envelope's limits need
--- it, and are proved with the phases
-pub record Accepts (g : Settings) : Type 0 where
-  pub settings : settingsOk g ≡ true
-  pub sustain-fits : T (fits binary64 (g .adsr .sustain))
-
 -- ---- what is promised of k samples from a state v at position n
 pub record SameSteps (g : Settings) (s : List ℕ) (n : ℕ) (v : State) (k : ℕ) : Type 0 where
   -- before sample n + k, where the phases may be reduced; they are reduced at no other moment
   pub phase : NotNegative (stateFrom g s n v k .phase .0)
   pub lfo : NotNegative (stateFrom g s n v k .lfo .0)
-  -- so the steps with the branch make the same
+  -- so the steps with the branch make the same state and samples
   pub states : stateFrom g s n v k ≡ stateBranching g s n v k
   pub samples : samplesFrom g s n v k ≡ samplesBranching g s n v k
 
--- ---- the claim
+-- ---- the claim, for a sustain setting that is a value of an f64, as every f64 of the code is
 pub record NeverNegative : Type 0 where
-  -- of an accepted score, from any state within the limits, at any position
-  pub steps : (g : Settings) → Accepts g → (s : List ℕ) (m : ℕ) → verdictOf s ≡ Accepted m → (n : ℕ) (v : State) → inLimits v ≡ true → (k : ℕ) → SameSteps g s n v k
+  -- under settings in their domain, of an accepted score, from any state within the limits, at any position
+  pub steps : (g : Settings) → settingsOk g ≡ true → T (fits binary64 (g .adsr .sustain)) → (s : List ℕ) (m : ℕ) → verdictOf s ≡ Accepted m → (n : ℕ) (v : State) → inLimits v ≡ true → (k : ℕ) → SameSteps g s n v k
   -- a render that is done, from the fresh state
   pub rendered : (g : Settings) → T (fits binary64 (g .adsr .sustain)) → (s : List ℕ) (out : List Float) (shelf : List ℕ) (k : ℕ) → renderOf g s out shelf .result .answer ≡ Done k
       → renderOf g s out shelf ≡ leaves (says (Done k) (stateBranching g s 0 (freshOf 0) k)) (samplesBranching g s 0 (freshOf 0) k) (shelfOf (entriesBranching g s 0 (freshOf 0) (entriesFor k)))
@@ -73,5 +68,5 @@ pub record NeverNegative : Type 0 where
       (Done k)
       (between (m * sectionSize) stop out (samplesBranching g new (m * sectionSize) (startOf shelf m) k))
       (between (m * entryWords) (entriesFor stop * entryWords) shelf (shelfOf (entriesBranching g new m (startOf shelf m) (entriesFor stop - m))))
-  -- the premise is needed: at a phase of -1 the two reductions part
+  -- a phase must not be negative for that: at a phase of -1 the two reductions part
   pub parted-below-0 : (v : State) → v .phase .0 ≡ minusOne → reducedOf v ≡ branchingOf v → ⊥

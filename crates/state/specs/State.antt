@@ -4,7 +4,7 @@
 -- to right, and both advance. Frequency is always the voice's own (440 when fresh)."
 -- 02, R-7: "The sample is multiplied last by (1 - depth/2 + lfo/2), where lfo is the ported block's scaled value. Its
 -- phase is reduced at the same moments as the oscillator's, set to 0 by a reset record". An on and an off do not change
--- it.
+-- the LFO's phase.
 -- 02, R-13, takes the branch for a negative remainder out of the voice's reduction; the block calls keep it.
 -- A reset does not set the number of records acted to 0: it is counted as one more. Definitions only.
 use mathlib.Core.Bool.{Bool, true, cond}
