@@ -301,6 +301,8 @@ def waveform_answer(op, shape, *given):
 # The voice.
 
 NO_NOTE = 256
+# What a lift says: 0 no change, 1 released, or this and the note that the voice fell back to.
+FELL_BACK = 256
 HIGHEST = 12544.0
 
 
@@ -348,7 +350,7 @@ def voice_answer(op, *given):
         if note != active:
             return (0, 0) + voice_words(active, held, *sound)
         if held:
-            return (0, 0) + voice_words(held[-1][0], held, *struck(*held[-1]))
+            return (0, FELL_BACK + held[-1][0]) + voice_words(held[-1][0], held, *struck(*held[-1]))
         return (0, 1) + voice_words(NO_NOTE, held, *sound)
     if op == 2:
         return (0, 0) + fresh

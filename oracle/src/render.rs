@@ -18,7 +18,7 @@ use crate::opened;
 use crate::parameter::ModulationValues;
 use crate::random::XorShiftRng;
 use crate::voice::VoiceState;
-use crate::voice_rows::{self, Pair, NOTE_OFF, NOTE_ON, RESET};
+use crate::voice_rows::{self, Pair, NOTE_OFF, NOTE_ON, NO_CHANGE, RELEASED, RESET};
 use crate::waveform::{generate_waveform_sample, Waveform, DEFAULT_DUTY_CYCLE};
 use crate::waveform_rows::{waveform, PULSE, SINE, TAU};
 
@@ -191,14 +191,11 @@ impl Player {
                 self.envelope.note_on();
                 self.hear();
             }
-            KIND_OFF => {
-                let sounded = self.voice.state().active == record.note as u32;
-                if self.voice.call(NOTE_OFF, record.note, 0) == 1 {
-                    self.envelope.note_off();
-                } else if sounded {
-                    self.hear();
-                }
-            }
+            KIND_OFF => match self.voice.call(NOTE_OFF, record.note, 0) {
+                NO_CHANGE => {}
+                RELEASED => self.envelope.note_off(),
+                _ => self.hear(),
+            },
             _ => {
                 self.voice.call(RESET, 0, 0);
                 self.envelope.reset();

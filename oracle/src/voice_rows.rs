@@ -1,5 +1,8 @@
-//! Rows of the voice: op, the given state, note, velocity; then answer, what it gives (released, active or how many
-//! are held), the state after. 31 u32 a row, floats as their bits.
+//! Rows of the voice: op, the given state, note, velocity; then answer, what it gives (what a lift says, active or how
+//! many are held), the state after. 31 u32 a row, floats as their bits.
+//!
+//! What a lift says is read from the bool that the original returns and from its own state: no change, released, or
+//! fell back to a note.
 //!
 //! A state is the active note (256 for none), gate, how many keys are held, 16 notes and 16 velocities of four bytes a
 //! word, low byte first, velocity, frequency. What the original's stack keeps past its length cannot be seen, and ours
@@ -35,6 +38,12 @@ const NEW: u64 = 5;
 const ON_A_STATE: [u64; 5] = [NOTE_ON, NOTE_OFF, RESET, IS_ACTIVE, HELD_NOTE_COUNT];
 
 pub const NONE: u32 = 256;
+
+/// What a lift says; the note that the voice fell back to is added to the last.
+pub const NO_CHANGE: u64 = 0;
+pub const RELEASED: u64 = 1;
+const FELL_BACK: u64 = 256;
+
 const TINY: f32 = f32::from_bits(1);
 const HIGHEST: f32 = 12544.0;
 
@@ -156,7 +165,12 @@ impl Pair {
             _ => ((), ()),
         };
         let [value, same] = match op {
-            NOTE_OFF => [plain.note_off(note) as u64, open.note_off(note) as u64],
+            NOTE_OFF => {
+                let sounded = [plain.active_note, open.active_note].map(|active| active == Some(note));
+                let released = [plain.note_off(note), open.note_off(note)];
+                let sounding = [plain.active_note, open.active_note];
+                [0, 1].map(|copy| said(sounded[copy], released[copy], sounding[copy]))
+            }
             IS_ACTIVE => [plain.is_active() as u64, open.is_active() as u64],
             HELD_NOTE_COUNT => [plain.held_note_count() as u64, open.held_note_count() as u64],
             _ => [0, 0],
@@ -169,6 +183,15 @@ impl Pair {
     pub fn state(&self) -> State {
         let held = self.open.held();
         holding(held, self.open.active_note, self.open.gate, self.open.velocity, self.open.frequency)
+    }
+}
+
+/// What a lift says: whether the lifted note sounded, whether the original returned true, and what sounds after it.
+fn said(sounded: bool, released: bool, sounding: Option<u8>) -> u64 {
+    match sounding {
+        _ if released => RELEASED,
+        Some(note) if sounded => FELL_BACK + note as u64,
+        _ => NO_CHANGE,
     }
 }
 
@@ -251,7 +274,7 @@ fn pitches() -> Vec<f32> {
 }
 
 fn edges() -> Vec<Vec<u64>> {
-    [edges_of_arguments(), edges_of_states(), edges_of_keys()].concat()
+    [edges_of_arguments(), edges_of_states(), edges_of_keys(), edges_of_runs()].concat()
 }
 
 /// Every call from every state, the ends of the ranges of note and velocity, and every held key lifted.
@@ -287,6 +310,32 @@ fn edges_of_keys() -> Vec<Vec<u64>> {
         let below = sounding(&[(note, 127 - note), (note ^ 1, 3)], Some(note ^ 1));
         rows.push(given(NOTE_ON, FRESH, note, 127 - note));
         rows.push(given(NOTE_OFF, below, note ^ 1, 0));
+    }
+    rows
+}
+
+/// Keys struck with velocity 100 on a new voice, then lifted: 01's worked examples (k), (l) and (m), and falls back.
+fn edges_of_runs() -> Vec<Vec<u64>> {
+    let full: Vec<u8> = (40..56).chain([60]).collect();
+    let runs: [(&[u8], Vec<u8>); 7] = [
+        (&full, vec![60]),
+        (&full, (40..56).chain([60]).collect()),
+        (&full[..16], (40..56).collect()),
+        (&[60, 60], vec![60, 60]),
+        (&[60, 64], vec![64, 60]),
+        (&[60, 62, 60], vec![60, 62]),
+        (&[60], vec![61, 60]),
+    ];
+    let mut rows = Vec::new();
+    for (struck, lifted) in runs {
+        let mut pair = Pair::new();
+        for &note in struck {
+            pair.call(NOTE_ON, note, 100);
+        }
+        for note in lifted {
+            rows.push(given(NOTE_OFF, pair.state(), note, 0));
+            pair.call(NOTE_OFF, note, 0);
+        }
     }
     rows
 }

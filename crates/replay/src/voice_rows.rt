@@ -6,11 +6,15 @@ use voice::Changed;
 use voice::VoiceState;
 use voice::keys::ActiveNote;
 use voice::keys::Keys;
+use voice::keys::NoteOff;
 
 pub const ROW: usize = 124;
 
 // The number of a row for no active note.
 const NONE: u32 = 256;
+
+// What a row says of a lift: 0 no change, 1 released, or this and the note that the voice fell back to.
+const FELL_BACK: u64 = 256;
 
 // Whether the call's answer and what it leaves are the row's.
 pub fn is_equal(row: &[u8]) -> bool {
@@ -40,8 +44,13 @@ fn is_lifted(row: &[u8]) -> bool {
     let got = given(row).note_off(byte_at(row, 56, 0));
     let answer = got.answer;
     let after = got.voice;
-    let released = if got.released { 1 } else { 0 };
-    is_outcome(row, answer, released, after)
+    let off = got.off;
+    let said = match off {
+        NoteOff::NoChange => 0,
+        NoteOff::Released => 1,
+        NoteOff::FellBack(note, _) => FELL_BACK + note as u64,
+    };
+    is_outcome(row, answer, said, after)
 }
 
 // A getter hands back no state: the row has the given one.
@@ -58,7 +67,7 @@ fn is_shown(op: u32, row: &[u8]) -> bool {
     is_outcome(row, answer, active, voice)
 }
 
-// Whether the answer, the value (a yes or no, or a number of keys) and the state after are the row's.
+// Whether the answer, the value (a yes or no, what a lift says, or a number of keys) and the state after are the row's.
 fn is_outcome(row: &[u8], answer: Answer, value: u64, after: VoiceState) -> bool {
     let keys = after.keys;
     fields::says(answer, words::u32_at(row, 64) as u64)

@@ -21,14 +21,14 @@ use Rattle.answers.specs.declared.Refusal.the-variants.{Argument}
 use Rattle.answers.specs.Order.{unless}
 use Rattle.answers.proofs.Order.{none-refused}
 use Rattle.voice.specs.Keys.{pressedOf, liftedOf, isKeys}
-use Rattle.voice.specs.Voice.{isLoud, isVoice, isReleased, changedOr, offOr, soundingOf, afterLiftOf}
+use Rattle.voice.specs.Voice.{isLoud, isVoice, isReleased, changedOr, soundingOf, afterLiftOf}
 use Rattle.voice.specs.Voice as voice
 use Rattle.voice.specs.declared.VoiceState.{VoiceState}
 use Rattle.voice.specs.declared.Changed.{Changed}
-use Rattle.voice.specs.declared.Off.{Off}
 use Rattle.voice.specs.declared.keys.Keys.{Keys}
 use Rattle.voice.specs.declared.keys.NoteOff.{NoteOff}
 use Rattle.voice.specs.declared.keys.NoteOff.the-variants.{Released, FellBack, NoChange}
+use Rattle.voice.proofs.Lifting.{off-done}
 use Rattle.envelope.specs.Limits.{isEnvelope}
 use Rattle.envelope.specs.Stages as stages
 use Rattle.envelope.specs.Stages.{triggeredOf, releasedOf}
@@ -48,9 +48,6 @@ use Rattle.state.proofs.Limits.{is-true, Kept, EventIn}
 -- ---- what a call leaves that is done
 voice-left : (refusals : List Refusal) (before after : VoiceState) → changedOr refusals before after .answer ≡ Done 0 → changedOr refusals before after .voice ≡ after
 voice-left refusals before after d = rw (none-refused refusals _ _ (λ (r : Changed). r .answer) 0 (λ why. refl) d) refl
-
-off-left : (refusals : List Refusal) (r : Bool) (before after : VoiceState) → offOr refusals r before after .answer ≡ Done 0 → (offOr refusals r before after .voice ≡ after) × (offOr refusals r before after .released ≡ r)
-off-left refusals r before after d = rw (none-refused refusals _ _ (λ (r : Off). r .answer) 0 (λ why. refl) d) (refl, refl)
 
 block-left : (b : EnvelopeBlock) (e : Envelope) → changedOf b e .answer ≡ Done 0 → changedOf b e .block .envelope ≡ e
 block-left b e d = rw (none-refused (unless (isEnvelope (b .envelope)) Argument) _ _ (λ (r : Processed). r .answer) 0 (λ why. refl) d) refl
@@ -92,8 +89,7 @@ module _ (g : Settings) (v : State) (w : VoiceState) (b : EnvelopeBlock) (a : Al
       → Alike (actOf g v (event.Lift note)) (voiceCall w (event.Lift note) .voice) (envelopeCall w b (event.Lift note) .block)
   lift-alike note d f =
       let l = liftedOf (w .keys) note in
-      let o = off-left (unless (isVoice w && isMidi note) Argument) (isReleased (l .off)) w (afterLiftOf w (l .keys) (l .off)) d in
-      rw (lift-is note, o .0) (left-alike (l .keys) (l .off) (envelopeCall w b (event.Lift note) .block) (off-block (voice.noteOffOf w note .released) f ∙ rw (o .1) refl))
+      rw (lift-is note, off-done w note d) (left-alike (l .keys) (l .off) _ (off-block (isReleased (l .off)) (rw (off-done w note d) at f)))
 
   -- if both calls are done, they leave what the event does
   pub calls-act : (e : Event) → voiceCall w e .answer ≡ Done 0 → envelopeCall w b e .answer ≡ Done 0 → Alike (actOf g v e) (voiceCall w e .voice) (envelopeCall w b e .block)
@@ -110,11 +106,11 @@ module _ (g : Settings) (v : State) (w : VoiceState) (b : EnvelopeBlock) (a : Al
   calls-act (event.Lift note) d f = lift-alike note d f
   calls-act event.Reset d f = let left = voice-left (unless (isVoice w) Argument) w voice.newOf d in record { keys = rw left refl; frequency = rw left same-pitch; velocity = rw left same-zero; envelope = rw (block-left b stages.freshOf f) refl }
 
-  -- the envelope is released exactly if the voice's note_off returned true
-  pub released-decides : (note : ℕ) → voice.noteOffOf w note .answer ≡ Done 0 → actOf g v (event.Lift note) .envelope ≡ cond (voice.noteOffOf w note .released) (releasedOf (v .envelope)) (v .envelope)
+  -- the envelope is released exactly if the voice's note_off says so
+  pub released-decides : (note : ℕ) → voice.noteOffOf w note .answer ≡ Done 0 → actOf g v (event.Lift note) .envelope ≡ cond (isReleased (voice.noteOffOf w note .off)) (releasedOf (v .envelope)) (v .envelope)
   released-decides note d =
       let l = liftedOf (w .keys) note in
-      rw (lift-is note, off-left (unless (isVoice w && isMidi note) Argument) (isReleased (l .off)) w (afterLiftOf w (l .keys) (l .off)) d .1) (go (l .keys) (l .off))
+      rw (lift-is note, off-done w note d) (go (l .keys) (l .off))
     where
       go : (keys : Keys) (off : NoteOff) → afterNoteOff v keys off .envelope ≡ cond (isReleased off) (releasedOf (v .envelope)) (v .envelope)
       go keys Released = refl
@@ -152,7 +148,7 @@ module _ (P : Float → Type 0) (v : State) (k : Kept P v) (w : VoiceState) (b :
 
   pub calls-done : (e : Event) → EventIn e → (voiceCall w e .answer ≡ Done 0) × (envelopeCall w b e .answer ≡ Done 0)
   calls-done (event.Strike note velocity) h = (rw (voice-in, le-leb note 127 (h .0), le-leb velocity 127 (h .1)) refl, rw block-in refl)
-  calls-done (event.Lift note) h = (rw (voice-in, le-leb note 127 h) refl, go (voice.noteOffOf w note .released))
+  calls-done (event.Lift note) h = (rw (voice-in, le-leb note 127 h) refl, go (isReleased (voice.noteOffOf w note .off)))
     where
       go : (r : Bool) → cond r (envelope.noteOffOf b) (record { answer = Done 0; block = b }) .answer ≡ Done 0
       go true = rw block-in refl

@@ -1,7 +1,8 @@
 -- The events as calls. 01, "Making sample n": "On: voice and envelope `note_on`. Off: voice `note_off`, and the
 -- envelope's where it returned true. Reset: voice, envelope and phase to their fresh state."
 -- The calls are those of `VoiceState` and `EnvelopeBlock`, as their crates define them; `calls-act` in
--- proofs/Calls.antt proves that an event does what they do.
+-- proofs/Calls.antt proves that an event does what they do. Since R-2 of document 02 the voice's `note_off` says one of
+-- three; released is where it returned true.
 -- Frequency and velocity are f32 in a voice and f64 in a state. Every f32 is also an f64, so they are compared as
 -- numbers. Definitions only.
 use mathlib.Core.Bool.{cond}
@@ -33,10 +34,10 @@ voiceCall w (event.Strike note velocity) = voice.noteOnOf w note velocity
 voiceCall w (event.Lift note) = let off = voice.noteOffOf w note in record { answer = off .answer; voice = off .voice }
 voiceCall w event.Reset = voice.resetOf w
 
--- the envelope's note_off if the voice's returned true, else no call
+-- the envelope's note_off if the voice's released the sound, else no call
 abbrev pub envelopeCall : VoiceState → EnvelopeBlock → Event → Processed
 envelopeCall w b (event.Strike note velocity) = envelope.noteOnOf b
-envelopeCall w b (event.Lift note) = cond (voice.noteOffOf w note .released) (envelope.noteOffOf b) (record { answer = Done 0; block = b })
+envelopeCall w b (event.Lift note) = cond (voice.isReleased (voice.noteOffOf w note .off)) (envelope.noteOffOf b) (record { answer = Done 0; block = b })
 envelopeCall w b event.Reset = envelope.resetOf b
 
 -- what becomes of a phase, the oscillator's or the LFO's: an on and an off leave it, a reset sets it to 0

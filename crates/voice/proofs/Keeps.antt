@@ -1,7 +1,7 @@
 -- Every call keeps the voice within the shelf's limits, so a state that comes from `new` is never refused. And what a
--- release and a reset leave. Assumes nothing.
+-- reset leaves. Assumes nothing.
 use mathlib.Core.Path.{_≡_, refl}
-use mathlib.Core.Bool.{Bool, true, false, false≢true, _&&_}
+use mathlib.Core.Bool.{true, _&&_}
 use mathlib.Core.List.{List, [], _∷_}
 use Prim.Native.Nat.{ℕ, _≤_}
 use native.Mathlib.Omega.{arith}
@@ -16,7 +16,7 @@ use Rattle.domain.specs.Domain.{isMidi, isPitch}
 use Rattle.pitch.specs.Pitch.{frequencyOf}
 use Rattle.pitch.proofs.Rules.{frequency-in}
 use Rattle.voice.specs.Keys.{pressedOf, liftedOf, atMost, isKeys}
-use Rattle.voice.specs.Voice.{isLoud, isVoice, isReleased, soundingOf, afterLiftOf, offOr, newOf, noteOnOf, noteOffOf, resetOf}
+use Rattle.voice.specs.Voice.{isLoud, isVoice, soundingOf, afterLiftOf, newOf, noteOnOf, noteOffOf, resetOf}
 use Rattle.voice.specs.declared.keys.Keys.{Keys}
 use Rattle.voice.specs.declared.keys.NoteOff.{NoteOff}
 use Rattle.voice.specs.declared.keys.NoteOff.the-variants.{Released, FellBack, NoChange}
@@ -112,18 +112,6 @@ run-keeps s (c ∷ cs) t = run-keeps (after s c) cs (after-keeps s c t)
 -- from `new`, after any calls, refused ones too, the state is within the limits
 pub stays : (cs : List Call) → T (isVoice (run newOf cs))
 stays cs = run-keeps newOf cs new-in
-
--- ---- what a release and a reset leave
-released-same : (ok : Bool) (s : VoiceState) (k : Keys) (o : NoteOff) → offOr (unless ok Argument) (isReleased o) s (afterLiftOf s k o) .released ≡ true
-    → (offOr (unless ok Argument) (isReleased o) s (afterLiftOf s k o) .voice .velocity ≡ s .velocity) × (offOr (unless ok Argument) (isReleased o) s (afterLiftOf s k o) .voice .frequency ≡ s .frequency)
-released-same true s k Released e = (refl, refl)
-released-same true s k (FellBack n v) e = absurd (false≢true e)
-released-same true s k NoChange e = (refl, refl)
-released-same false s k o e = (refl, refl)
-
--- a release keeps velocity and frequency
-pub release-keeps : (s : VoiceState) (n : ℕ) → noteOffOf s n .released ≡ true → (noteOffOf s n .voice .velocity ≡ s .velocity) × (noteOffOf s n .voice .frequency ≡ s .frequency)
-release-keeps s n e = released-same (isVoice s && isMidi n) s (liftedOf (s .keys) n .keys) (liftedOf (s .keys) n .off) e
 
 -- a reset makes the voice new
 pub reset-is-new : (s : VoiceState) → isVoice s ≡ true → resetOf s ≡ record { answer = Done 0; voice = newOf }

@@ -1,3 +1,4 @@
 pub mod Keys
 pub mod Voice
+pub mod Lifting
 pub mod Inner

@@ -51,9 +51,8 @@ isVoice s = isKeys (s .keys) && isLoud (s .velocity) && isPitch binary32 (s .fre
 abbrev pub changedOr : List Refusal → VoiceState → VoiceState → Changed
 changedOr refusals before after = firstOf refusals (λ (why : Refusal). record { answer = Refused why; voice = before }) (record { answer = Done 0; voice = after })
 
-abbrev pub offOr : List Refusal → Bool → VoiceState → VoiceState → Off
-offOr refusals released before after =
-    firstOf refusals (λ (why : Refusal). record { answer = Refused why; released = false; voice = before }) (record { answer = Done 0; released = released; voice = after })
+abbrev pub offOr : List Refusal → NoteOff → VoiceState → VoiceState → Off
+offOr refusals off before after = firstOf refusals (λ (why : Refusal). record { answer = Refused why; off = NoChange; voice = before }) (record { answer = Done 0; off = off; voice = after })
 
 abbrev pub activeOr : List Refusal → Bool → Active
 activeOr refusals active = firstOf refusals (λ (why : Refusal). record { answer = Refused why; active = false }) (record { answer = Done 0; active = active })
@@ -72,10 +71,18 @@ afterLiftOf s keys Released = record { keys = keys; velocity = s .velocity; freq
 afterLiftOf s keys (FellBack n v) = soundingOf keys n v
 afterLiftOf s keys NoChange = record { keys = keys; velocity = s .velocity; frequency = s .frequency }
 
+-- the three as values: the bool of the original, and the note that sounds instead, 255 where there is none
+pub record Said : Type 0 where
+  pub released : Bool
+  pub note : ℕ
+
+abbrev pub offSays : NoteOff → Said
+offSays Released = record { released = true; note = 255 }
+offSays (FellBack n v) = record { released = false; note = n }
+offSays NoChange = record { released = false; note = 255 }
+
 abbrev pub isReleased : NoteOff → Bool
-isReleased Released = true
-isReleased (FellBack n v) = false
-isReleased NoChange = false
+isReleased off = offSays off .released
 
 abbrev pub isNote : ActiveNote → Bool
 isNote Silent = false
@@ -91,7 +98,7 @@ noteOnOf s n v = changedOr (unless (isVoice s && isMidi n && isMidi v) Argument)
 abbrev pub noteOffOf : VoiceState → ℕ → Off
 noteOffOf s n =
     let lift = liftedOf (s .keys) n in
-    offOr (unless (isVoice s && isMidi n) Argument) (isReleased (lift .off)) s (afterLiftOf s (lift .keys) (lift .off))
+    offOr (unless (isVoice s && isMidi n) Argument) (lift .off) s (afterLiftOf s (lift .keys) (lift .off))
 
 abbrev pub resetOf : VoiceState → Changed
 resetOf s = changedOr (unless (isVoice s) Argument) s newOf

@@ -4,7 +4,7 @@
 ghost use mathlib.Core.Path.{_≡_};
 ghost use Rattle.answers.specs.Order.{unless};
 ghost use Rattle.answers.specs.declared.Refusal.the-variants.{Argument};
-ghost use Rattle.voice.specs.Voice.{velocityOf, isVoice, soundingOf, afterLiftOf, isReleased, isNote, changedOr, offOr, activeOr, countOr};
+ghost use Rattle.voice.specs.Voice.{velocityOf, isVoice, soundingOf, afterLiftOf, isNote, changedOr, offOr, activeOr, countOr};
 ghost use Rattle.voice.specs.Voice.{newOf, noteOnOf, noteOffOf, resetOf, isActiveOf, heldNoteCountOf};
 use answers::Answer;
 use answers::Refusal;
@@ -28,10 +28,10 @@ pub struct Changed {
     pub voice: VoiceState,
 }
 
-// What lifting a key answers: whether the envelope is to be released, and the state after.
+// What lifting a key answers: what became of the sound, and the state after.
 pub struct Off {
     pub answer: Answer,
-    pub released: bool,
+    pub off: NoteOff,
     pub voice: VoiceState,
 }
 
@@ -76,15 +76,16 @@ impl VoiceState {
         )
     }
 
-    // A key goes up. `released` is true if its note was active and no key is left; then velocity and frequency stay.
+    // A key goes up. If its note sounded, the sound is released or falls back to the note that is named; else no change.
     pub fn note_off(self, note: u8) -> Off
         ensures { λ r. ⌜ r ≡ noteOffOf self note ⌝ }
     {
         let keys = self.keys;
         let lift = keys::lifted(keys, note);
+        let off = lift.off;
         off_if(
             is_voice(self) & domain::is_midi(note),
-            is_released(lift),
+            off,
             self,
             after_lift(self, lift),
         )
@@ -150,17 +151,6 @@ fn is_note(keys: Keys) -> bool
     }
 }
 
-fn is_released(lift: AfterLift) -> bool
-    ensures { λ r. ⌜ r ≡ isReleased (lift .off) ⌝ }
-{
-    let off = lift.off;
-    match off {
-        NoteOff::Released => true,
-        NoteOff::FellBack(_, _) => false,
-        NoteOff::NoChange => false,
-    }
-}
-
 // The state after a key is lifted: only a fall back to another note changes velocity and frequency.
 fn after_lift(voice: VoiceState, lift: AfterLift) -> VoiceState
     ensures { λ r. ⌜ r ≡ afterLiftOf voice (lift .keys) (lift .off) ⌝ }
@@ -199,21 +189,21 @@ fn changed_if(ok: bool, before: VoiceState, after: VoiceState) -> Changed
     }
 }
 
-// Done with `released` and the state after, or refused with false and the state as it came.
-fn off_if(ok: bool, released: bool, came: VoiceState, left: VoiceState) -> Off
-    ensures { λ r. ⌜ r ≡ offOr (unless ok Argument) released came left ⌝ }
+// Done with what became of the sound and the state after, or refused with no change and the state as it came.
+fn off_if(ok: bool, off: NoteOff, before: VoiceState, after: VoiceState) -> Off
+    ensures { λ r. ⌜ r ≡ offOr (unless ok Argument) off before after ⌝ }
 {
     if ok {
         return Off {
             answer: Answer::Done(0),
-            released,
-            voice: left,
+            off,
+            voice: after,
         };
     }
     Off {
         answer: Answer::Refused(Refusal::Argument),
-        released: false,
-        voice: came,
+        off: NoteOff::NoChange,
+        voice: before,
     }
 }
 

@@ -3,3 +3,5 @@
 pub mod Levels
 -- all worked examples hold
 pub mod Examples
+-- what a front panel is told
+pub mod Panel

@@ -22,7 +22,7 @@ use Rattle.answers.specs.Outcome.{Outcome}
 use Rattle.envelope.specs.Calls.{processOf}
 use Rattle.envelope.specs.declared.EnvelopeBlock.{EnvelopeBlock}
 use Rattle.envelope.specs.declared.Processed.{Processed}
-use Rattle.voice.specs.Voice.{noteOnOf, noteOffOf, heldNoteCountOf}
+use Rattle.voice.specs.Voice.{isReleased, noteOnOf, noteOffOf, heldNoteCountOf}
 use Rattle.voice.specs.declared.keys.ActiveNote.the-variants.{Note}
 use Rattle.voice.specs.declared.HeldNotes.{HeldNotes}
 use Rattle.voice.specs.declared.VoiceState.{VoiceState}
@@ -89,10 +89,10 @@ abbrev pub liftAll : VoiceState → List ℕ → VoiceState
 liftAll s [] = s
 liftAll s (n ∷ ns) = liftAll (noteOffOf s n .voice) ns
 
--- what the voice answers as each of these keys is lifted
+-- what the voice answers as each of these keys is lifted, and whether the sound is released: 01's true and false
 abbrev pub says : VoiceState → List ℕ → List (Answer × Bool)
 says s [] = []
-says s (n ∷ ns) = (noteOffOf s n .answer, noteOffOf s n .released) ∷ says (noteOffOf s n .voice) ns
+says s (n ∷ ns) = (noteOffOf s n .answer, isReleased (noteOffOf s n .off)) ∷ says (noteOffOf s n .voice) ns
 
 abbrev pub holds : ℕ → HeldNotes
 holds n = record { answer = Done 0; count = n }

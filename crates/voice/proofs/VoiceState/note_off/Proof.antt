@@ -13,9 +13,6 @@ is-voice-requires c κs = search needs
 is-midi-requires : tie.Need-is-midi-requires
 is-midi-requires c κs = search needs
 
-is-released-requires : tie.Need-is-released-requires
-is-released-requires c κs = search needs
-
 after-lift-requires : tie.Need-after-lift-requires
 after-lift-requires c κs = search needs
 
@@ -23,7 +20,7 @@ off-if-requires : tie.Need-off-if-requires
 off-if-requires c κs = search needs
 
 returns : tie.Need-returns
-returns c = rw (c .off-if .ensures, c .before .after-lift .ensures, c .before .before .is-released .ensures, c .before .before .before .is-midi .ensures, c .before .before .before .before .is-voice .ensures, c .before .before .before .before .before .lifted .ensures) refl
+returns c = rw (c .off-if .ensures, c .before .after-lift .ensures, c .before .before .is-midi .ensures, c .before .before .before .is-voice .ensures, c .before .before .before .before .lifted .ensures) refl
 
 pub note-off-spec : {M : Type 1} → statement M
 note-off-spec =
@@ -32,7 +29,6 @@ note-off-spec =
     lifted-requires
     is-voice-requires
     is-midi-requires
-    is-released-requires
     after-lift-requires
     off-if-requires
     returns)

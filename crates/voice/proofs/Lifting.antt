@@ -1,0 +1,138 @@
+-- `note_off` says released, fell back or no change exactly where the claim of specs/Lifting.antt has it, and leaves
+-- what the claim says. Assumes nothing.
+use mathlib.Core.Path.{_≡_, refl, ap}
+use mathlib.Core.Bool.{Bool, true, false, false≢true, cond, _&&_}
+use mathlib.Core.List.{List, [], _∷_, _++_}
+use Prim.Native.Nat.{ℕ}
+use lib.Dec.{eqb}
+use borrow.Author.Tests.{eqb-true, eqb-false, eq-eqb}
+use Rattle.domain.specs.Domain.{isMidi}
+use Rattle.answers.specs.declared.Answer.the-variants.{Done, Refused}
+use Rattle.answers.specs.declared.Refusal.{Refusal}
+use Rattle.answers.specs.declared.Refusal.the-variants.{Argument}
+use Rattle.answers.specs.Order.{unless, firstOf}
+use Rattle.answers.proofs.Order.{none-refused}
+use Rattle.voice.specs.declared.keys.ActiveNote.{ActiveNote}
+use Rattle.voice.specs.declared.keys.ActiveNote.the-variants.{Silent, Note}
+use Rattle.voice.specs.declared.keys.NoteOff.{NoteOff}
+use Rattle.voice.specs.declared.keys.NoteOff.the-variants.{Released, FellBack, NoChange}
+use Rattle.voice.specs.declared.keys.Keys.{Keys}
+use Rattle.voice.specs.declared.VoiceState.{VoiceState}
+use Rattle.voice.specs.declared.Off.{Off}
+use Rattle.voice.specs.Keys.{Pair, heldOf, others, lastOf, isSounding, liftedOf}
+use Rattle.voice.specs.Voice.{isVoice, isReleased, afterLiftOf, offOr, noteOffOf}
+use Rattle.voice.specs.Lifting.{EndsIn, OffWhen, OffLeaves, Told, OffTells}
+use Rattle.voice.proofs.Limits.{held-again}
+use Rattle.voice.proofs.Actions.{lift-keeps-sound, lift-releases, lift-falls-back}
+
+-- ---- the note that sounds
+sounds : (a : ActiveNote) (n : ℕ) → isSounding a n ≡ true → a ≡ Note n
+sounds Silent n e = absurd (false≢true e)
+sounds (Note m) n e = rw (eqb-true m n e) refl
+
+sounding : (a : ActiveNote) (n : ℕ) → a ≡ Note n → isSounding a n ≡ true
+sounding a n e = rw e (eq-eqb n n refl)
+
+-- ---- the last of a list
+last-added : (p : Pair) (ps : List Pair) (q : Pair) → lastOf p (ps ++ q ∷ []) ≡ q
+unfolding lastOf
+last-added p [] q = refl
+last-added p (o ∷ ps) q = last-added o ps q
+
+ends-in-last : (p : Pair) (ps : List Pair) → EndsIn (p ∷ ps) (lastOf p ps .note) (lastOf p ps .velocity)
+unfolding lastOf
+ends-in-last p [] = record { earlier = []; ends = refl }
+ends-in-last p (q ∷ ps) = let e = ends-in-last q ps in record { earlier = p ∷ e .earlier; ends = ap (λ (qs : List Pair). p ∷ qs) (e .ends) }
+
+-- if the list has a last pair, that is of another note than n
+abbrev LastIsOther : ℕ → List Pair → Type 0
+LastIsOther n [] = Unit
+LastIsOther n (p ∷ ps) = lastOf p ps .note ≡ n → ⊥
+
+other-before : (n : ℕ) (p : Pair) (ps : List Pair) → (p .note ≡ n → ⊥) → LastIsOther n ps → LastIsOther n (p ∷ ps)
+unfolding lastOf
+other-before n p [] d l = d
+other-before n p (q ∷ ps) d l = l
+
+last-is-other : (n : ℕ) (ps : List Pair) → LastIsOther n (others n ps)
+unfolding others
+last-is-other n [] = tt
+last-is-other n (p ∷ ps) = go (eqb (p .note) n) refl (last-is-other n ps)
+  where
+    go : (t : Bool) → eqb (p .note) n ≡ t → LastIsOther n (others n ps) → LastIsOther n (cond t (others n ps) (p ∷ others n ps))
+    go true e l = l
+    go false e l = other-before n p (others n ps) (eqb-false (p .note) n e) l
+
+-- ---- lifting note n of keys k
+module _ (k : Keys) (n : ℕ) where
+  silent-else : isSounding (k .active) n ≡ false → k .active ≡ Note n → ⊥
+  silent-else e a = false≢true (cc (e, sounding (k .active) n a))
+
+  pub off-when : OffWhen k n (liftedOf k n .off)
+  off-when = go (isSounding (k .active) n) refl (others n (heldOf k)) refl
+    where
+      go : (t : Bool) → isSounding (k .active) n ≡ t → (qs : List Pair) → others n (heldOf k) ≡ qs → OffWhen k n (liftedOf k n .off)
+      go false e qs h = rw (lift-keeps-sound k n e) (silent-else e)
+      go true e [] h = rw (lift-releases k n e h) (sounds (k .active) n e, h)
+      go true e (p ∷ ps) h = rw (lift-falls-back k n p ps e h) (sounds (k .active) n e, rw h (ends-in-last p ps))
+
+  falls-back-to : (m v : ℕ) (ps : List Pair) → isSounding (k .active) n ≡ true → others n (heldOf k) ≡ ps ++ record { note = m; velocity = v } ∷ [] → liftedOf k n .off ≡ FellBack m v
+  unfolding lastOf
+  falls-back-to m v [] e h = rw (lift-falls-back k n _ [] e h) refl
+  falls-back-to m v (p ∷ ps) e h =
+      let q : Pair = record { note = m; velocity = v } in
+      rw (lift-falls-back k n p (ps ++ q ∷ []) e h, last-added p ps q) refl
+
+  pub when-off : (off : NoteOff) → OffWhen k n off → liftedOf k n .off ≡ off
+  when-off Released w = rw (lift-releases k n (sounding (k .active) n (w .0)) (w .1)) refl
+  when-off (FellBack m v) w = falls-back-to m v (w .1 .earlier) (sounding (k .active) n (w .0)) (w .1 .ends)
+  when-off NoChange w = go (isSounding (k .active) n) refl
+    where
+      go : (t : Bool) → isSounding (k .active) n ≡ t → liftedOf k n .off ≡ NoChange
+      go true e = absurd (w (sounds (k .active) n e))
+      go false e = rw (lift-keeps-sound k n e) refl
+
+-- ---- the call
+module _ (s : VoiceState) (n : ℕ) where
+  abbrev keys : Keys
+  keys = s .keys
+
+  heard : OffLeaves s (afterLiftOf s (liftedOf keys n .keys) (liftedOf keys n .off)) n (liftedOf keys n .off) × (heldOf (afterLiftOf s (liftedOf keys n .keys) (liftedOf keys n .off) .keys) ≡ others n (heldOf keys))
+  heard = go (isSounding (keys .active) n) refl (others n (heldOf keys)) refl
+    where
+      go : (t : Bool) → isSounding (keys .active) n ≡ t → (qs : List Pair) → others n (heldOf keys) ≡ qs
+          → OffLeaves s (afterLiftOf s (liftedOf keys n .keys) (liftedOf keys n .off)) n (liftedOf keys n .off) × (heldOf (afterLiftOf s (liftedOf keys n .keys) (liftedOf keys n .off) .keys) ≡ others n (heldOf keys))
+      go false e qs h = rw (lift-keeps-sound keys n e) (record { active = refl; gate = refl; velocity = refl; frequency = refl }, held-again (keys .active) (keys .gate) (others n (heldOf keys)))
+      go true e [] h = rw (lift-releases keys n e h, h) (record { active = refl; gate = refl; velocity = refl; frequency = refl }, held-again Silent false [])
+      go true e (p ∷ ps) h =
+          let other : (lastOf p ps .note ≡ n → ⊥) = rw h at (last-is-other n (heldOf keys)) in
+          rw (lift-falls-back keys n p ps e h, h)
+          (record { other = other; active = refl; gate = refl; velocity = refl; frequency = refl }, held-again (Note (lastOf p ps .note)) (keys .gate) (p ∷ ps))
+
+  -- a call that is done answers what the lift says, and leaves what it leaves
+  pub off-done : noteOffOf s n .answer ≡ Done 0 → noteOffOf s n ≡ record { answer = Done 0; off = liftedOf keys n .off; voice = afterLiftOf s (liftedOf keys n .keys) (liftedOf keys n .off) }
+  off-done d = rw (none-refused (unless (isVoice s && isMidi n) Argument) _ _ (λ (r : Off). r .answer) 0 (λ why. refl) d) refl
+
+  told : noteOffOf s n .answer ≡ Done 0 → Told s n
+  told d =
+      record {
+        only-when = rw (off-done d) (off-when keys n);
+        whenever = λ off w. rw (off-done d) (when-off keys n off w);
+        leaves = rw (off-done d) (heard .0);
+        held = rw (off-done d) (heard .1);
+      }
+
+  off-refused : isVoice s && isMidi n ≡ false → noteOffOf s n ≡ record { answer = Refused Argument; off = NoChange; voice = s }
+  off-refused e = rw e refl
+
+  released-before : (refusals : List Refusal) (off : NoteOff) (after : VoiceState) → isReleased (offOr refusals off s after .off) ≡ firstOf refusals (λ (why : Refusal). false) (isReleased off)
+  released-before [] off after = refl
+  released-before (why ∷ later) off after = refl
+
+pub off-tells : OffTells
+off-tells =
+    record {
+      done = told;
+      refused = off-refused;
+      bool = λ s n. released-before s n (unless (isVoice s && isMidi n) Argument) (liftedOf (s .keys) n .off) (afterLiftOf s (liftedOf (s .keys) n .keys) (liftedOf (s .keys) n .off));
+    }
