@@ -1,8 +1,8 @@
 -- The events as calls. 01, "Making sample n": "On: voice and envelope `note_on`. Off: voice `note_off`, and the
 -- envelope's where it returned true. Reset: voice, envelope and phase to their fresh state."
 -- The calls are those of `VoiceState` and `EnvelopeBlock`, as their crates define them; `calls-act` in
--- proofs/Calls.antt proves that an event does what they do. Since R-2 of document 02 the voice's `note_off` says one of
--- three; released is where it returned true.
+-- proofs/Calls.antt proves that an event does what they do. The voice's `note_off` says one of three (02, R-2), and
+-- released is where the original's returned true.
 -- Frequency and velocity are f32 in a voice and f64 in a state. Every f32 is also an f64, so they are compared as
 -- numbers. Definitions only.
 use mathlib.Core.Bool.{cond}

@@ -99,7 +99,7 @@ pub record LiftKept (l : AfterLift) : Type 0 where
   pub back : BackRanged (l .off)
 
 -- a note of keys within the limits sounds only with the gate up
-gate-up : (a : ActiveNote) (g : Bool) (n : ℕ) → T (isGateRight a g) → isSounding a n ≡ true → T g
+pub gate-up : (a : ActiveNote) (g : Bool) (n : ℕ) → T (isGateRight a g) → isSounding a n ≡ true → T g
 gate-up Silent g n s e = absurd (false≢true e)
 gate-up (Note m) g n s e = and-r (leb m 127) g s
 

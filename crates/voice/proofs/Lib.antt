@@ -13,11 +13,11 @@ pub mod Walk
 pub mod Limits
 -- striking and lifting a key keep the limits
 pub mod Actions
--- which of the three a lift says, exactly, and what it leaves
-pub mod Lifting
 -- a velocity as a factor
 pub mod Loudness
 -- from a state within the limits every call leaves one; what a reset leaves
 pub mod Keeps
+-- which of the three a lift says, exactly, and what it leaves
+pub mod Lifting
 -- two outcomes of a public function are equal
 pub mod Unique

@@ -3,14 +3,17 @@
 use mathlib.Core.Path.{_≡_, refl, ap}
 use mathlib.Core.Bool.{Bool, true, false, false≢true, cond, _&&_}
 use mathlib.Core.List.{List, [], _∷_, _++_}
-use Prim.Native.Nat.{ℕ}
-use lib.Dec.{eqb}
-use borrow.Author.Tests.{eqb-true, eqb-false, eq-eqb}
+use Prim.Native.Nat.{ℕ, suc}
+use lib.Dec.{T, eqb}
+use lib.Ieee.Bits.{is-true}
+use lib.Ieee.Fits.{and-l}
+use lib.ListN.{length}
+use native.Mathlib.Omega.{arith}
+use borrow.Author.Tests.{eqb-true, eqb-false, eq-eqb, ne-eqb}
 use Rattle.domain.specs.Domain.{isMidi}
 use Rattle.answers.specs.declared.Answer.the-variants.{Done, Refused}
-use Rattle.answers.specs.declared.Refusal.{Refusal}
 use Rattle.answers.specs.declared.Refusal.the-variants.{Argument}
-use Rattle.answers.specs.Order.{unless, firstOf}
+use Rattle.answers.specs.Order.{unless}
 use Rattle.answers.proofs.Order.{none-refused}
 use Rattle.voice.specs.declared.keys.ActiveNote.{ActiveNote}
 use Rattle.voice.specs.declared.keys.ActiveNote.the-variants.{Silent, Note}
@@ -19,11 +22,12 @@ use Rattle.voice.specs.declared.keys.NoteOff.the-variants.{Released, Fel
 use Rattle.voice.specs.declared.keys.Keys.{Keys}
 use Rattle.voice.specs.declared.VoiceState.{VoiceState}
 use Rattle.voice.specs.declared.Off.{Off}
-use Rattle.voice.specs.Keys.{Pair, heldOf, others, lastOf, isSounding, liftedOf}
-use Rattle.voice.specs.Voice.{isVoice, isReleased, afterLiftOf, offOr, noteOffOf}
-use Rattle.voice.specs.Lifting.{EndsIn, OffWhen, OffLeaves, Told, OffTells}
-use Rattle.voice.proofs.Limits.{held-again}
-use Rattle.voice.proofs.Actions.{lift-keeps-sound, lift-releases, lift-falls-back}
+use Rattle.voice.specs.Keys.{Pair, heldOf, keysOf, others, lastOf, isSounding, liftedOf}
+use Rattle.voice.specs.Voice.{isVoice, isReleased, afterLiftOf, noteOffOf}
+use Rattle.voice.specs.Lifting.{EndsIn, OffWhen, returnsTrue, OffLeaves, Told, OffTells}
+use Rattle.voice.proofs.Limits.{keys-sound}
+use Rattle.voice.proofs.Actions.{lift-keeps-sound, lift-releases, lift-falls-back, gate-up}
+use Rattle.voice.proofs.Keeps.{voice-keys}
 
 -- ---- the note that sounds
 sounds : (a : ActiveNote) (n : ℕ) → isSounding a n ≡ true → a ≡ Note n
@@ -92,47 +96,54 @@ module _ (k : Keys) (n : ℕ) where
       go true e = absurd (w (sounds (k .active) n e))
       go false e = rw (lift-keeps-sound k n e) refl
 
+  -- the bool of the original
+  returned : isReleased (liftedOf k n .off) ≡ returnsTrue k n
+  returned = go (isSounding (k .active) n) refl (others n (heldOf k)) refl
+    where
+      go : (t : Bool) → isSounding (k .active) n ≡ t → (qs : List Pair) → others n (heldOf k) ≡ qs → isReleased (liftedOf k n .off) ≡ returnsTrue k n
+      go false e qs h = rw (lift-keeps-sound k n e, e) refl
+      go true e [] h = rw (lift-releases k n e h, e, h) refl
+      go true e (p ∷ ps) h = rw (lift-falls-back k n p ps e h, e, h, ne-eqb (suc (length ps)) 0 (λ l. absurd (omega arith))) refl
+
 -- ---- the call
 module _ (s : VoiceState) (n : ℕ) where
   abbrev keys : Keys
   keys = s .keys
 
-  heard : OffLeaves s (afterLiftOf s (liftedOf keys n .keys) (liftedOf keys n .off)) n (liftedOf keys n .off) × (heldOf (afterLiftOf s (liftedOf keys n .keys) (liftedOf keys n .off) .keys) ≡ others n (heldOf keys))
-  heard = go (isSounding (keys .active) n) refl (others n (heldOf keys)) refl
+  -- the voice after the lift
+  abbrev after : VoiceState
+  after = afterLiftOf s (liftedOf keys n .keys) (liftedOf keys n .off)
+
+  left : T (isVoice s) → OffLeaves s after n (liftedOf keys n .off) × (after .keys ≡ keysOf (after .keys .active) (after .keys .gate) (others n (heldOf keys)))
+  left t = go (isSounding (keys .active) n) refl (others n (heldOf keys)) refl
     where
-      go : (t : Bool) → isSounding (keys .active) n ≡ t → (qs : List Pair) → others n (heldOf keys) ≡ qs
-          → OffLeaves s (afterLiftOf s (liftedOf keys n .keys) (liftedOf keys n .off)) n (liftedOf keys n .off) × (heldOf (afterLiftOf s (liftedOf keys n .keys) (liftedOf keys n .off) .keys) ≡ others n (heldOf keys))
-      go false e qs h = rw (lift-keeps-sound keys n e) (record { active = refl; gate = refl; velocity = refl; frequency = refl }, held-again (keys .active) (keys .gate) (others n (heldOf keys)))
-      go true e [] h = rw (lift-releases keys n e h, h) (record { active = refl; gate = refl; velocity = refl; frequency = refl }, held-again Silent false [])
+      go : (b : Bool) → isSounding (keys .active) n ≡ b → (qs : List Pair) → others n (heldOf keys) ≡ qs
+          → OffLeaves s after n (liftedOf keys n .off) × (after .keys ≡ keysOf (after .keys .active) (after .keys .gate) (others n (heldOf keys)))
+      go false e qs h = rw (lift-keeps-sound keys n e) (record { active = refl; gate = refl; velocity = refl; frequency = refl }, refl)
+      go true e [] h = rw (lift-releases keys n e h, h) (record { active = refl; gate = refl; velocity = refl; frequency = refl }, refl)
       go true e (p ∷ ps) h =
           let other : (lastOf p ps .note ≡ n → ⊥) = rw h at (last-is-other n (heldOf keys)) in
-          rw (lift-falls-back keys n p ps e h, h)
-          (record { other = other; active = refl; gate = refl; velocity = refl; frequency = refl }, held-again (Note (lastOf p ps .note)) (keys .gate) (p ∷ ps))
+          let up = is-true (keys .gate) (gate-up (keys .active) (keys .gate) n (keys-sound keys (voice-keys s t)) e) in
+          rw (lift-falls-back keys n p ps e h, h) (record { other = other; active = refl; gate = up; velocity = refl; frequency = refl }, refl)
 
-  -- a call that is done answers what the lift says, and leaves what it leaves
-  pub off-done : noteOffOf s n .answer ≡ Done 0 → noteOffOf s n ≡ record { answer = Done 0; off = liftedOf keys n .off; voice = afterLiftOf s (liftedOf keys n .keys) (liftedOf keys n .off) }
+  -- a call that is done answers what the lift says, and leaves what the lift leaves
+  pub off-done : noteOffOf s n .answer ≡ Done 0 → noteOffOf s n ≡ record { answer = Done 0; off = liftedOf keys n .off; voice = after }
   off-done d = rw (none-refused (unless (isVoice s && isMidi n) Argument) _ _ (λ (r : Off). r .answer) 0 (λ why. refl) d) refl
 
-  told : noteOffOf s n .answer ≡ Done 0 → Told s n
-  told d =
+  told : isVoice s && isMidi n ≡ true → Told s n
+  told e =
+      let kept = left (and-l (isVoice s) (isMidi n) (rw e tt)) in
       record {
-        only-when = rw (off-done d) (off-when keys n);
-        whenever = λ off w. rw (off-done d) (when-off keys n off w);
-        leaves = rw (off-done d) (heard .0);
-        held = rw (off-done d) (heard .1);
+        answer = rw e refl;
+        only-when = rw e (off-when keys n);
+        whenever = λ off w. rw e (when-off keys n off w);
+        bool = rw e (returned keys n);
+        leaves = rw e (kept .0);
+        keys = rw e (kept .1);
       }
 
   off-refused : isVoice s && isMidi n ≡ false → noteOffOf s n ≡ record { answer = Refused Argument; off = NoChange; voice = s }
   off-refused e = rw e refl
 
-  released-before : (refusals : List Refusal) (off : NoteOff) (after : VoiceState) → isReleased (offOr refusals off s after .off) ≡ firstOf refusals (λ (why : Refusal). false) (isReleased off)
-  released-before [] off after = refl
-  released-before (why ∷ later) off after = refl
-
 pub off-tells : OffTells
-off-tells =
-    record {
-      done = told;
-      refused = off-refused;
-      bool = λ s n. released-before s n (unless (isVoice s && isMidi n) Argument) (liftedOf (s .keys) n .off) (afterLiftOf s (liftedOf (s .keys) n .keys) (liftedOf (s .keys) n .off));
-    }
+off-tells = record { done = told; refused = off-refused }

@@ -5,7 +5,7 @@
 -- pairs (note, velocity), oldest first"; "unused pairs 0".
 -- The actions are defined on the list of the held pairs, for any keys: the first `count` pairs are held, all 16 if
 -- `count` is above 16. What an action gives has its unused pairs 0, whatever they were before.
--- Stricter than 01's bool: lifting a key says which of three things it did. Definitions only.
+-- 02, R-2: lifting a key says what became of the sound, one of three. Definitions only.
 use mathlib.Core.Bool.{Bool, true, false, not, cond, _&&_}
 use mathlib.Core.List.{List, [], _∷_, _++_, map}
 use Prim.Native.Nat.{ℕ, _+_, _-_}

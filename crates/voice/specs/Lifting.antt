@@ -3,24 +3,24 @@
 -- stands exactly where the Rust returned true."
 -- 01, "Steps": "`note_off` drops every held entry of that note, then, only if it was active, falls back to the last
 -- held, or lowers the gate and returns true".
--- The three say what becomes of the sound, not of the list of held keys: a key that is dropped while another note
--- sounds is no change. The argument is in proofs/Lifting.antt. Definitions only.
+-- The three say what becomes of the sound, and not of the list of held keys: where the lifted note did not sound, it is
+-- no change, also if held keys of it are dropped. The argument is in proofs/Lifting.antt. Definitions only.
 use mathlib.Core.Path.{_≡_}
-use mathlib.Core.Bool.{false, _&&_}
+use mathlib.Core.Bool.{Bool, true, false, _&&_}
 use mathlib.Core.List.{List, [], _∷_, _++_}
 use Prim.Native.Nat.{ℕ}
+use lib.Dec.{eqb}
+use lib.ListN.{length}
 use Rattle.domain.specs.Domain.{isMidi}
 use Rattle.pitch.specs.Pitch.{frequencyOf}
 use Rattle.answers.specs.declared.Answer.the-variants.{Done, Refused}
-use Rattle.answers.specs.declared.Refusal.{Refusal}
 use Rattle.answers.specs.declared.Refusal.the-variants.{Argument}
-use Rattle.answers.specs.Order.{unless, firstOf}
 use Rattle.voice.specs.declared.keys.ActiveNote.the-variants.{Silent, Note}
 use Rattle.voice.specs.declared.keys.NoteOff.{NoteOff}
 use Rattle.voice.specs.declared.keys.NoteOff.the-variants.{Released, FellBack, NoChange}
 use Rattle.voice.specs.declared.keys.Keys.{Keys}
 use Rattle.voice.specs.declared.VoiceState.{VoiceState}
-use Rattle.voice.specs.Keys.{Pair, heldOf, others, liftedOf}
+use Rattle.voice.specs.Keys.{Pair, heldOf, keysOf, others, isSounding}
 use Rattle.voice.specs.Voice.{velocityOf, isVoice, isReleased, noteOffOf}
 
 -- the last pair of the list has note m and velocity v
@@ -34,6 +34,11 @@ OffWhen k n Released = (k .active ≡ Note n) × (others n (heldOf k) ≡ [])
 OffWhen k n (FellBack m v) = (k .active ≡ Note n) × EndsIn (others n (heldOf k)) m v
 OffWhen k n NoChange = k .active ≡ Note n → ⊥
 
+-- what `note_off` of voice.rs returns: true if n was active and no other note is held
+abbrev pub returnsTrue : Keys → ℕ → Bool
+returnsTrue k n = isSounding (k .active) n && eqb (length (others n (heldOf k))) 0
+
+-- ---- what each of the three leaves
 -- voice t sounds as voice s does
 pub record SameSound (s t : VoiceState) : Type 0 where
   pub active : t .keys .active ≡ s .keys .active
@@ -49,29 +54,30 @@ pub record Silenced (s t : VoiceState) : Type 0 where
   pub frequency : t .frequency ≡ s .frequency
 
 -- another note than n sounds in t: m, with its velocity v
-pub record SoundsInstead (s t : VoiceState) (n m v : ℕ) : Type 0 where
+pub record SoundsInstead (t : VoiceState) (n m v : ℕ) : Type 0 where
   pub other : m ≡ n → ⊥
   pub active : t .keys .active ≡ Note m
-  pub gate : t .keys .gate ≡ s .keys .gate
+  pub gate : t .keys .gate ≡ true
   pub velocity : t .velocity ≡ velocityOf v
   pub frequency : t .frequency ≡ frequencyOf m
 
--- what each of the three leaves: s is the voice before note n is lifted, t the voice after
+-- s is the voice before note n is lifted, t the voice after
 abbrev pub OffLeaves : VoiceState → VoiceState → ℕ → NoteOff → Type 0
 OffLeaves s t n Released = Silenced s t
-OffLeaves s t n (FellBack m v) = SoundsInstead s t n m v
+OffLeaves s t n (FellBack m v) = SoundsInstead t n m v
 OffLeaves s t n NoChange = SameSound s t
 
 -- ---- the claim
--- of a call that is done
+-- what a call on a voice and a note within the limits answers and leaves
 pub record Told (s : VoiceState) (n : ℕ) : Type 0 where
+  pub answer : noteOffOf s n .answer ≡ Done 0
   pub only-when : OffWhen (s .keys) n (noteOffOf s n .off)
   pub whenever : (off : NoteOff) → OffWhen (s .keys) n off → noteOffOf s n .off ≡ off
+  pub bool : isReleased (noteOffOf s n .off) ≡ returnsTrue (s .keys) n
   pub leaves : OffLeaves s (noteOffOf s n .voice) n (noteOffOf s n .off)
-  pub held : heldOf (noteOffOf s n .voice .keys) ≡ others n (heldOf (s .keys))
+  -- the held keys are those of the other notes, and the unused pairs are 0
+  pub keys : let t = noteOffOf s n .voice in t .keys ≡ keysOf (t .keys .active) (t .keys .gate) (others n (heldOf (s .keys)))
 
 pub record OffTells : Type 0 where
-  pub done : (s : VoiceState) (n : ℕ) → noteOffOf s n .answer ≡ Done 0 → Told s n
+  pub done : (s : VoiceState) (n : ℕ) → isVoice s && isMidi n ≡ true → Told s n
   pub refused : (s : VoiceState) (n : ℕ) → isVoice s && isMidi n ≡ false → noteOffOf s n ≡ record { answer = Refused Argument; off = NoChange; voice = s }
-  -- the bool that the call gave before R-2
-  pub bool : (s : VoiceState) (n : ℕ) → isReleased (noteOffOf s n .off) ≡ firstOf (unless (isVoice s && isMidi n) Argument) (λ (why : Refusal). false) (isReleased (liftedOf (s .keys) n .off))

@@ -47,7 +47,7 @@ isLoud x = within (zeroOf binary32) (oneOf binary32) x
 unfoldable pub isVoice : VoiceState → Bool
 isVoice s = isKeys (s .keys) && isLoud (s .velocity) && isPitch binary32 (s .frequency)
 
--- ---- the answers: a refused call hands back the state as it came, and false or 0 for what was asked
+-- ---- the answers: a refused call hands back the state as it came, and no change, false or 0 for what was asked
 abbrev pub changedOr : List Refusal → VoiceState → VoiceState → Changed
 changedOr refusals before after = firstOf refusals (λ (why : Refusal). record { answer = Refused why; voice = before }) (record { answer = Done 0; voice = after })
 
@@ -71,7 +71,7 @@ afterLiftOf s keys Released = record { keys = keys; velocity = s .velocity; freq
 afterLiftOf s keys (FellBack n v) = soundingOf keys n v
 afterLiftOf s keys NoChange = record { keys = keys; velocity = s .velocity; frequency = s .frequency }
 
--- the three as values: the bool of the original, and the note that sounds instead, 255 where there is none
+-- the three as values: the bool that the original returns, and the note that the voice fell back to, else 255
 pub record Said : Type 0 where
   pub released : Bool
   pub note : ℕ

@@ -76,7 +76,7 @@ impl VoiceState {
         )
     }
 
-    // A key goes up. If its note sounded, the sound is released or falls back to the note that is named; else no change.
+    // A key goes up. If its note sounded, the sound is released, or falls back to the note that the answer names.
     pub fn note_off(self, note: u8) -> Off
         ensures { λ r. ⌜ r ≡ noteOffOf self note ⌝ }
     {

@@ -1,46 +1,52 @@
 -- What a front panel is told as keys are lifted, by examples. 02, R-2: "The voice's note-off says one of three:
 -- released, fell back to a named note, or no change."
--- (k), (l) and (m) are 01's worked examples. A refused call is no change. Definitions only.
+-- (k), (l) and (m) are 01's worked examples. Definitions only.
 use mathlib.Core.Path.{_≡_}
 use mathlib.Core.Bool.{true, false}
 use mathlib.Core.List.{List, [], _∷_, _++_}
 use Prim.Native.Nat.{ℕ}
 use lib.ListN.{replicate}
+use lib.Ieee.{binary32}
+use Rattle.floats.specs.Range.{zeroOf}
 use Rattle.voice.specs.Voice.{Said, offSays, newOf, noteOffOf}
 use Rattle.voice.specs.declared.VoiceState.{VoiceState}
 use Rattle.worked_examples.specs.Examples.{from, strikeAll, full, twice}
 
--- the three, as they are shown
-abbrev pub released : Said
-released = record { released = true; note = 255 }
+-- the three, as values
+abbrev pub saysReleased : Said
+saysReleased = record { released = true; note = 255 }
 
-abbrev pub fellBackTo : ℕ → Said
-fellBackTo n = record { released = false; note = n }
+abbrev pub saysFellBack : ℕ → Said
+saysFellBack n = record { released = false; note = n }
 
-abbrev pub noChange : Said
-noChange = record { released = false; note = 255 }
+abbrev pub saysNoChange : Said
+saysNoChange = record { released = false; note = 255 }
 
--- what the voice says as each of these keys is lifted
-abbrev pub shows : VoiceState → List ℕ → List Said
-shows s [] = []
-shows s (n ∷ ns) = offSays (noteOffOf s n .off) ∷ shows (noteOffOf s n .voice) ns
+-- what the panel is told as each of these keys is lifted
+abbrev pub told : VoiceState → List ℕ → List Said
+told s [] = []
+told s (n ∷ ns) = offSays (noteOffOf s n .off) ∷ told (noteOffOf s n .voice) ns
 
 -- a new voice after these keys were struck
 abbrev pub struck : List ℕ → VoiceState
 struck ns = strikeAll newOf ns
 
+-- 60 and 64 held, 64 sounding, at a frequency of 0 Hz: outside the limits
+abbrev pub outside : VoiceState
+outside = record { keys = struck (60 ∷ 64 ∷ []) .keys; velocity = zeroOf binary32; frequency = zeroOf binary32 }
+
 pub record PanelExamples : Type 0 where
   -- (k) notes 40 to 55 on, 60 on; 60 off: 55 sounds
-  pub example-k : shows full (60 ∷ []) ≡ fellBackTo 55 ∷ []
+  pub example-k : told full (60 ∷ []) ≡ saysFellBack 55 ∷ []
   -- (l) instead 40 to 55 off: 60 sounds on, also when none is held; 60 off: released
-  pub example-l : shows full (from 40 16 ++ 60 ∷ []) ≡ replicate 16 noChange ++ released ∷ []
+  pub example-l : told full (from 40 16 ++ 60 ∷ []) ≡ replicate 16 saysNoChange ++ saysReleased ∷ []
   -- (m) 60 on twice, off once: released
-  pub example-m : shows twice (60 ∷ []) ≡ released ∷ []
+  pub example-m : told twice (60 ∷ []) ≡ saysReleased ∷ []
   -- 60 on, 64 on; 64 off, 60 off
-  pub back-and-released : shows (struck (60 ∷ 64 ∷ [])) (64 ∷ 60 ∷ []) ≡ fellBackTo 60 ∷ released ∷ []
-  -- 60, 62, 60 on; 60 off: both entries of 60 are dropped, so it is never the lifted note
-  pub both-dropped : shows (struck (60 ∷ 62 ∷ 60 ∷ [])) (60 ∷ []) ≡ fellBackTo 62 ∷ []
-  -- a key that is not down, while another sounds and while none does
-  pub not-down : (shows (struck (60 ∷ [])) (61 ∷ []) ≡ noChange ∷ []) × (shows newOf (60 ∷ []) ≡ noChange ∷ [])
-  -- note 128 is refused
-  pub refused : shows full (128 ∷ []) ≡ noChange ∷ []
+  pub back-and-released : told (struck (60 ∷ 64 ∷ [])) (64 ∷ 60 ∷ []) ≡ saysFellBack 60 ∷ saysReleased ∷ []
+  -- 60, 62, 60 on; 60 off: both entries of 60 are dropped, so the voice falls back to 62
+  pub both-dropped : told (struck (60 ∷ 62 ∷ 60 ∷ [])) (60 ∷ []) ≡ saysFellBack 62 ∷ []
+  -- a key that is not down, while another note sounds and while none does
+  pub not-down : (told (struck (60 ∷ [])) (61 ∷ []) ≡ saysNoChange ∷ []) × (told newOf (60 ∷ []) ≡ saysNoChange ∷ [])
+  -- a refused call is no change: 64 off
+  pub refused : told outside (64 ∷ []) ≡ saysNoChange ∷ []
