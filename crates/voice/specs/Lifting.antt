@@ -3,8 +3,9 @@
 -- stands exactly where the Rust returned true."
 -- 01, "Steps": "`note_off` drops every held entry of that note, then, only if it was active, falls back to the last
 -- held, or lowers the gate and returns true".
--- The three say what becomes of the sound, and not of the list of held keys: where the lifted note did not sound, it is
--- no change, also if held keys of it are dropped. The argument is in proofs/Lifting.antt. Definitions only.
+-- The three say what becomes of the sound, and not of the list of held keys: where the lifted note did not sound, the
+-- answer is no change, also if held keys of that note are dropped. The argument is in proofs/Lifting.antt. Definitions
+-- only.
 use mathlib.Core.Path.{_≡_}
 use mathlib.Core.Bool.{Bool, true, false, _&&_}
 use mathlib.Core.List.{List, [], _∷_, _++_}
@@ -73,6 +74,7 @@ pub record Told (s : VoiceState) (n : ℕ) : Type 0 where
   pub answer : noteOffOf s n .answer ≡ Done 0
   pub only-when : OffWhen (s .keys) n (noteOffOf s n .off)
   pub whenever : (off : NoteOff) → OffWhen (s .keys) n off → noteOffOf s n .off ≡ off
+  -- the original's bool
   pub bool : isReleased (noteOffOf s n .off) ≡ returnsTrue (s .keys) n
   pub leaves : OffLeaves s (noteOffOf s n .voice) n (noteOffOf s n .off)
   -- the held keys are those of the other notes, and the unused pairs are 0
