@@ -129,6 +129,9 @@ build/desk: $(DESK_SOURCES) $(DESK_NEEDS)
 build/desk-sanitized: $(DESK_SOURCES) $(DESK_NEEDS)
 	@$(CC) $(C_FLAGS) $(SANITIZED) -o $@ $(DESK_SOURCES) build/libgavberin.a -lm
 
+build/leaks: $(DESK_SOURCES) tests/desk/leaks.c $(DESK_NEEDS)
+	@$(CC) $(C_FLAGS) $(SANITIZED) -o $@ $(READERS) tests/desk/leaks.c build/libgavberin.a -lm
+
 build/desk-wrong: $(DESK_SOURCES) tests/desk/wrong_rerender.c tests/settings.h $(DESK_NEEDS)
 	@$(CC) $(C_FLAGS) -O2 -Wl,--wrap=gav_rerender -o $@ $(DESK_SOURCES) tests/desk/wrong_rerender.c build/libgavberin.a -lm
 
