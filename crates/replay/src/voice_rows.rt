@@ -50,7 +50,17 @@ fn is_lifted(row: &[u8]) -> bool {
         NoteOff::Released => 1,
         NoteOff::FellBack(note, _) => FELL_BACK + note as u64,
     };
-    is_outcome(row, answer, said, after)
+    is_outcome(row, answer, said, after) & is_heard(row, off)
+}
+
+// The velocity that a fall back says is the one that sounds after it.
+fn is_heard(row: &[u8], off: NoteOff) -> bool {
+    match off {
+        NoteOff::FellBack(_, velocity) => {
+            words::f32_bits(voice::velocity_of(velocity)) == words::u32_at(row, 116)
+        }
+        _ => true,
+    }
 }
 
 // A getter hands back no state: the row has the given one.

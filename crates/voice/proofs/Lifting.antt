@@ -3,13 +3,13 @@
 use mathlib.Core.Path.{_≡_, refl, ap}
 use mathlib.Core.Bool.{Bool, true, false, false≢true, cond, _&&_}
 use mathlib.Core.List.{List, [], _∷_, _++_}
-use Prim.Native.Nat.{ℕ, suc}
+use Prim.Native.Nat.{ℕ, suc, _≤_}
 use lib.Dec.{T, eqb}
 use lib.Ieee.Bits.{is-true}
 use lib.Ieee.Fits.{and-l}
 use lib.ListN.{length}
 use native.Mathlib.Omega.{arith}
-use borrow.Author.Tests.{eqb-true, eqb-false, eq-eqb, ne-eqb}
+use borrow.Author.Tests.{eqb-true, eqb-false, eq-eqb, ne-eqb, le-leb}
 use Rattle.domain.specs.Domain.{isMidi}
 use Rattle.answers.specs.declared.Answer.the-variants.{Done, Refused}
 use Rattle.answers.specs.declared.Refusal.the-variants.{Argument}
@@ -26,7 +26,7 @@ use Rattle.voice.specs.Keys.{Pair, heldOf, keysOf, others, lastOf, isSou
 use Rattle.voice.specs.Voice.{isVoice, isReleased, afterLiftOf, noteOffOf}
 use Rattle.voice.specs.Lifting.{EndsIn, OffWhen, returnsTrue, OffLeaves, Told, OffTells}
 use Rattle.voice.proofs.Limits.{keys-sound}
-use Rattle.voice.proofs.Actions.{lift-keeps-sound, lift-releases, lift-falls-back, gate-up}
+use Rattle.voice.proofs.Actions.{lift-keeps-sound, lift-releases, lift-falls-back, gate-up, lifted-keeps}
 use Rattle.voice.proofs.Keeps.{voice-keys}
 
 -- ---- the note that sounds
@@ -124,7 +124,9 @@ module _ (s : VoiceState) (n : ℕ) where
       go true e (p ∷ ps) h =
           let other : (lastOf p ps .note ≡ n → ⊥) = rw h at (last-is-other n (heldOf keys)) in
           let up = is-true (keys .gate) (gate-up (keys .active) (keys .gate) n (keys-sound keys (voice-keys s t)) e) in
-          rw (lift-falls-back keys n p ps e h, h) (record { other = other; active = refl; gate = up; velocity = refl; frequency = refl }, refl)
+          let ranged : (lastOf p ps .note ≤ 127) × (lastOf p ps .velocity ≤ 127) = rw (lift-falls-back keys n p ps e h) at (lifted-keeps keys n (voice-keys s t) .back) in
+          let midi : isMidi (lastOf p ps .note) && isMidi (lastOf p ps .velocity) ≡ true = rw (le-leb (lastOf p ps .note) 127 (ranged .0), le-leb (lastOf p ps .velocity) 127 (ranged .1)) refl in
+          rw (lift-falls-back keys n p ps e h, h) (record { midi = midi; other = other; active = refl; gate = up; velocity = refl; frequency = refl }, refl)
 
   -- a call that is done answers what the lift says, and leaves what the lift leaves
   pub off-done : noteOffOf s n .answer ≡ Done 0 → noteOffOf s n ≡ record { answer = Done 0; off = liftedOf keys n .off; voice = after }

@@ -35,7 +35,7 @@ OffWhen k n Released = (k .active ≡ Note n) × (others n (heldOf k) ≡ [])
 OffWhen k n (FellBack m v) = (k .active ≡ Note n) × EndsIn (others n (heldOf k)) m v
 OffWhen k n NoChange = k .active ≡ Note n → ⊥
 
--- what `note_off` of voice.rs returns: true if n was active and no other note is held
+-- what `note_off` of voice.rs returns, by 01's words: true if n was active and no other note is held
 abbrev pub returnsTrue : Keys → ℕ → Bool
 returnsTrue k n = isSounding (k .active) n && eqb (length (others n (heldOf k))) 0
 
@@ -47,15 +47,16 @@ pub record SameSound (s t : VoiceState) : Type 0 where
   pub velocity : t .velocity ≡ s .velocity
   pub frequency : t .frequency ≡ s .frequency
 
--- no note sounds in t, whose velocity and frequency are those of s
+-- no note is active in t, whose velocity and frequency are those of s
 pub record Silenced (s t : VoiceState) : Type 0 where
   pub active : t .keys .active ≡ Silent
   pub gate : t .keys .gate ≡ false
   pub velocity : t .velocity ≡ s .velocity
   pub frequency : t .frequency ≡ s .frequency
 
--- another note than n sounds in t: m, with its velocity v
+-- another note than n is active in t: m, with its velocity v
 pub record SoundsInstead (t : VoiceState) (n m v : ℕ) : Type 0 where
+  pub midi : isMidi m && isMidi v ≡ true
   pub other : m ≡ n → ⊥
   pub active : t .keys .active ≡ Note m
   pub gate : t .keys .gate ≡ true

@@ -8,24 +8,27 @@ use Prim.Native.Nat.{ℕ}
 use lib.ListN.{replicate}
 use lib.Ieee.{binary32}
 use Rattle.floats.specs.Range.{zeroOf}
+use Rattle.answers.specs.declared.Answer.{Answer}
+use Rattle.answers.specs.declared.Answer.the-variants.{Done, Refused}
+use Rattle.answers.specs.declared.Refusal.the-variants.{Argument}
 use Rattle.voice.specs.Voice.{Said, offSays, newOf, noteOffOf}
 use Rattle.voice.specs.declared.VoiceState.{VoiceState}
 use Rattle.worked_examples.specs.Examples.{from, strikeAll, full, twice}
 
--- the three, as values
-abbrev pub saysReleased : Said
-saysReleased = record { released = true; note = 255 }
+-- the three, as values beside the answer of a call that is done
+abbrev pub saysReleased : Answer × Said
+saysReleased = (Done 0, record { released = true; note = 255 })
 
-abbrev pub saysFellBack : ℕ → Said
-saysFellBack n = record { released = false; note = n }
+abbrev pub saysFellBack : ℕ → Answer × Said
+saysFellBack n = (Done 0, record { released = false; note = n })
 
-abbrev pub saysNoChange : Said
-saysNoChange = record { released = false; note = 255 }
+abbrev pub saysNoChange : Answer × Said
+saysNoChange = (Done 0, record { released = false; note = 255 })
 
 -- what the panel is told as each of these keys is lifted
-abbrev pub told : VoiceState → List ℕ → List Said
+abbrev pub told : VoiceState → List ℕ → List (Answer × Said)
 told s [] = []
-told s (n ∷ ns) = offSays (noteOffOf s n .off) ∷ told (noteOffOf s n .voice) ns
+told s (n ∷ ns) = (noteOffOf s n .answer, offSays (noteOffOf s n .off)) ∷ told (noteOffOf s n .voice) ns
 
 -- a new voice after these keys were struck
 abbrev pub struck : List ℕ → VoiceState
@@ -48,5 +51,5 @@ pub record PanelExamples : Type 0 where
   pub both-dropped : told (struck (60 ∷ 62 ∷ 60 ∷ [])) (60 ∷ []) ≡ saysFellBack 62 ∷ []
   -- a key that is not down, while another note sounds and while none does
   pub not-down : (told (struck (60 ∷ [])) (61 ∷ []) ≡ saysNoChange ∷ []) × (told newOf (60 ∷ []) ≡ saysNoChange ∷ [])
-  -- a refused call is no change: 64 off
-  pub refused : told outside (64 ∷ []) ≡ saysNoChange ∷ []
+  -- 64 off is refused, which is no change
+  pub refused : told outside (64 ∷ []) ≡ (Refused Argument, record { released = false; note = 255 }) ∷ []
