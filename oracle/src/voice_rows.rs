@@ -188,10 +188,11 @@ impl Pair {
 
 /// What a lift says: whether the lifted note sounded, whether the original returned true, and what sounds after it.
 fn said(sounded: bool, released: bool, sounding: Option<u8>) -> u64 {
-    match sounding {
-        _ if released => RELEASED,
-        Some(note) if sounded => FELL_BACK + note as u64,
-        _ => NO_CHANGE,
+    match (released, sounded, sounding) {
+        (true, ..) => RELEASED,
+        (false, true, Some(note)) => FELL_BACK + note as u64,
+        (false, true, None) => panic!("no note sounds after a lift, and the original did not return true"),
+        (false, false, _) => NO_CHANGE,
     }
 }
 
@@ -314,7 +315,8 @@ fn edges_of_keys() -> Vec<Vec<u64>> {
     rows
 }
 
-/// Keys struck with velocity 100 on a new voice, then lifted: 01's worked examples (k), (l) and (m), and falls back.
+/// Keys struck with velocity 100 on a new voice, then lifted: 01's worked examples (k), (l) and (m), sixteen keys, falls
+/// back, and keys that are not down.
 fn edges_of_runs() -> Vec<Vec<u64>> {
     let full: Vec<u8> = (40..56).chain([60]).collect();
     let runs: [(&[u8], Vec<u8>); 7] = [

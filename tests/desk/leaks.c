@@ -1,5 +1,6 @@
-/* leaks COMMAND ++ COMMAND ++ ..: commands of the desk, one after the other in one process. Leaks are looked for where a
-   process ends, which takes 4 s on some processors, and so once for all of them. Exit status: that of the last. */
+/* leaks COMMAND ++ COMMAND ++ ..: commands of the desk, one after the other in one process. Leaks are looked for where
+   a process ends, which takes 4 s on some processors, and so once for all of them. Ends where a command is not done,
+   with the exit status of that command. */
 #define main desk
 #include "../../desk/main.c"
 #undef main

@@ -53,7 +53,7 @@ fn is_lifted(row: &[u8]) -> bool {
     is_outcome(row, answer, said, after) & is_heard(row, off)
 }
 
-// The velocity that a fall back says is the one that sounds after it.
+// Whether the velocity that a fall back says is the one that sounds after it.
 fn is_heard(row: &[u8], off: NoteOff) -> bool {
     match off {
         NoteOff::FellBack(_, velocity) => {

@@ -106,7 +106,7 @@ module _ (g : Settings) (v : State) (w : VoiceState) (b : EnvelopeBlock) (a : Al
   calls-act (event.Lift note) d f = lift-alike note d f
   calls-act event.Reset d f = let left = voice-left (unless (isVoice w) Argument) w voice.newOf d in record { keys = rw left refl; frequency = rw left same-pitch; velocity = rw left same-zero; envelope = rw (block-left b stages.freshOf f) refl }
 
-  -- the envelope is released exactly if the voice's note_off says so
+  -- the envelope is released exactly if the voice's note_off says released
   pub released-decides : (note : ℕ) → voice.noteOffOf w note .answer ≡ Done 0 → actOf g v (event.Lift note) .envelope ≡ cond (isReleased (voice.noteOffOf w note .off)) (releasedOf (v .envelope)) (v .envelope)
   released-decides note d =
       let l = liftedOf (w .keys) note in

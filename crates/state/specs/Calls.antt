@@ -34,7 +34,7 @@ voiceCall w (event.Strike note velocity) = voice.noteOnOf w note velocity
 voiceCall w (event.Lift note) = let off = voice.noteOffOf w note in record { answer = off .answer; voice = off .voice }
 voiceCall w event.Reset = voice.resetOf w
 
--- the envelope's note_off if the voice's released the sound, else no call
+-- the envelope's note_off if the voice's says released, else no call
 abbrev pub envelopeCall : VoiceState → EnvelopeBlock → Event → Processed
 envelopeCall w b (event.Strike note velocity) = envelope.noteOnOf b
 envelopeCall w b (event.Lift note) = cond (voice.isReleased (voice.noteOffOf w note .off)) (envelope.noteOffOf b) (record { answer = Done 0; block = b })

@@ -37,6 +37,20 @@ module _ (k : Keys) (n : ℕ) where
       → liftedOf k n ≡ record { keys = keysOf (Note (lastOf p ps .note)) (k .gate) (p ∷ ps); off = FellBack (lastOf p ps .note) (lastOf p ps .velocity) }
   lift-falls-back p ps e h = rw (sounded e, h) refl
 
+  -- what holds in each of the three cases holds of the lift
+  pub by-cases : (P : AfterLift → Type 0)
+      → (isSounding (k .active) n ≡ false → P (record { keys = keysOf (k .active) (k .gate) (others n (heldOf k)); off = NoChange }))
+      → (isSounding (k .active) n ≡ true → others n (heldOf k) ≡ [] → P (record { keys = keysOf Silent false []; off = Released }))
+      → ((p : Pair) (ps : List Pair) → isSounding (k .active) n ≡ true → others n (heldOf k) ≡ p ∷ ps
+      → P (record { keys = keysOf (Note (lastOf p ps .note)) (k .gate) (p ∷ ps); off = FellBack (lastOf p ps .note) (lastOf p ps .velocity) }))
+      → P (liftedOf k n)
+  by-cases P same none back = go (isSounding (k .active) n) refl (others n (heldOf k)) refl
+    where
+      go : (t : Bool) → isSounding (k .active) n ≡ t → (qs : List Pair) → others n (heldOf k) ≡ qs → P (liftedOf k n)
+      go false e qs h = rw (lift-keeps-sound e) (same e)
+      go true e [] h = rw (lift-releases e h) (none e h)
+      go true e (p ∷ ps) h = rw (lift-falls-back p ps e h) (back p ps e h)
+
 -- ---- lists of pairs in range
 snoc-ranged : (ps : List Pair) (p : Pair) → AllRanged ps → Ranged p → AllRanged (ps ++ p ∷ [])
 unfolding AllRanged
@@ -104,7 +118,7 @@ gate-up Silent g n s e = absurd (false≢true e)
 gate-up (Note m) g n s e = and-r (leb m 127) g s
 
 pub lifted-keeps : (k : Keys) (n : ℕ) → T (isKeys k) → LiftKept (liftedOf k n)
-lifted-keeps k n t = go (isSounding (k .active) n) refl (others n (heldOf k)) refl
+lifted-keeps k n t = by-cases k n LiftKept same none back
   where
     ranged : AllRanged (others n (heldOf k))
     ranged = others-ranged n (heldOf k) (held-ranged k t)
@@ -112,18 +126,19 @@ lifted-keeps k n t = go (isSounding (k .active) n) refl (others n (heldOf k)) re
     few : length (others n (heldOf k)) ≤ 16
     few = omega (arith, others-few n (heldOf k), held-few k t)
 
-    back-to : (p : Pair) (ps : List Pair) → T (k .gate) → AllRanged (p ∷ ps) → length (p ∷ ps) ≤ 16
+    same : isSounding (k .active) n ≡ false → LiftKept (record { keys = keysOf (k .active) (k .gate) (others n (heldOf k)); off = NoChange })
+    same e = record { within = holds-limits (k .active) (k .gate) (others n (heldOf k)) (keys-sound k t) few ranged; back = tt }
+
+    none : isSounding (k .active) n ≡ true → others n (heldOf k) ≡ [] → LiftKept (record { keys = keysOf Silent false []; off = Released })
+    none e h = record { within = holds-limits Silent false [] tt (omega arith) (rw h at ranged); back = tt }
+
+    back : (p : Pair) (ps : List Pair) → isSounding (k .active) n ≡ true → others n (heldOf k) ≡ p ∷ ps
         → LiftKept (record { keys = keysOf (Note (lastOf p ps .note)) (k .gate) (p ∷ ps); off = FellBack (lastOf p ps .note) (lastOf p ps .velocity) })
-    back-to p ps g r l =
+    back p ps e h =
+        let r : AllRanged (p ∷ ps) = rw h at ranged in
         let q = last-ranged p ps r in
+        let g = gate-up (k .active) (k .gate) n (keys-sound k t) e in
         record {
-          within = holds-limits (Note (lastOf p ps .note)) (k .gate) (p ∷ ps) (and-i (leb (lastOf p ps .note) 127) (k .gate) (le→leb (lastOf p ps .note) 127 (q .note-in)) g) l r;
+          within = holds-limits (Note (lastOf p ps .note)) (k .gate) (p ∷ ps) (and-i (leb (lastOf p ps .note) 127) (k .gate) (le→leb (lastOf p ps .note) 127 (q .note-in)) g) (rw h at few) r;
           back = (q .note-in, q .velocity-in);
         }
-
-    go : (b : Bool) → isSounding (k .active) n ≡ b → (qs : List Pair) → others n (heldOf k) ≡ qs → LiftKept (liftedOf k n)
-    go false e qs h = rw (lift-keeps-sound k n e) (record { within = holds-limits (k .active) (k .gate) (others n (heldOf k)) (keys-sound k t) few ranged; back = tt })
-    go true e [] h = rw (lift-releases k n e h) (record { within = holds-limits Silent false [] tt (omega arith) (rw h at ranged); back = tt })
-    go true e (p ∷ ps) h =
-        let r : AllRanged (p ∷ ps) = rw h at ranged in
-        rw (lift-falls-back k n p ps e h) (back-to p ps (gate-up (k .active) (k .gate) n (keys-sound k t) e) r (rw h at few))

@@ -20,13 +20,14 @@ use Rattle.voice.specs.declared.keys.ActiveNote.the-variants.{Silent, No
 use Rattle.voice.specs.declared.keys.NoteOff.{NoteOff}
 use Rattle.voice.specs.declared.keys.NoteOff.the-variants.{Released, FellBack, NoChange}
 use Rattle.voice.specs.declared.keys.Keys.{Keys}
+use Rattle.voice.specs.declared.keys.AfterLift.{AfterLift}
 use Rattle.voice.specs.declared.VoiceState.{VoiceState}
 use Rattle.voice.specs.declared.Off.{Off}
 use Rattle.voice.specs.Keys.{Pair, heldOf, keysOf, others, lastOf, isSounding, liftedOf}
 use Rattle.voice.specs.Voice.{isVoice, isReleased, afterLiftOf, noteOffOf}
 use Rattle.voice.specs.Lifting.{EndsIn, OffWhen, returnsTrue, OffLeaves, Told, OffTells}
 use Rattle.voice.proofs.Limits.{keys-sound}
-use Rattle.voice.proofs.Actions.{lift-keeps-sound, lift-releases, lift-falls-back, gate-up, lifted-keeps}
+use Rattle.voice.proofs.Actions.{lift-releases, lift-falls-back, by-cases, gate-up, lifted-keeps}
 use Rattle.voice.proofs.Keeps.{voice-keys}
 
 -- ---- the note that sounds
@@ -69,16 +70,13 @@ last-is-other n (p ∷ ps) = go (eqb (p .note) n) refl (last-is-other n ps)
 
 -- ---- lifting note n of keys k
 module _ (k : Keys) (n : ℕ) where
-  silent-else : isSounding (k .active) n ≡ false → k .active ≡ Note n → ⊥
-  silent-else e a = false≢true (cc (e, sounding (k .active) n a))
+  not-active : isSounding (k .active) n ≡ false → k .active ≡ Note n → ⊥
+  not-active e a = false≢true (cc (e, sounding (k .active) n a))
 
   pub off-when : OffWhen k n (liftedOf k n .off)
-  off-when = go (isSounding (k .active) n) refl (others n (heldOf k)) refl
-    where
-      go : (t : Bool) → isSounding (k .active) n ≡ t → (qs : List Pair) → others n (heldOf k) ≡ qs → OffWhen k n (liftedOf k n .off)
-      go false e qs h = rw (lift-keeps-sound k n e) (silent-else e)
-      go true e [] h = rw (lift-releases k n e h) (sounds (k .active) n e, h)
-      go true e (p ∷ ps) h = rw (lift-falls-back k n p ps e h) (sounds (k .active) n e, rw h (ends-in-last p ps))
+  off-when =
+      by-cases k n (λ (l : AfterLift). OffWhen k n (l .off)) not-active (λ e h. (sounds (k .active) n e, h))
+      (λ p ps e h. (sounds (k .active) n e, rw h (ends-in-last p ps)))
 
   falls-back-to : (m v : ℕ) (ps : List Pair) → isSounding (k .active) n ≡ true → others n (heldOf k) ≡ ps ++ record { note = m; velocity = v } ∷ [] → liftedOf k n .off ≡ FellBack m v
   unfolding lastOf
@@ -90,46 +88,45 @@ module _ (k : Keys) (n : ℕ) where
   pub when-off : (off : NoteOff) → OffWhen k n off → liftedOf k n .off ≡ off
   when-off Released w = rw (lift-releases k n (sounding (k .active) n (w .0)) (w .1)) refl
   when-off (FellBack m v) w = falls-back-to m v (w .1 .earlier) (sounding (k .active) n (w .0)) (w .1 .ends)
-  when-off NoChange w = go (isSounding (k .active) n) refl
-    where
-      go : (t : Bool) → isSounding (k .active) n ≡ t → liftedOf k n .off ≡ NoChange
-      go true e = absurd (w (sounds (k .active) n e))
-      go false e = rw (lift-keeps-sound k n e) refl
+  when-off NoChange w =
+      by-cases k n (λ (l : AfterLift). l .off ≡ NoChange) (λ e. refl) (λ e h. absurd (w (sounds (k .active) n e)))
+      (λ p ps e h. absurd (w (sounds (k .active) n e)))
 
   -- the bool of the original
   returned : isReleased (liftedOf k n .off) ≡ returnsTrue k n
-  returned = go (isSounding (k .active) n) refl (others n (heldOf k)) refl
-    where
-      go : (t : Bool) → isSounding (k .active) n ≡ t → (qs : List Pair) → others n (heldOf k) ≡ qs → isReleased (liftedOf k n .off) ≡ returnsTrue k n
-      go false e qs h = rw (lift-keeps-sound k n e, e) refl
-      go true e [] h = rw (lift-releases k n e h, e, h) refl
-      go true e (p ∷ ps) h = rw (lift-falls-back k n p ps e h, e, h, ne-eqb (suc (length ps)) 0 (λ l. absurd (omega arith))) refl
+  returned =
+      by-cases k n (λ (l : AfterLift). isReleased (l .off) ≡ returnsTrue k n) (λ e. rw e refl) (λ e h. rw (e, h) refl)
+      (λ p ps e h. rw (e, h, ne-eqb (suc (length ps)) 0 (λ l. absurd (omega arith))) refl)
 
 -- ---- the call
 module _ (s : VoiceState) (n : ℕ) where
   abbrev keys : Keys
   keys = s .keys
 
-  -- the voice after the lift
-  abbrev after : VoiceState
-  after = afterLiftOf s (liftedOf keys n .keys) (liftedOf keys n .off)
+  -- the voice after a lift
+  abbrev after : AfterLift → VoiceState
+  after l = afterLiftOf s (l .keys) (l .off)
 
-  left : T (isVoice s) → OffLeaves s after n (liftedOf keys n .off) × (after .keys ≡ keysOf (after .keys .active) (after .keys .gate) (others n (heldOf keys)))
-  left t = go (isSounding (keys .active) n) refl (others n (heldOf keys)) refl
-    where
-      go : (b : Bool) → isSounding (keys .active) n ≡ b → (qs : List Pair) → others n (heldOf keys) ≡ qs
-          → OffLeaves s after n (liftedOf keys n .off) × (after .keys ≡ keysOf (after .keys .active) (after .keys .gate) (others n (heldOf keys)))
-      go false e qs h = rw (lift-keeps-sound keys n e) (record { active = refl; gate = refl; velocity = refl; frequency = refl }, refl)
-      go true e [] h = rw (lift-releases keys n e h, h) (record { active = refl; gate = refl; velocity = refl; frequency = refl }, refl)
-      go true e (p ∷ ps) h =
-          let other : (lastOf p ps .note ≡ n → ⊥) = rw h at (last-is-other n (heldOf keys)) in
-          let up = is-true (keys .gate) (gate-up (keys .active) (keys .gate) n (keys-sound keys (voice-keys s t)) e) in
-          let ranged : (lastOf p ps .note ≤ 127) × (lastOf p ps .velocity ≤ 127) = rw (lift-falls-back keys n p ps e h) at (lifted-keeps keys n (voice-keys s t) .back) in
-          let midi : isMidi (lastOf p ps .note) && isMidi (lastOf p ps .velocity) ≡ true = rw (le-leb (lastOf p ps .note) 127 (ranged .0), le-leb (lastOf p ps .velocity) 127 (ranged .1)) refl in
-          rw (lift-falls-back keys n p ps e h, h) (record { midi = midi; other = other; active = refl; gate = up; velocity = refl; frequency = refl }, refl)
+  -- what the claim says that a lift leaves
+  abbrev Left : AfterLift → Type 0
+  Left l = OffLeaves s (after l) n (l .off) × (after l .keys ≡ keysOf (after l .keys .active) (after l .keys .gate) (others n (heldOf keys)))
+
+  fallen-back : T (isVoice s) → (p : Pair) (ps : List Pair) → isSounding (keys .active) n ≡ true → others n (heldOf keys) ≡ p ∷ ps
+      → Left (record { keys = keysOf (Note (lastOf p ps .note)) (keys .gate) (p ∷ ps); off = FellBack (lastOf p ps .note) (lastOf p ps .velocity) })
+  fallen-back t p ps e h =
+      let other : (lastOf p ps .note ≡ n → ⊥) = rw h at (last-is-other n (heldOf keys)) in
+      let up = is-true (keys .gate) (gate-up (keys .active) (keys .gate) n (keys-sound keys (voice-keys s t)) e) in
+      let ranged : (lastOf p ps .note ≤ 127) × (lastOf p ps .velocity ≤ 127) = rw (lift-falls-back keys n p ps e h) at (lifted-keeps keys n (voice-keys s t) .back) in
+      let midi : isMidi (lastOf p ps .note) && isMidi (lastOf p ps .velocity) ≡ true = rw (le-leb (lastOf p ps .note) 127 (ranged .0), le-leb (lastOf p ps .velocity) 127 (ranged .1)) refl in
+      (record { midi = midi; other = other; active = refl; gate = up; velocity = refl; frequency = refl }, rw h refl)
+
+  left : T (isVoice s) → Left (liftedOf keys n)
+  left t =
+      by-cases keys n Left (λ e. (record { active = refl; gate = refl; velocity = refl; frequency = refl }, refl))
+      (λ e h. (record { active = refl; gate = refl; velocity = refl; frequency = refl }, rw h refl)) (fallen-back t)
 
   -- a call that is done answers what the lift says, and leaves what the lift leaves
-  pub off-done : noteOffOf s n .answer ≡ Done 0 → noteOffOf s n ≡ record { answer = Done 0; off = liftedOf keys n .off; voice = after }
+  pub off-done : noteOffOf s n .answer ≡ Done 0 → noteOffOf s n ≡ record { answer = Done 0; off = liftedOf keys n .off; voice = after (liftedOf keys n) }
   off-done d = rw (none-refused (unless (isVoice s && isMidi n) Argument) _ _ (λ (r : Off). r .answer) 0 (λ why. refl) d) refl
 
   told : isVoice s && isMidi n ≡ true → Told s n
