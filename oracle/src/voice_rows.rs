@@ -275,7 +275,7 @@ fn pitches() -> Vec<f32> {
 }
 
 fn edges() -> Vec<Vec<u64>> {
-    [edges_of_arguments(), edges_of_states(), edges_of_keys(), edges_of_runs()].concat()
+    [edges_of_arguments(), edges_of_states(), edges_of_keys(), edges_of_runs(), edges_of_lifts()].concat()
 }
 
 /// Every call from every state, the ends of the ranges of note and velocity, and every held key lifted.
@@ -338,6 +338,17 @@ fn edges_of_runs() -> Vec<Vec<u64>> {
             rows.push(given(NOTE_OFF, pair.state(), note, 0));
             pair.call(NOTE_OFF, note, 0);
         }
+    }
+    rows
+}
+
+/// Five keys held, of which any may be the lifted one: at the first, a middle or the last place, in a row, all or none.
+/// It sounds, or another does.
+fn edges_of_lifts() -> Vec<Vec<u64>> {
+    let mut rows = Vec::new();
+    for lifted in 0..32u8 {
+        let held = [0, 1, 2, 3, 4].map(|i| if lifted >> i & 1 == 1 { (60, 20 + i) } else { (61 + i, 20 + i) });
+        rows.extend([60, 70].map(|active| given(NOTE_OFF, sounding(&held, Some(active)), 60, 0)));
     }
     rows
 }

@@ -1,17 +1,16 @@
--- The loops over one array: clearing it from the end, closing it up, and testing it. A law for each turn, and one each
--- for what is true before the first and after the last. Assumes nothing.
-use mathlib.Core.Path.{_≡_, refl, ap, sym, _∙_}
+-- The loops over one array: clearing it from the end, and testing it. A law for each turn, and one each for what is true
+-- before the first and after the last. Assumes nothing.
+use mathlib.Core.Path.{_≡_, refl, sym}
 use mathlib.Core.Bool.{Bool, true, false, _&&_}
-use mathlib.Core.List.{List, [], _∷_, _++_, append-assoc, append-nil}
+use mathlib.Core.List.{List, _∷_, append-nil}
 use Prim.Native.Nat.{ℕ, zero, suc, _+_, _-_, _≤_, _<_}
 use native.Mathlib.Numerals.{add-one, sub-one}
 use native.Mathlib.Omega.{arith}
 use lib.Dec.{leb}
 use borrow.Author.Tests.{le-leb, lt-leb}
-use lib.ListN.{length, take, drop, getD, set, replicate, length-append, length-drop, take-append-drop, drop-of-length-le}
-use lib.Seq.{take-suc, take-nil, drop-nil, drop-cons, drop-append-le, append-snoc, set-at, take-at, getD-append-add, getD-drop, take-all, length-take-le}
+use lib.ListN.{length, take, drop, getD, set, replicate, drop-of-length-le}
+use lib.Seq.{take-suc, take-nil, drop-nil, drop-cons, append-snoc, set-at, take-all, length-take-le}
 use Rattle.voice.specs.Keys.{padded, atMost, isFilled}
-use Rattle.voice.specs.Inner.{closedUp}
 
 -- ---- clearing
 -- before the first turn nothing is cleared
@@ -32,46 +31,6 @@ clears xs i h l =
 pub padded-clears : (xs : List ℕ) (i : ℕ) → length xs ≡ 16 → 0 < i → i ≤ 16 → set (padded (take i xs)) (i - 1) 0 ≡ padded (take (i - 1) xs)
 padded-clears xs zero h p l = absurd (omega arith)
 padded-clears xs (suc i) h p l = rw (sub-one (suc i)) (clears xs i h l)
-
--- ---- closing up: xs without the byte at i, and from m on unchanged
-module _ (xs : List ℕ) (i : ℕ) where
-  abbrev front : ℕ → List ℕ
-  front m = take i xs ++ drop (suc i) (take (suc m) xs)
-
-  front-length : (m : ℕ) → i ≤ m → m < length xs → length (front m) ≡ m
-  front-length m h l =
-      let a : length (take i xs) ≡ i = length-take-le i xs (omega arith) in
-      let b : length (take (suc m) xs) ≡ suc m = length-take-le (suc m) xs (omega arith) in
-      rw (length-append (take i xs) (drop (suc i) (take (suc m) xs)), length-drop (suc i) (take (suc m) xs), a, b) (omega arith)
-
-  -- before the first turn no byte has moved
-  pub closed-up-starts : i < length xs → xs ≡ closedUp i i xs
-  unfolding closedUp
-  closed-up-starts l =
-      let b : length (take (suc i) xs) ≡ suc i = length-take-le (suc i) xs (omega arith) in
-      rw (drop-of-length-le (take (suc i) xs) {i = suc i} (omega arith), append-nil (take i xs)) (sym (take-append-drop i xs))
-
-  -- a turn moves one byte down
-  pub closed-up-moves : (j : ℕ) → i ≤ j → suc j < length xs → set (closedUp i j xs) j (getD (closedUp i j xs) (j + 1) 0) ≡ closedUp i (j + 1) xs
-  unfolding closedUp
-  closed-up-moves j h l =
-      let n : length (front j) ≡ j = front-length j h (omega arith) in
-      let b : length (take (suc j) xs) ≡ suc j = length-take-le (suc j) xs (omega arith) in
-      let a = getD xs (suc j) 0 in
-      let moved : getD (front j ++ drop j xs) (j + 1) 0 ≡ a =
-      ap (λ (k : ℕ). getD (front j ++ drop j xs) (k + 1) 0) (sym n) ∙ getD-append-add (front j) (drop j xs) 1 0 ∙ getD-drop j xs 1 0 ∙ ap (λ (k : ℕ). getD xs k 0) (add-one j) in
-      let grown : front (suc j) ≡ front j ++ (a ∷ []) =
-      rw (take-suc xs (suc j) 0 l, drop-append-le (suc i) (take (suc j) xs) (a ∷ []) (omega arith)) (sym (append-assoc (take i xs) (drop (suc i) (take (suc j) xs)) (a ∷ []))) in
-      rw (moved, add-one j, grown, drop-cons xs j 0 (omega arith), set-at (front j) (getD xs j 0) (drop (suc j) xs) a j n) (sym (append-snoc (front j) a (drop (suc j) xs)))
-
-  -- the first m bytes are the first m + 1 of xs without the byte at i
-  pub closed-up-front : (m : ℕ) → i ≤ m → m < length xs → take m (closedUp i m xs) ≡ take i xs ++ drop (suc i) (take (suc m) xs)
-  unfolding closedUp
-  closed-up-front m h l = take-at (front m) (drop m xs) m (front-length m h l)
-
-  pub closed-up-length : (m : ℕ) → i ≤ m → m < length xs → length (closedUp i m xs) ≡ length xs
-  unfolding closedUp
-  closed-up-length m h l = rw (length-append (front m) (drop m xs), length-drop m xs, front-length m h l) (omega arith)
 
 -- ---- testing
 -- the limit of the next byte, if c more bytes are held

@@ -8,15 +8,12 @@ use native.Mathlib.Numerals.{add-one, sub-one}
 use native.Mathlib.Omega.{arith}
 use lib.Dec.{leb}
 use borrow.Author.Tests.{leb-true, leb-false, lt-ltb, le-ltb}
-use lib.ListN.{length, take, drop, getD, set, length-take}
-use lib.Seq.{take-all, take-take, length-take-le, take-suc-set, getD-take}
+use lib.ListN.{length, take, getD, set, length-take}
+use lib.Seq.{take-all, length-take-le, take-suc-set, getD-take}
 use Rattle.voice.specs.Keys.{Pair, pairs, heldOf, padded, keysOf, pushed, lastOf, fallBackTo, released, fellBackTo}
-use Rattle.voice.specs.Inner.{closedUp}
 use Rattle.voice.specs.declared.keys.ActiveNote.{ActiveNote}
 use Rattle.voice.specs.declared.keys.Keys.{Keys}
-use Rattle.voice.proofs.Arrays.{closed-up-front}
-use Rattle.voice.proofs.Pairs.{unused, pairs-length, pairs-most, pairs-notes, pairs-velocities, pairs-append, pairs-take, pairs-drop, pairs-at}
-use Rattle.voice.proofs.Removal.{omit}
+use Rattle.voice.proofs.Pairs.{unused, pairs-length, pairs-most, pairs-notes, pairs-velocities, pairs-append, pairs-at}
 
 -- two arrays of 16 places
 module _ (ns vs : List ℕ) (hn : length ns ≡ 16) (hv : length vs ≡ 16) where
@@ -63,14 +60,6 @@ module _ (ns vs : List ℕ) (hn : length ns ≡ 16) (hv : length vs ≡ 16) wher
 
   pub pushed-stays : (c n v : ℕ) → 16 ≤ length (first c) → first (length (first c)) ≡ pushed (first c) (record { note = n; velocity = v })
   pushed-stays c n v h = rw (first-cut c, le-ltb (length (first c)) 16 h) refl
-
-  -- both arrays closed up at i: the pair at i is left out
-  pub first-closed : (i m : ℕ) → i ≤ m → m < 16 → pairs (take m (closedUp i m ns)) (take m (closedUp i m vs)) ≡ omit i (first (suc m))
-  first-closed i m h l =
-      let ns' = take (suc m) ns in
-      let vs' = take (suc m) vs in
-      rw (closed-up-front ns i m h (omega arith), closed-up-front vs i m h (omega arith), pairs-append (take i ns) (take i vs) (drop (suc i) ns') (drop (suc i) vs') (same-length i))
-      (rw (pairs-take i ns' vs', take-take i (suc m) ns (omega arith), take-take i (suc m) vs (omega arith), pairs-drop (suc i) ns' vs') refl)
 
 -- ---- the last held pair
 last-is : (p : Pair) (ps : List Pair) → lastOf p ps ≡ getD (p ∷ ps) (length ps) unused

@@ -3,11 +3,11 @@
 pub mod Arrays
 -- two lists side by side
 pub mod Pairs
--- the loop that drops every pair of a note, on the list of pairs
+-- dropping every pair of a note, on the list of pairs
 pub mod Removal
 -- two arrays of 16 as the list of the held keys
 pub mod Held
--- the loop over both arrays
+-- the walk over both arrays
 pub mod Walk
 -- the limits of the keys, and their held list
 pub mod Limits

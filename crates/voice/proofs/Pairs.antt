@@ -1,9 +1,9 @@
--- Two lists side by side: cut, joined and separated again. Assumes nothing.
-use mathlib.Core.Path.{_≡_, refl, ap, sym}
+-- Two lists side by side: joined and separated again. Assumes nothing.
+use mathlib.Core.Path.{_≡_, refl, ap}
 use mathlib.Core.List.{List, [], _∷_, _++_, map}
 use Prim.Native.Nat.{ℕ, zero, suc, _≤_, _<_}
 use native.Mathlib.Omega.{arith}
-use lib.ListN.{length, take, drop, getD}
+use lib.ListN.{length, getD}
 use Rattle.voice.specs.Keys.{Pair, noteOf, velocityIn, pairs}
 
 -- ---- lists of one length
@@ -40,26 +40,7 @@ pairs-most [] vs = omega arith
 pairs-most (n ∷ ns) [] = omega arith
 pairs-most (n ∷ ns) (v ∷ vs) = omega (arith, pairs-most ns vs)
 
--- ---- the first i pairs, the pairs after them, and the pair at i
-pub pairs-take : (i : ℕ) (ns vs : List ℕ) → take i (pairs ns vs) ≡ pairs (take i ns) (take i vs)
-unfolding pairs
-pairs-take zero ns vs = refl
-pairs-take (suc i) [] vs = refl
-pairs-take (suc i) (n ∷ ns) [] = refl
-pairs-take (suc i) (n ∷ ns) (v ∷ vs) = ap (λ (l : List Pair). record { note = n; velocity = v } ∷ l) (pairs-take i ns vs)
-
-nothing : (ns : List ℕ) → pairs ns [] ≡ []
-unfolding pairs
-nothing [] = refl
-nothing (n ∷ ns) = refl
-
-pub pairs-drop : (i : ℕ) (ns vs : List ℕ) → drop i (pairs ns vs) ≡ pairs (drop i ns) (drop i vs)
-unfolding pairs
-pairs-drop zero ns vs = refl
-pairs-drop (suc i) [] vs = refl
-pairs-drop (suc i) (n ∷ ns) [] = sym (nothing (drop i ns))
-pairs-drop (suc i) (n ∷ ns) (v ∷ vs) = pairs-drop i ns vs
-
+-- ---- the pair at i
 abbrev pub unused : Pair
 unused = record { note = 0; velocity = 0 }
 

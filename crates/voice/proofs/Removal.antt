@@ -1,39 +1,34 @@
--- The loop that drops every pair of a note n, on the list of pairs: before each turn the first i are known to stay, and
--- the others are not yet tested. Assumes nothing.
-use mathlib.Core.Path.{_≡_, refl}
-use mathlib.Core.List.{List, _++_, append-nil}
-use Prim.Native.Nat.{ℕ, suc, _≤_, _<_}
-use native.Mathlib.Omega.{arith}
-use lib.ListN.{length, take, drop, getD}
-use lib.Seq.{take-suc, drop-cons, append-snoc, take-at, drop-at, length-take-le, take-all}
-use lib.ListN.{drop-of-length-le}
+-- Dropping every pair of a note n, on the list of pairs: what is kept of the first i pairs, and of one more. Assumes
+-- nothing.
+use mathlib.Core.Path.{_≡_, refl, ap}
+use mathlib.Core.Bool.{Bool, true, false, cond}
+use mathlib.Core.List.{List, [], _∷_, _++_, append-nil}
+use Prim.Native.Nat.{ℕ, suc, _<_}
+use lib.Dec.{eqb}
+use lib.ListN.{length, take, getD}
+use lib.Seq.{take-suc}
 use borrow.Author.Tests.{eq-eqb, ne-eqb}
 use Rattle.voice.specs.Keys.{Pair, others}
 use Rattle.voice.proofs.Pairs.{unused}
 
--- what the loop leaves of ps, if the first i stay
-abbrev pub walked : ℕ → ℕ → List Pair → List Pair
-walked n i ps = take i ps ++ others n (drop i ps)
-
--- ps without the pair at i
-abbrev pub omit : ℕ → List Pair → List Pair
-omit i ps = take i ps ++ drop (suc i) ps
+-- what is kept of two lists, one after the other
+pub others-append : (n : ℕ) (ps qs : List Pair) → others n (ps ++ qs) ≡ others n ps ++ others n qs
+unfolding others
+others-append n [] qs = refl
+others-append n (p ∷ ps) qs = go (eqb (p .note) n) (others-append n ps qs)
+  where
+    go : (t : Bool) → others n (ps ++ qs) ≡ others n ps ++ others n qs → cond t (others n (ps ++ qs)) (p ∷ others n (ps ++ qs)) ≡ cond t (others n ps) (p ∷ others n ps) ++ others n qs
+    go true e = e
+    go false e = ap (λ (l : List Pair). p ∷ l) e
 
 module _ (n i : ℕ) (ps : List Pair) (h : i < length ps) where
-  -- a pair of n is dropped, and its place is tested again
-  pub walked-drops : getD ps i unused .note ≡ n → walked n i (omit i ps) ≡ walked n i ps
+  -- one more, which is a pair of n
+  pub others-drops : getD ps i unused .note ≡ n → others n (take (suc i) ps) ≡ others n (take i ps)
   unfolding others
-  walked-drops e =
-      let k : length (take i ps) ≡ i = length-take-le i ps (omega arith) in
-      rw (take-at (take i ps) (drop (suc i) ps) i k, drop-at (take i ps) (drop (suc i) ps) i k, drop-cons ps i unused h, eq-eqb (getD ps i unused .note) n e) refl
+  others-drops e =
+      rw (take-suc ps i unused h, others-append n (take i ps) (getD ps i unused ∷ []), eq-eqb (getD ps i unused .note) n e) (append-nil (others n (take i ps)))
 
-  -- a pair of another note stays
-  pub walked-keeps : (getD ps i unused .note ≡ n → ⊥) → walked n (suc i) ps ≡ walked n i ps
+  -- one more, which is a pair of another note
+  pub others-keeps : (getD ps i unused .note ≡ n → ⊥) → others n (take (suc i) ps) ≡ others n (take i ps) ++ (getD ps i unused ∷ [])
   unfolding others
-  walked-keeps e =
-      rw (take-suc ps i unused h, drop-cons ps i unused h, ne-eqb (getD ps i unused .note) n e) (append-snoc (take i ps) (getD ps i unused) (others n (drop (suc i) ps)))
-
--- at the end all pairs stay
-pub walked-ends : (n i : ℕ) (ps : List Pair) → length ps ≤ i → walked n i ps ≡ ps
-unfolding others
-walked-ends n i ps h = rw (take-all i ps h, drop-of-length-le ps {i = i} h) (append-nil ps)
+  others-keeps e = rw (take-suc ps i unused h, others-append n (take i ps) (getD ps i unused ∷ []), ne-eqb (getD ps i unused .note) n e) refl

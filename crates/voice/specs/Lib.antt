@@ -1,4 +1,3 @@
 pub mod Keys
 pub mod Voice
 pub mod Lifting
-pub mod Inner

@@ -2,10 +2,9 @@
 // a stack of pairs; here they are a struct of their own, because a voice in f32 and a voice in f64 both have one.
 // Every function takes any value of `Keys`, also one outside the limits.
 ghost use mathlib.Core.Path.{_≡_};
-ghost use Prim.Native.Nat.{_≤_, _<_};
+ghost use Prim.Native.Nat.{_≤_};
 ghost use lib.ListN.{length, take};
 ghost use Rattle.voice.specs.Keys.{pairs, heldOf, padded, keysOf, freshKeys, pressedOf, withoutOf, isSounding, fallBackOf, liftedOf, isGateRight, isFilled, isKeys};
-ghost use Rattle.voice.specs.Inner.{closedUp};
 
 // The note that sounds, if one does.
 pub enum ActiveNote {
@@ -99,7 +98,8 @@ pub fn held_count(keys: Keys) -> usize
     count
 }
 
-// Every held pair of a note is dropped, the others keep their order. As in voice.rs, a closed-up place is tested again.
+// Every held pair of a note is dropped, and the others keep their order: one walk over the held pairs, in which a pair
+// that is kept moves down to the place after those kept before it.
 fn without(keys: Keys, note: u8) -> Keys
     ensures { λ r. ⌜ r ≡ withoutOf keys note ⌝ }
 {
@@ -107,30 +107,18 @@ fn without(keys: Keys, note: u8) -> Keys
     let gate = keys.gate;
     let mut notes = keys.notes;
     let mut velocities = keys.velocities;
-    let mut count = held_count(keys);
+    let count = held_count(keys);
+    let mut kept = 0;
     let mut i = 0;
     while i < count {
-        if notes[i] == note {
-            count -= 1;
-            close_up(&mut notes, i, count);
-            close_up(&mut velocities, i, count);
-        } else {
-            i += 1;
+        if notes[i] != note {
+            notes[kept] = notes[i];
+            velocities[kept] = velocities[i];
+            kept += 1;
         }
+        i += 1;
     }
-    keys_of(active, gate, notes, velocities, count)
-}
-
-// The byte at `at` is dropped, those after it up to `last` move one place down, and the byte at `last` does not change.
-fn close_up(bytes: &mut [u8; 16], at: usize, last: usize)
-    requires { ⌜ (at ≤ last) × (last < 16) × (length (now bytes) ≡ 16) ⌝ }
-    ensures { λ _. ⌜ now (bytes .exit) ≡ closedUp at last (now (bytes .entry)) ⌝ }
-{
-    let mut j = at;
-    while j < last {
-        bytes[j] = bytes[j + 1];
-        j += 1;
-    }
+    keys_of(active, gate, notes, velocities, kept)
 }
 
 // The keys with the first `count` pairs held; the other places are set to 0.

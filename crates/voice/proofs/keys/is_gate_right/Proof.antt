@@ -1,4 +1,4 @@
--- `voice::keys::is_sound` meets its contract. Assumes nothing.
+-- `voice::keys::is_gate_right` meets its contract. Assumes nothing.
 use borrow.Author.Needs.{needs}
 use mathlib.Core.Path.{refl}
 use Rattle.voice.proofs.keys.is_gate_right.Statement.{statement}

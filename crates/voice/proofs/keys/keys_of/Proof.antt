@@ -1,4 +1,4 @@
--- `voice::keys::holding` meets its contract: both arrays are cleared after the held pairs. Assumes nothing.
+-- `voice::keys::keys_of` meets its contract: both arrays are cleared after the held pairs. Assumes nothing.
 use borrow.Author.Needs.{needs}
 use mathlib.Core.Path.{_≡_}
 use native.Mathlib.Omega.{arith}

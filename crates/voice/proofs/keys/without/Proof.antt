@@ -1,7 +1,8 @@
--- `voice::keys::without` meets its contract: the loop leaves in the arrays what the definition leaves of the list of
--- pairs. Assumes nothing.
+-- `voice::keys::without` meets its contract: the walk leaves in front what the definition leaves of the list of pairs.
+-- Assumes nothing.
 use borrow.Author.Needs.{needs}
-use mathlib.Core.Path.{_≡_, refl, sym}
+use mathlib.Core.Path.{_≡_, refl}
+use mathlib.Core.Logic.{⊎-elim}
 use Prim.Native.Nat.{_-_}
 use native.Mathlib.Omega.{arith}
 use lib.ListN.{length}
@@ -12,10 +13,10 @@ use Rattle.voice.proofs.keys.without.Statement.{statement}
 use Rattle.voice.proofs.keys.without.Tie as tie
 
 abbrev Inv-loop : tie.InvT-loop
-Inv-loop note active gate notes₀ velocities₀ count₀ i₀ notes velocities count i = Walks note notes₀ velocities₀ count₀ notes velocities count i
+Inv-loop note active gate notes₀ velocities₀ count kept₀ i₀ notes velocities kept i = Walks note notes₀ velocities₀ count notes velocities kept i
 
 abbrev μ-loop : tie.MeasureT-loop
-μ-loop note active gate notes₀ velocities₀ count₀ i₀ notes velocities count i = count - i
+μ-loop note active gate notes₀ velocities₀ count kept₀ i₀ notes velocities kept i = count - i
 
 held-count-requires : tie.Need-held-count-requires Inv-loop μ-loop
 held-count-requires c κs = search needs
@@ -30,43 +31,43 @@ loop-holds c =
 array-read-if1 : tie.Need-array-read-if1 Inv-loop μ-loop
 array-read-if1 c = search needs
 
-sub-count : tie.Need-sub-count Inv-loop μ-loop
-sub-count c = search needs
+array-read-notes : tie.Need-array-read-notes Inv-loop μ-loop
+array-read-notes c = search needs
 
-close-up-requires : tie.Need-close-up-requires Inv-loop μ-loop
-close-up-requires c κs =
-    let w = c .before .before .before .loop .inv in
-    (omega arith, omega arith, w .notes-long)
+array-write-notes : tie.Need-array-write-notes Inv-loop μ-loop
+array-write-notes c = search needs
 
-close-up-requires-2 : tie.Need-close-up-requires-2 Inv-loop μ-loop
-close-up-requires-2 c κs =
-    let w = c .before .before .before .before .before .loop .inv in
-    (omega arith, omega arith, w .velocities-long)
+array-read-velocities : tie.Need-array-read-velocities Inv-loop μ-loop
+array-read-velocities c = search needs
+
+array-write-velocities : tie.Need-array-write-velocities Inv-loop μ-loop
+array-write-velocities c = search needs
+
+add-kept : tie.Need-add-kept Inv-loop μ-loop
+add-kept c = search needs
+
+add-i : tie.Need-add-i Inv-loop μ-loop
+add-i c = search needs
 
 loop-less : tie.Need-loop-less Inv-loop μ-loop
 loop-less c = search needs
 
 loop-again : tie.Need-loop-again Inv-loop μ-loop
 loop-again c =
-    let l = c .before .before .before .before .before .before .loop in
-    let k = c .before .before .before .before .before .before .before .before .before .before .args in
-    rw (c .before .before .close-up .ensures, c .close-up2 .ensures)
-    (walk-drops (k .note) (k .keys .notes) (k .keys .velocities) (c .before .before .before .before .before .before .before .held-count .result) (l .notes) (l .velocities) (l .count) (l .i) (l .inv) (omega arith) (c .before .before .before .before .if1 .taken))
-
-add-i : tie.Need-add-i Inv-loop μ-loop
-add-i c = search needs
-
-loop-less-2 : tie.Need-loop-less-2 Inv-loop μ-loop
-loop-less-2 c = search needs
-
-loop-again-2 : tie.Need-loop-again-2 Inv-loop μ-loop
-loop-again-2 c =
     let l = c .before .before .loop in
     let k = c .before .before .before .before .before .before .args in
-    walk-keeps (k .note) (k .keys .notes) (k .keys .velocities) (c .before .before .before .held-count .result) (l .notes) (l .velocities) (l .count) (l .i) (l .inv) (omega arith) (c .if1 .left)
+    let n : length (k .keys .notes) ≡ 16 = search needs in
+    let v : length (k .keys .velocities) ≡ 16 = search needs in
+    let count = c .before .before .before .held-count .result in
+    ⊎-elim
+    (λ t. rw (t .1, t .2, t .3) (walk-keeps (k .note) (k .keys .notes) (k .keys .velocities) n v count (l .notes) (l .velocities) (l .kept) (l .i) (l .inv) (omega arith) (t .0 .taken)))
+    (λ t. rw (t .1, t .2, t .3) (walk-drops (k .note) (k .keys .notes) (k .keys .velocities) n v count (l .notes) (l .velocities) (l .kept) (l .i) (l .inv) (omega arith) (t .0 .left)))
+    (c .if1 .came)
 
 keys-of-requires : tie.Need-keys-of-requires Inv-loop μ-loop
-keys-of-requires c κs = c .before .loop .inv .few
+keys-of-requires c κs =
+    let w = c .before .loop .inv in
+    omega (arith, w .behind, w .inside, w .few)
 
 returns : tie.Need-returns Inv-loop μ-loop
 unfolding withoutOf
@@ -75,8 +76,8 @@ returns c =
     let k = c .before .before .before .before .before .before .args in
     let n : length (k .keys .notes) ≡ 16 = search needs in
     let v : length (k .keys .velocities) ≡ 16 = search needs in
-    let ends = walk-ends (k .note) (k .keys .notes) (k .keys .velocities) (c .before .before .before .held-count .result) (l .notes) (l .velocities) (l .count) (l .i) (l .inv) (omega arith) in
-    rw (c .keys-of .ensures, sym ends, c .before .before .before .held-count .ensures, first-cut (k .keys .notes) (k .keys .velocities) n v (k .keys .count)) refl
+    let ends = walk-ends (k .note) (k .keys .notes) (k .keys .velocities) n v (c .before .before .before .held-count .result) (l .notes) (l .velocities) (l .kept) (l .i) (l .inv) (omega arith) in
+    rw (c .keys-of .ensures, ends, c .before .before .before .held-count .ensures, first-cut (k .keys .notes) (k .keys .velocities) n v (k .keys .count)) refl
 
 pub without-spec : {M : Type 1} → statement M
 without-spec =
@@ -87,13 +88,13 @@ without-spec =
     held-count-requires
     loop-holds
     array-read-if1
-    sub-count
-    close-up-requires
-    close-up-requires-2
+    array-read-notes
+    array-write-notes
+    array-read-velocities
+    array-write-velocities
+    add-kept
+    add-i
     loop-less
     loop-again
-    add-i
-    loop-less-2
-    loop-again-2
     keys-of-requires
     returns)
