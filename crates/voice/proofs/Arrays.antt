@@ -1,5 +1,5 @@
--- The loops over one array: clearing it from the end, and testing it. A law for each turn, and one each for what is true
--- before the first and after the last. Assumes nothing.
+-- The loops over one array: clearing it from the end, and testing it. A law for each turn, and one each for what is
+-- true before the first and after the last. Assumes nothing.
 use mathlib.Core.Path.{_≡_, refl, sym}
 use mathlib.Core.Bool.{Bool, true, false, _&&_}
 use mathlib.Core.List.{List, _∷_, append-nil}

@@ -1,12 +1,12 @@
 -- `voice::keys::without` meets its contract: the walk leaves in front what the definition leaves of the list of pairs.
 -- Assumes nothing.
 use borrow.Author.Needs.{needs}
-use mathlib.Core.Path.{_≡_, refl}
+use mathlib.Core.Path.{_≡_, ap, _∙_}
 use mathlib.Core.Logic.{⊎-elim}
 use Prim.Native.Nat.{_-_}
 use native.Mathlib.Omega.{arith}
-use lib.ListN.{length}
-use Rattle.voice.specs.Keys.{withoutOf}
+use lib.ListN.{length, take}
+use Rattle.voice.specs.Keys.{pairs, heldOf, keysOf, others, withoutOf}
 use Rattle.voice.proofs.Held.{first-few, first-cut}
 use Rattle.voice.proofs.Walk.{Walks, walk-starts, walk-drops, walk-keeps, walk-ends}
 use Rattle.voice.proofs.keys.without.Statement.{statement}
@@ -76,8 +76,11 @@ returns c =
     let k = c .before .before .before .before .before .before .args in
     let n : length (k .keys .notes) ≡ 16 = search needs in
     let v : length (k .keys .velocities) ≡ 16 = search needs in
-    let ends = walk-ends (k .note) (k .keys .notes) (k .keys .velocities) n v (c .before .before .before .held-count .result) (l .notes) (l .velocities) (l .kept) (l .i) (l .inv) (omega arith) in
-    rw (c .keys-of .ensures, ends, c .before .before .before .held-count .ensures, first-cut (k .keys .notes) (k .keys .velocities) n v (k .keys .count)) refl
+    let count = c .before .before .before .held-count .result in
+    let all : pairs (take count (k .keys .notes)) (take count (k .keys .velocities)) ≡ heldOf (k .keys) =
+    rw (c .before .before .before .held-count .ensures) (first-cut (k .keys .notes) (k .keys .velocities) n v (k .keys .count)) in
+    let left = walk-ends (k .note) (k .keys .notes) (k .keys .velocities) n v count (l .notes) (l .velocities) (l .kept) (l .i) (l .inv) (omega arith) ∙ ap (others (k .note)) all in
+    rw (c .keys-of .ensures) (ap (keysOf (k .keys .active) (k .keys .gate)) left)
 
 pub without-spec : {M : Type 1} → statement M
 without-spec =
