@@ -342,13 +342,13 @@ fn edges_of_runs() -> Vec<Vec<u64>> {
     rows
 }
 
-/// Five keys held, of which any may be the lifted one: at the first, a middle or the last place, in a row, all or none.
-/// It sounds, or another does.
+/// Five held keys, of which any set is of the lifted note, 60: at the first, a middle or the last place, in a row, all or
+/// none. Note 60 sounds, or 65, which the last key has unless it is of the set.
 fn edges_of_lifts() -> Vec<Vec<u64>> {
     let mut rows = Vec::new();
     for lifted in 0..32u8 {
         let held = [0, 1, 2, 3, 4].map(|i| if lifted >> i & 1 == 1 { (60, 20 + i) } else { (61 + i, 20 + i) });
-        rows.extend([60, 70].map(|active| given(NOTE_OFF, sounding(&held, Some(active)), 60, 0)));
+        rows.extend([60, 65].map(|active| given(NOTE_OFF, sounding(&held, Some(active)), 60, 0)));
     }
     rows
 }

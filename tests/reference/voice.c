@@ -181,7 +181,7 @@ static void note_on(struct voice *v, uint8_t note, uint8_t velocity) {
     sound(v, note, velocity);
 }
 
-/* "`note_off` drops every held entry of that note": 02's one walk, which this voice has had from the start. */
+/* "`note_off` drops every held entry of that note": in one walk, as 02's R-5 asks; it was so here from the start. */
 static void drop(struct voice *v, uint8_t note) {
     unsigned kept = 0;
     for (unsigned i = 0; i < v->held; i++) {

@@ -71,7 +71,7 @@ pub fall-none : (k : Keys) (ps : List Pair) → length ps ≡ 0 → fallBackTo k
 fall-none k [] h = refl
 fall-none k (p ∷ ps) h = absurd (omega arith)
 
-pub fall-last : (k : Keys) (ps : List Pair) → (length ps ≡ 0 → ⊥) → fallBackTo k ps ≡ fellBackTo k (getD ps (length ps - 1) unused)
+fall-last : (k : Keys) (ps : List Pair) → (length ps ≡ 0 → ⊥) → fallBackTo k ps ≡ fellBackTo k (getD ps (length ps - 1) unused)
 fall-last k [] h = absurd (h refl)
 fall-last k (p ∷ ps) h = rw (sub-one (suc (length ps)), last-is p ps) refl
 

@@ -6,7 +6,7 @@ use native.Mathlib.Omega.{arith}
 use lib.ListN.{length, getD}
 use Rattle.voice.specs.Keys.{Pair, noteOf, velocityIn, pairs}
 
--- ---- lists of one length
+-- ---- two lists of the same length
 pub pairs-length : (ns vs : List ℕ) → length ns ≡ length vs → length (pairs ns vs) ≡ length ns
 unfolding pairs
 pairs-length [] vs h = refl

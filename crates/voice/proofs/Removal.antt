@@ -12,7 +12,7 @@ use Rattle.voice.specs.Keys.{Pair, others}
 use Rattle.voice.proofs.Pairs.{unused}
 
 -- what is kept of two lists, one after the other
-pub others-append : (n : ℕ) (ps qs : List Pair) → others n (ps ++ qs) ≡ others n ps ++ others n qs
+others-append : (n : ℕ) (ps qs : List Pair) → others n (ps ++ qs) ≡ others n ps ++ others n qs
 unfolding others
 others-append n [] qs = refl
 others-append n (p ∷ ps) qs = go (eqb (p .note) n) (others-append n ps qs)

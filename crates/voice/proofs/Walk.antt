@@ -1,5 +1,6 @@
 -- The walk of `without` over both arrays: of the pairs that it has visited, those that are kept come first, and the
--- pairs that it has not visited are where they were. One law for each turn. Assumes nothing.
+-- pairs that it has not visited are where they were. A law for each of the two turns, one for the start and one for the
+-- end. Assumes nothing.
 use mathlib.Core.Path.{_≡_, refl, ap, sym, _∙_}
 use mathlib.Core.List.{List}
 use Prim.Native.Nat.{ℕ, _+_, _≤_, _<_}
@@ -12,7 +13,8 @@ use Rattle.voice.proofs.Pairs.{unused, pairs-at}
 use Rattle.voice.proofs.Removal.{others-drops, others-keeps}
 use Rattle.voice.proofs.Held.{first-length, first-pushed}
 
--- c pairs of the arrays ns₀ and vs₀ were held; those kept of the first i are now the first k pairs of ns and vs
+-- c pairs of the arrays ns₀ and vs₀ were held; those kept of the first i are now the first k pairs of ns and vs, and
+-- from i on both arrays are as they were
 pub record Walks (n : ℕ) (ns₀ vs₀ : List ℕ) (c : ℕ) (ns vs : List ℕ) (k i : ℕ) : Type 0 where
   pub behind : k ≤ i
   pub inside : i ≤ c
