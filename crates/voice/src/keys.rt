@@ -98,8 +98,8 @@ pub fn held_count(keys: Keys) -> usize
     count
 }
 
-// Every held pair of a note is dropped, and the others keep their order. One walk: a pair that is kept moves down to the
-// place after those kept before it, which is never past its own, so no pair is overwritten before its visit.
+// Every held pair of a note is dropped, and the others keep their order. One walk: a pair that is kept moves down to
+// the place after those kept before it, which is never past its own, so no pair is overwritten before its visit.
 fn without(keys: Keys, note: u8) -> Keys
     ensures { λ r. ⌜ r ≡ withoutOf keys note ⌝ }
 {
