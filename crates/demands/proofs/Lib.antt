@@ -25,3 +25,5 @@ pub mod Example
 pub mod Tremolo
 -- no phase is ever negative where it is reduced: 01's branch for a negative remainder is never taken
 pub mod NeverNegative
+-- a note-on with velocity 0 is a note-off, and how a release is written is not heard
+pub mod VelocityNought

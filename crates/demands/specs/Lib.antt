@@ -4,3 +4,4 @@ pub mod Demand3
 pub mod Edits
 pub mod Tremolo
 pub mod NeverNegative
+pub mod VelocityNought

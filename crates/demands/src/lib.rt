@@ -2,6 +2,7 @@
 // claims. Each refusal is given exactly when its row of 01's table holds first, and leaves all as it came (demand 1); a
 // shelf that a render left is never refused; parts continued one after the other are one render (01, "Making sample
 // n"); a re-render is a render of the new score from the start of its section on (demand 3); any number of edits lose
-// nothing; the tremolo's LFO is the ported block, and depth 0 is no tremolo (02, R-7). No function. The theorems have a
-// crate of their own so that trying a wrong program of a call does not prove them again. `ffi_demands` has the theorems
-// of the calls that C makes.
+// nothing; the tremolo's LFO is the ported block, and depth 0 is no tremolo (02, R-7); no phase is negative where it is
+// reduced (02, R-13); how a release is written is not heard (02, R-4). No function. The theorems have a crate of their
+// own so that trying a wrong program of a call does not prove them again. `ffi_demands` has the theorems of the calls
+// that C makes.

@@ -3,8 +3,10 @@
 pub mod RunsOn
 -- entries: j and then k are j + k
 pub mod Entries
--- what is made depends only on the records between
+-- what is made depends only on the positions and events between
 pub mod Depends
+-- how a key's release is written is not heard, and no record strikes with velocity 0
+pub mod ButReleases
 -- two runs side by side over one score
 pub mod Beside
 -- no sample depends on the number of records acted

@@ -209,7 +209,11 @@ EventIn (event.Lift n) = n ≤ 127
 EventIn event.Reset = Unit
 
 event-in : (k : Kind) (n v : ℕ) → n ≤ 127 → v ≤ 127 → EventIn (eventFor k n v)
-event-in On n v hn hv = (hn, hv)
+event-in On n v hn hv = go (eqb v 0)
+  where
+    go : (t : Bool) → EventIn (cond t (event.Lift n) (event.Strike n v))
+    go true = hn
+    go false = (hn, hv)
 event-in Off n v hn hv = hn
 event-in Reset n v hn hv = tt
 

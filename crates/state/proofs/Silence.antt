@@ -1,8 +1,8 @@
 -- Samples of a state whose fields are within their limits, and whose phases are not negative, are finite; with velocity
--- 0 they are +0 or -0; and with depth 0 they are the samples without tremolo. 01, "The score": "A note-on with velocity
--- 0 plays silent, as in the Rust." 02, R-7: "With depth 0 the samples equal the old ones as numbers"; here to the bit.
--- A key struck with velocity 0 gives such a state. The floats of state and settings are taken to be values of an f64,
--- as every f64 of a program is. Assumes nothing.
+-- 0 they are +0 or -0; and with depth 0 they are the samples without tremolo. 02, R-7: "With depth 0 the samples equal
+-- the old ones as numbers"; here to the bit. A key struck with velocity 0 gives a state with velocity 0, as in the Rust;
+-- no record strikes so (02, R-4). The floats of state and settings are taken to be values of an f64, as every f64 of a
+-- program is. Assumes nothing.
 use mathlib.Core.Path.{_≡_, refl}
 use mathlib.Core.Logic.{inl}
 use mathlib.Core.Bool.{true, _&&_}
@@ -88,7 +88,7 @@ module _ (g : Settings) (ok : settingsOk g ≡ true) (w : T (fits binary64 (g .a
   unfolding sampleOf dryOf
   sample-is-dry d = flat-sample (dryOf g v) factor (mul-fits binary64 _ _) (flat-factor (g .lfo .depth) d swing (size-finite ceiling swing swing-size))
 
--- a key struck with velocity 0
+-- the event of a key struck with velocity 0
 pub struck-with-none : (g : Settings) (v : State) (note : ℕ) → struckOf g v note 0 .velocity ≡ zero64
 unfolding velocityOf
 struck-with-none g v note = unfold ofBits in unfold ofInt in unfold round in unfold div in refl

@@ -5,11 +5,12 @@
 -- 02, R-7: "The sample is multiplied last by (1 - depth/2 + lfo/2), where lfo is the ported block's scaled value. Its
 -- phase is reduced at the same moments as the oscillator's, set to 0 by a reset record". An on and an off do not change
 -- the LFO's phase.
+-- 02, R-4: a note-on with velocity 0 "acts as a note-off of that note".
 -- 02, R-13, takes the branch for a negative remainder out of the voice's reduction; the block calls keep it.
 -- A reset does not set the number of records acted to 0: it is counted as one more. Definitions only.
 use mathlib.Core.Bool.{Bool, true, cond}
 use Prim.Native.Nat.{ℕ, _+_}
-use lib.Dec.{ltb}
+use lib.Dec.{ltb, eqb}
 use lib.Ieee.{Float, binary64, ofBits}
 use Rattle.floats.specs.Double.{_⊕_, _⊗_, zero64}
 use Rattle.pitch.specs.Pitch.{frequencyOf}
@@ -70,10 +71,11 @@ abbrev pub reducedOf : State → State
 reducedOf v = withPhases v (remainderOf (v .phase .0)) (remainderOf (v .lfo .0))
 
 -- ---- act
--- what a record does: an on strikes a key (note, velocity), an off lifts a key (note), a reset resets. A lift releases
--- the envelope only if the voice's note_off returns true. No setting changes that today
+-- what a record does: an on strikes a key (note, velocity), or lifts it where its velocity is 0 (02, R-4); an off lifts
+-- a key (note); a reset resets. A lift releases the envelope only if the voice's note_off returns true. No setting
+-- changes that today
 abbrev pub eventFor : Kind → ℕ → ℕ → Event
-eventFor On note velocity = event.Strike note velocity
+eventFor On note velocity = cond (eqb velocity 0) (event.Lift note) (event.Strike note velocity)
 eventFor Off note velocity = event.Lift note
 eventFor Reset note velocity = event.Reset
 

@@ -85,13 +85,20 @@ pub fn reduce(state: State) -> State
     next
 }
 
-// An on strikes the key of its note, an off lifts that key, a reset resets. No setting changes that today.
+// An on strikes the key of its note, an off lifts that key, and so does an on with velocity 0 (02, R-4); a reset
+// resets. No setting changes that today.
 pub fn event_of(settings: Settings, given: Record) -> Event
     ensures { λ r. ⌜ r ≡ eventOf settings given ⌝ }
 {
     let kind = given.kind;
     match kind {
-        Kind::On => Event::Strike(given.note, given.velocity),
+        Kind::On => {
+            if given.velocity == 0 {
+                Event::Lift(given.note)
+            } else {
+                Event::Strike(given.note, given.velocity)
+            }
+        }
         Kind::Off => Event::Lift(given.note),
         Kind::Reset => Event::Reset,
     }

@@ -1,0 +1,91 @@
+-- The claim of specs/VelocityNought.antt: `state`'s laws of scores that are the same but for how releases are written,
+-- and that such scores, where both are accepted, meet the same refusals. Assumes nothing.
+use mathlib.Core.Path.{_≡_, refl, sym, ap, _∙_}
+use mathlib.Core.Bool.{true}
+use mathlib.Core.List.{List, [], _∷_}
+use Prim.Native.Nat.{ℕ, _≤_, _<_}
+use lib.Dec.{T}
+use lib.ListN.{length}
+use lib.Ieee.{Float, binary64, fits}
+use Rattle.sections.specs.Outcome.{Outcome}
+use Rattle.score.specs.declared.Record.{Record}
+use Rattle.score.specs.declared.Kind.the-variants.{Off}
+use Rattle.score.specs.Record.{countOf, recordAt}
+use Rattle.score.proofs.Verdicts.{accepted-faults}
+use Rattle.shelf.specs.Shelf.{entriesFor}
+use Rattle.state.specs.declared.Settings.{Settings}
+use Rattle.state.specs.declared.State.{State}
+use Rattle.state.specs.declared.Event.the-variants as event
+use Rattle.state.specs.Settings.{settingsOk}
+use Rattle.state.specs.State.{freshOf, eventOf, actOf}
+use Rattle.state.specs.ButReleases.{IsNought, SameButReleases}
+use Rattle.state.proofs.Limits.{EventIn, accepted-events}
+use Rattle.state.proofs.ButReleases.{off-lifts, nought-lifts, other-strikes, strike-is-heard, state-releases, samples-releases, entries-releases, below-releases}
+use Rattle.judging.specs.Judging.{refusalsOf}
+use Rattle.render.specs.declared.Rendered.{Rendered}
+use Rattle.render.specs.Calls.{renderOf, continueOf}
+use Rattle.rerender.specs.Rerender.{rerenderOf}
+use Rattle.demands.specs.Demand3.{Taken, Buffers, leftIn}
+use Rattle.demands.specs.Edits.{editsFrom, lastScore, EditedWhole}
+use Rattle.demands.specs.VelocityNought.{Unmoved, VelocityNought}
+use Rattle.demands.proofs.Edits.{any-edits}
+
+-- ---- one record
+same-event : (g : Settings) (r p : Record) → IsNought r → p .kind ≡ Off → r .note ≡ p .note → eventOf g r ≡ eventOf g p
+same-event g r p h o n = nought-lifts g r h ∙ ap event.Lift n ∙ sym (off-lifts g p o)
+
+strikes-are-heard : (g : Settings) (s : List ℕ) → Taken s → (i : ℕ) → i < countOf s → (n v : ℕ) → eventOf g (recordAt s i) ≡ event.Strike n v → (1 ≤ v) × (v ≤ 127)
+strikes-are-heard g s a i l n v e =
+    let b : EventIn (event.Strike n v) = rw e at (accepted-events g s (a .records) (a .accepted) i l) in
+    (strike-is-heard g (recordAt s i) n v e, b .1)
+
+-- ---- the calls
+module _ (s t : List ℕ) (h : SameButReleases s t) (a : Taken s) (b : Taken t) (g : Settings) where
+  rendered : (out : List Float) (shelf : List ℕ) → renderOf g s out shelf ≡ renderOf g t out shelf
+  unfolding renderOf refusalsOf
+  rendered out shelf =
+      rw (
+        accepted-faults s (a .records) (a .accepted),
+        accepted-faults t (b .records) (b .accepted),
+        state-releases s t h g 0 (freshOf 0) (length out),
+        samples-releases s t h g 0 (freshOf 0) (length out),
+        entries-releases s t h g 0 (freshOf 0) (entriesFor (length out)),
+      )
+      refl
+
+  continued : (v : State) (p : ℕ) (part : List Float) → continueOf g s v p part ≡ continueOf g t v p part
+  unfolding continueOf refusalsOf
+  continued v p part =
+      rw (
+        accepted-faults s (a .records) (a .accepted),
+        accepted-faults t (b .records) (b .accepted),
+        below-releases s t h p,
+        state-releases s t h g p v (length part),
+        samples-releases s t h g p v (length part),
+      )
+      refl
+
+  -- the re-render leaves what a render of t leaves, and that is what a render of s left
+  re-rendered : settingsOk g ≡ true → T (fits binary64 (g .adsr .sustain)) → (n : ℕ) (l : Buffers n) → Unmoved (leftIn g s l) (rerenderOf g s t (leftIn g s l .heard) (leftIn g s l .stored))
+  unfolding editsFrom lastScore
+  re-rendered ok w n l =
+      let e : EditedWhole g s (t ∷ []) n (editsFrom g s (t ∷ []) (leftIn g s l .heard) (leftIn g s l .stored)) = any-edits .from-a-render g ok w s (t ∷ []) a (b, tt) n l in
+      let same : leftIn g t l ≡ leftIn g s l = sym (rendered (l .out) (l .shelf)) in
+      record {
+        samples = e .samples-are l ∙ ap (λ (o : Outcome Rendered). o .heard) same;
+        entries = e .entries-are l ∙ ap (λ (o : Outcome Rendered). o .stored) same;
+      }
+
+pub velocity-nought : VelocityNought
+velocity-nought =
+    record {
+      same-event = same-event;
+      same-state = λ g v r p h o n. ap (actOf g v) (same-event g r p h o n);
+      others-strike = other-strikes;
+      strikes-are-heard = strikes-are-heard;
+      states = state-releases;
+      samples = samples-releases;
+      rendered = rendered;
+      continued = continued;
+      re-rendered = re-rendered;
+    }

@@ -1,0 +1,53 @@
+-- A note-on with velocity 0 is a note-off, as a claim.
+-- 02, R-4: "Most keyboards send a key's release as a note-on with velocity 0, and MIDI 1.0 says that it is one."; "From
+-- now on such a record acts as a note-off of that note".
+-- So how a release is written is not heard: accepted scores that are the same but for that (`SameButReleases`) are
+-- rendered and continued alike, whatever the call is lent, and refused alike too. They are not equal as scores: a
+-- re-render from one to the other starts at the first record that is written otherwise, and remakes what is there.
+-- The voice's own `note_on` strikes with any velocity, and so does the event `Strike`; no record gives that event with
+-- velocity 0. The arguments are in proofs/ButReleases.antt of the crate `state` and in proofs/VelocityNought.antt.
+-- Definitions only.
+use mathlib.Core.Path.{_≡_}
+use mathlib.Core.Bool.{true}
+use mathlib.Core.List.{List}
+use Prim.Native.Nat.{ℕ, _≤_, _<_}
+use lib.Dec.{T}
+use lib.Ieee.{Float, binary64, fits}
+use Rattle.sections.specs.Outcome.{Outcome}
+use Rattle.answers.specs.declared.Answer.{Answer}
+use Rattle.score.specs.declared.Record.{Record}
+use Rattle.score.specs.declared.Kind.the-variants.{On, Off}
+use Rattle.score.specs.Record.{countOf, recordAt}
+use Rattle.state.specs.declared.Settings.{Settings}
+use Rattle.state.specs.declared.State.{State}
+use Rattle.state.specs.declared.Event.the-variants as event
+use Rattle.state.specs.Settings.{settingsOk}
+use Rattle.state.specs.State.{eventOf, actOf}
+use Rattle.state.specs.Heart.{stateFrom, samplesFrom}
+use Rattle.state.specs.ButReleases.{IsNought, SameButReleases}
+use Rattle.render.specs.Calls.{renderOf, continueOf}
+use Rattle.rerender.specs.Rerender.{rerenderOf}
+use Rattle.demands.specs.Demand3.{Taken, Buffers, leftIn}
+
+-- a re-render that leaves output and shelf as it found them, whatever its answer
+pub record Unmoved {R : Type 0} (before : Outcome R) (after : Outcome Answer) : Type 0 where
+  pub samples : after .heard ≡ before .heard
+  pub entries : after .stored ≡ before .stored
+
+pub record VelocityNought : Type 0 where
+  -- an on with velocity 0 does what an off of that note does, of any velocity, and from every state leaves what it leaves
+  pub same-event : (g : Settings) (r p : Record) → IsNought r → p .kind ≡ Off → r .note ≡ p .note → eventOf g r ≡ eventOf g p
+  pub same-state : (g : Settings) (v : State) (r p : Record) → IsNought r → p .kind ≡ Off → r .note ≡ p .note → actOf g v (eventOf g r) ≡ actOf g v (eventOf g p)
+  -- an on with any other velocity strikes
+  pub others-strike : (g : Settings) (r : Record) → r .kind ≡ On → 1 ≤ r .velocity → eventOf g r ≡ event.Strike (r .note) (r .velocity)
+  -- so every strike of an accepted score has a velocity from 1 to 127
+  pub strikes-are-heard : (g : Settings) (s : List ℕ) → Taken s → (i : ℕ) → i < countOf s → (n v : ℕ) → eventOf g (recordAt s i) ≡ event.Strike n v → (1 ≤ v) × (v ≤ 127)
+  -- from every state, at any position
+  pub states : (s t : List ℕ) → SameButReleases s t → (g : Settings) (n : ℕ) (v : State) (k : ℕ) → stateFrom g s n v k ≡ stateFrom g t n v k
+  pub samples : (s t : List ℕ) → SameButReleases s t → (g : Settings) (n : ℕ) (v : State) (k : ℕ) → samplesFrom g s n v k ≡ samplesFrom g t n v k
+  -- the calls
+  pub rendered : (s t : List ℕ) → SameButReleases s t → Taken s → Taken t → (g : Settings) (out : List Float) (shelf : List ℕ) → renderOf g s out shelf ≡ renderOf g t out shelf
+  pub continued : (s t : List ℕ) → SameButReleases s t → Taken s → Taken t → (g : Settings) (v : State) (p : ℕ) (part : List Float) → continueOf g s v p part ≡ continueOf g t v p part
+  -- over what a render of s left
+  pub re-rendered : (s t : List ℕ) → SameButReleases s t → Taken s → Taken t → (g : Settings) → settingsOk g ≡ true → T (fits binary64 (g .adsr .sustain)) → (n : ℕ) (b : Buffers n)
+      → Unmoved (leftIn g s b) (rerenderOf g s t (leftIn g s b .heard) (leftIn g s b .stored))

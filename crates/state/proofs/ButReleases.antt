@@ -1,0 +1,92 @@
+-- A note-on with velocity 0 is the release of its key, and how a release is written is not heard: scores that are the
+-- same but for that have the same positions and events, so from one state they make the same states, samples and
+-- entries. No record strikes a key with velocity 0. Assumes nothing.
+use mathlib.Core.Path.{_≡_, refl, sym, ap, subst, _∙_}
+use mathlib.Core.Logic.{_⊎_, inl, inr, ⊎-elim}
+use mathlib.Core.Bool.{Bool, true, false, cond}
+use mathlib.Core.List.{List}
+use Prim.Native.Nat.{ℕ, zero, suc, _+_, _*_, _≤_, _<_}
+use native.Mathlib.Omega.{arith}
+use lib.Dec.{eqb}
+use borrow.Author.Tests.{ne-eqb, eqb-false}
+use Rattle.score.specs.declared.Record.{Record}
+use Rattle.score.specs.declared.Kind.{Kind}
+use Rattle.score.specs.declared.Kind.the-variants.{On, Off, Reset}
+use Rattle.score.specs.Record.{countOf, positionAt, recordAt}
+use Rattle.score.specs.Below.{below, countBelow}
+use Rattle.state.specs.declared.Settings.{Settings}
+use Rattle.state.specs.declared.State.{State}
+use Rattle.state.specs.declared.Event.{Event}
+use Rattle.state.specs.declared.Event.the-variants as event
+use Rattle.state.specs.State.{eventFor, eventOf}
+use Rattle.state.specs.Heart.{stateFrom, samplesFrom, entriesFrom}
+use Rattle.state.specs.ButReleases.{IsNought, IsRelease, SameRelease, SameButReleases}
+use Rattle.state.proofs.Depends.{ActAlike, equal-alike, Shared, state-shared, samples-shared, entries-shared}
+
+-- ---- one record
+pub off-lifts : (g : Settings) (r : Record) → r .kind ≡ Off → eventOf g r ≡ event.Lift (r .note)
+off-lifts g r e = rw e refl
+
+pub nought-lifts : (g : Settings) (r : Record) → IsNought r → eventOf g r ≡ event.Lift (r .note)
+nought-lifts g r e = rw (e .0, e .1) refl
+
+pub release-lifts : (g : Settings) (r : Record) → IsRelease r → eventOf g r ≡ event.Lift (r .note)
+release-lifts g r h = ⊎-elim (off-lifts g r) (nought-lifts g r) h
+
+-- an on with any other velocity strikes
+pub other-strikes : (g : Settings) (r : Record) → r .kind ≡ On → 1 ≤ r .velocity → eventOf g r ≡ event.Strike (r .note) (r .velocity)
+other-strikes g r e h = rw (e, ne-eqb (r .velocity) 0 (λ z. omega arith)) refl
+
+-- and no record strikes with velocity 0
+abbrev Heard : Event → Type 0
+Heard (event.Strike note velocity) = 1 ≤ velocity
+Heard (event.Lift note) = Unit
+Heard event.Reset = Unit
+
+heard-for : (k : Kind) (n v : ℕ) → Heard (eventFor k n v)
+heard-for On n v = go (eqb v 0) refl
+  where
+    go : (t : Bool) → eqb v 0 ≡ t → Heard (cond t (event.Lift n) (event.Strike n v))
+    go true e = tt
+    go false e = omega (arith, eqb-false v 0 e)
+heard-for Off n v = tt
+heard-for Reset n v = tt
+
+pub strike-is-heard : (g : Settings) (r : Record) (n v : ℕ) → eventOf g r ≡ event.Strike n v → 1 ≤ v
+strike-is-heard g r n v e = subst Heard e (heard-for (r .kind) (r .note) (r .velocity))
+
+-- ---- two scores
+same-release-alike : (r p : Record) → SameRelease r p → ActAlike r p
+same-release-alike r p h =
+    record {
+      position = h .position;
+      event = λ g. release-lifts g r (h .releases .0) ∙ ap event.Lift (h .note) ∙ sym (release-lifts g p (h .releases .1));
+    }
+
+module _ (s t : List ℕ) (h : SameButReleases s t) where
+  records-alike : (i : ℕ) → i < countOf s → ActAlike (recordAt s i) (recordAt t i)
+  records-alike i l = ⊎-elim (equal-alike (recordAt s i) (recordAt t i)) (same-release-alike (recordAt s i) (recordAt t i)) (h .each i l)
+
+  -- up to any position
+  all-shared : (q : ℕ) → Shared s t q (countOf s)
+  all-shared q =
+      let c : countOf s ≡ countOf t = h .count in
+      record { in-s = omega arith; in-t = omega arith; same = records-alike; high-s = λ i l u. omega arith; high-t = λ i l u. omega arith }
+
+  pub state-releases : (g : Settings) (n : ℕ) (v : State) (k : ℕ) → stateFrom g s n v k ≡ stateFrom g t n v k
+  state-releases g n v k = state-shared s t (n + k) (countOf s) (all-shared (n + k)) g n v k (omega arith)
+
+  pub samples-releases : (g : Settings) (n : ℕ) (v : State) (k : ℕ) → samplesFrom g s n v k ≡ samplesFrom g t n v k
+  samples-releases g n v k = samples-shared s t (n + k) (countOf s) (all-shared (n + k)) g n v k (omega arith)
+
+  pub entries-releases : (g : Settings) (m : ℕ) (v : State) (k : ℕ) → entriesFrom g s m v k ≡ entriesFrom g t m v k
+  entries-releases g m v k = entries-shared s t ((m + k) * 4096) (countOf s) (all-shared ((m + k) * 4096)) g m v k (λ i l. omega arith)
+
+  -- they have as many records below any position
+  below-to : (p k : ℕ) → k ≤ countOf s → below s p k ≡ below t p k
+  unfolding below
+  below-to p zero l = refl
+  below-to p (suc k) l = rw (records-alike k l .position, below-to p k (omega arith)) refl
+
+  pub below-releases : (p : ℕ) → countBelow s p ≡ countBelow t p
+  below-releases p = below-to p (countOf s) (omega arith) ∙ ap (below t p) (h .count)
