@@ -332,8 +332,8 @@ size_t export_clips(const struct export *export, const double *at, size_t sample
     (8u * (SHELF_HEAD_WORDS + (GAV_STATE_WORDS + SHELF_BESIDE_WORDS) * (GAV_MOST_SAMPLES / GAV_SECTION) +                 \
            MOST_SCORE / 8u + 1u))
 
-/* The version of the file's layout. */
-#define SHELF_LAYOUT 3u
+/* The version of the file: another layout, or other samples for the same score, is another version. */
+#define SHELF_VERSION 4u
 
 /* What the file has beside the words of the entries. */
 struct shelf_file {

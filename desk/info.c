@@ -99,7 +99,7 @@ static bool tell_shelf(const char *path, const struct bytes *file, struct why *w
     if (!shelf_look(file->at, file->len, &about, why)) return false;
     size_t entries = gav_shelf_words(about.samples) / GAV_STATE_WORDS;
     put_name("version");
-    printf("%u of the file, %u of the voice\n", SHELF_LAYOUT, (unsigned)gav_version());
+    printf("%u of the file, %u of the voice\n", SHELF_VERSION, (unsigned)gav_version());
     put_name("settings");
     put_settings(stdout, &about.settings);
     printf("\n");

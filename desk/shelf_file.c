@@ -2,7 +2,7 @@
    bytes, low byte first:
 
        0        "GAVSHELF"
-       1        the version of this layout, 3
+       1        the version of this file, 4: 3 had the same words, and ons with velocity 0 that struck their keys
        2        the version of the voice
        3        N, the samples of the sound
        4        bits of a sample in the WAV, 32 or 64
@@ -19,7 +19,7 @@
 #include <stdlib.h>
 #include <string.h>
 
-enum word { MAGIC, LAYOUT, VOICE, SAMPLES, BITS, SCORE_LEN, ENTRY_WORDS, BESIDE_WORDS };
+enum word { MAGIC, VERSION, VOICE, SAMPLES, BITS, SCORE_LEN, ENTRY_WORDS, BESIDE_WORDS };
 
 #define HEAD (8u * SHELF_HEAD_WORDS)
 #define SECTION_WORDS (GAV_STATE_WORDS + SHELF_BESIDE_WORDS)
@@ -52,7 +52,7 @@ uint64_t shelf_sum(const uint8_t *file, size_t section) {
 
 static void put_head(uint8_t *head, const struct shelf_file *about) {
     memcpy(head, magic, 8);
-    put_u64(head + 8 * LAYOUT, SHELF_LAYOUT);
+    put_u64(head + 8 * VERSION, SHELF_VERSION);
     put_u64(head + 8 * VOICE, gav_version());
     put_u64(head + 8 * SAMPLES, about->samples);
     put_u64(head + 8 * BITS, about->bits);
@@ -84,13 +84,13 @@ bool shelf_bytes(const struct shelf_file *about, const struct sound *sound, cons
 bool shelf_begins(const uint8_t *file, size_t len) { return len >= 8 && memcmp(file, magic, 8) == 0; }
 
 /* Another version is told whatever the shelf's sum is, since that version may have another sum. */
-static bool look_at_version(uint64_t layout, struct why *why) {
-    if (layout == SHELF_LAYOUT) return true;
+static bool look_at_version(uint64_t version, struct why *why) {
+    if (version == SHELF_VERSION) return true;
     return refuse(
         why,
         "it is a shelf of %s version, %llu, or damaged there, and this desk has version %u: render again with "
         "`desk render`",
-        layout > SHELF_LAYOUT ? "a later" : "an earlier", (unsigned long long)layout, SHELF_LAYOUT);
+        version > SHELF_VERSION ? "a later" : "an earlier", (unsigned long long)version, SHELF_VERSION);
 }
 
 /* What shows a whole shelf of this desk: the magic word, the version, the length, the sum, then the voice's version. */
@@ -98,7 +98,7 @@ static bool look_at_heads(const uint8_t *file, size_t len, struct why *why) {
     if (!shelf_begins(file, len)) {
         return refuse(why, "it is no shelf of the desk: it does not begin with %s", magic);
     }
-    if (len >= 16 && !look_at_version(get_u64(file + 8 * LAYOUT), why)) return false;
+    if (len >= 16 && !look_at_version(get_u64(file + 8 * VERSION), why)) return false;
     if (len > SHELF_MOST) return refuse(why, "it is damaged: it is longer than %zu bytes", (size_t)SHELF_MOST);
     if (len < HEAD + 8) return refuse(why, "it is damaged: it is cut short after %zu bytes", len);
     if (sum_of(file, len - 8) != get_u64(file + len - 8)) {

@@ -24,8 +24,8 @@ SETTINGS = {
 }  # fmt: skip
 SETTING_WORDS = 24  # of a shelf's head, in use or free
 FREE_WORDS = SETTING_WORDS - len(SETTINGS)
-SHELF_LAYOUT = 3
-SHELF_NAMES = ["magic", "layout", "voice", "samples", "bits", "score_len", "entry", "beside", *SETTINGS]
+SHELF_VERSION = 4
+SHELF_NAMES = ["magic", "version", "voice", "samples", "bits", "score_len", "entry", "beside", *SETTINGS]
 SHELF_HEAD = struct.Struct("<8s7Q" + "".join("d" if isinstance(x, float) else "Q" for x in SETTINGS.values()) + f"{FREE_WORDS}Q")
 STATE_WORDS = 13
 ENTRY = 8 * STATE_WORDS
@@ -197,8 +197,8 @@ class Shelf:
         self.sums = [int.from_bytes(part[ENTRY:], "little") for part in parts]
         self.score = data[end : end + head["score_len"]]
         filled = self.score + b"\0" * (-len(self.score) % 8)
-        fixed = tuple(head[name] for name in ("magic", "layout", "voice", "entry", "beside"))
-        hold(f"{path}: its head", fixed == (b"GAVSHELF", SHELF_LAYOUT, voice_version(), STATE_WORDS, 1), f"{fixed}")
+        fixed = tuple(head[name] for name in ("magic", "version", "voice", "entry", "beside"))
+        hold(f"{path}: its head", fixed == (b"GAVSHELF", SHELF_VERSION, voice_version(), STATE_WORDS, 1), f"{fixed}")
         hold(f"{path}: free words", not any(SHELF_HEAD.unpack_from(data)[len(SHELF_NAMES) :]))
         hold(f"{path}: its end", data[end:] == filled + struct.pack("<Q", sum_of(data[:-8])), f"{len(data)} bytes")
 
