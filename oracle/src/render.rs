@@ -1,5 +1,6 @@
 //! The original driven span by span, as 01 says under "Making sample n": its voice, its envelope, its oscillator, and,
-//! as 02 says under "Tremolo", its LFO.
+//! as 02 says under "Tremolo", its LFO. As 02 says under "Velocity nought", a note-on with velocity 0 is driven with
+//! `note_off`.
 //!
 //! `Player` goes on from any state within the limits and shows its states: it has the opened copies, and makes a span's
 //! values one by one, since the original's blocks have one duty only. `Plain` has the untouched copies alone, from
@@ -90,6 +91,16 @@ pub struct Record {
     pub velocity: u8,
 }
 
+impl Record {
+    /// The kind that it acts as: a note-on with velocity 0 is the release of its key.
+    fn acts_as(self) -> u8 {
+        match (self.kind, self.velocity) {
+            (KIND_ON, 0) => KIND_OFF,
+            (kind, _) => kind,
+        }
+    }
+}
+
 pub fn on(position: u64, note: u8, velocity: u8) -> Record {
     Record { position, kind: KIND_ON, note, velocity }
 }
@@ -97,6 +108,15 @@ pub fn on(position: u64, note: u8, velocity: u8) -> Record {
 /// The velocity of a note-off is in the record, and changes no sample.
 pub fn off(position: u64, note: u8) -> Record {
     Record { position, kind: KIND_OFF, note, velocity: 64 }
+}
+
+/// The same score with every release written as a note-on with velocity 0.
+pub fn by_noughts(score: &[Record]) -> Vec<Record> {
+    let written = |record: Record| match record.kind {
+        KIND_OFF => on(record.position, record.note, 0),
+        _ => record,
+    };
+    score.iter().copied().map(written).collect()
 }
 
 pub fn reset(position: u64) -> Record {
@@ -185,7 +205,7 @@ impl Player {
 
     fn act(&mut self, record: Record) {
         self.acted += 1;
-        match record.kind {
+        match record.acts_as() {
             KIND_ON => {
                 self.voice.call(NOTE_ON, record.note, record.velocity);
                 self.envelope.note_on();
@@ -338,7 +358,7 @@ impl Source {
 
 impl Plain {
     fn act(&mut self, record: Record) {
-        match record.kind {
+        match record.acts_as() {
             KIND_ON => {
                 self.voice.note_on(record.note, record.velocity);
                 self.envelope.note_on();

@@ -2,7 +2,7 @@
 
 use crate::envelope_rows::RATES;
 use crate::patterns::near;
-use crate::render::{off, on, reset, Lfo, Record, Settings, Wave};
+use crate::render::{by_noughts, off, on, reset, Lfo, Record, Settings, Wave};
 use crate::render_asked::{packed_words, Asked, CONTINUE, LAST, MOST_SAMPLES};
 use crate::render_tremolo::{self, strong};
 use crate::waveform_rows::{duties, not_a_unit, TINY};
@@ -24,6 +24,7 @@ pub fn all() -> Vec<Vec<u64>> {
     list.extend(edges_of_states());
     list.extend(edges_of_far());
     list.extend(render_tremolo::edges());
+    list.extend(edges_of_noughts());
     list.iter().map(Asked::words).collect()
 }
 
@@ -106,11 +107,20 @@ fn edges_of_envelope() -> Vec<Asked> {
     list
 }
 
+/// Seventeen keys struck, of which sixteen are held.
+fn pressed() -> Vec<Record> {
+    let sixteen = (40..56).map(|note| on(2 * (note as u64 - 40), note, note));
+    sixteen.chain([on(40, 60, 99)]).collect()
+}
+
+/// The sixteen lifted.
+fn lifted() -> Vec<Record> {
+    (40..56).map(|note| off(note as u64, note)).collect()
+}
+
 /// 01's worked examples (k), (l) and (m) as scores, more than 16 keys, keys that are not down, velocity 0.
 fn edges_of_keys() -> Vec<Asked> {
-    let sixteen = (40..56).map(|note| on(2 * (note as u64 - 40), note, note));
-    let pressed: Vec<Record> = sixteen.chain([on(40, 60, 99)]).collect();
-    let lifted: Vec<Record> = (40..56).map(|note| off(note as u64, note)).collect();
+    let (pressed, lifted) = (pressed(), lifted());
     let forty: Vec<Record> =
         (0..40).map(|i| on(3, 30 + i, 3 * i)).chain((0..40).map(|i| off(70 + i as u64 / 4, 69 - i))).collect();
     let scores = [
@@ -277,6 +287,31 @@ fn edges_of_states() -> Vec<Asked> {
         }
     }
     [list.clone(), empty(&list, 7)].concat()
+}
+
+/// Keys released by a note-on with velocity 0: where a note-off would release, fall back or change nothing, before the
+/// first on, beside an on of the same note in both orders, at multiples of 64 and of 4,096, in parts; beside velocity 1.
+fn edges_of_noughts() -> Vec<Asked> {
+    let scores = [
+        vec![on(0, 60, 100), on(50, 60, 0)],
+        vec![on(0, 60, 100), on(10, 64, 90), on(40, 64, 0), on(80, 60, 0)],
+        vec![on(0, 64, 90), on(10, 60, 100), on(40, 64, 0), on(80, 60, 0)],
+        vec![on(0, 60, 0), on(3, 61, 0), on(10, 60, 100), on(40, 64, 0), on(64, 60, 0), on(70, 60, 0)],
+        vec![on(0, 60, 100), on(20, 60, 0), on(20, 60, 80), on(128, 60, 0)],
+        vec![on(0, 60, 100), on(20, 60, 80), on(20, 60, 0)],
+        vec![on(0, 60, 100), on(10, 62, 90), on(20, 60, 80), on(64, 60, 0), off(64, 60), on(64, 62, 0)],
+        vec![on(0, 60, 100), on(20, 60, 1), on(64, 60, 0), on(100, 0, 0), reset(110), on(110, 60, 0)],
+        [pressed(), vec![on(50, 60, 0), on(60, 55, 0), on(64, 54, 0), reset(100), on(101, 53, 0)]].concat(),
+        [pressed(), by_noughts(&lifted()), vec![on(70, 60, 0)]].concat(),
+        by_noughts(&tune()),
+    ];
+    let mut list: Vec<Asked> =
+        scores.iter().enumerate().map(|(i, score)| Asked::whole(8000, WAVES[i % 5], 130, score)).collect();
+    let marks = [on(0, 60, 100), on(4032, 62, 90), on(4096, 62, 0), on(4096, 64, 0), on(4160, 60, 0)];
+    list.push(Asked::whole(8000, SAW, 4200, &marks).with_lfo(strong(1)));
+    let over = Asked::whole(44100, WAVES[4], 0, &by_noughts(&over_marks()));
+    list.extend([(4095, 2), (4096, 1), (5990, 64), (8999, 65)].map(|(position, samples)| over.part(position, samples)));
+    list
 }
 
 /// Positions up to the last, past it and far past it, where a sum would be too large; records there.

@@ -2,7 +2,7 @@
 //! original's render of the first leaves, or over rubbish where a re-render does not read.
 
 use crate::chance::Chance;
-use crate::render::{on, reset, Record, KIND_RESET, SECTION, STATE_WORDS};
+use crate::render::{by_noughts, on, reset, Record, KIND_RESET, SECTION, STATE_WORDS};
 use crate::render_asked::{entry_at, start_of, Asked, LAST};
 use crate::render_edges::{over_marks, tune, SAW, WAVES};
 use crate::render_random::{self, moved, random_render, random_score, spoil_score};
@@ -22,6 +22,7 @@ pub fn edges() -> Vec<Vec<u64>> {
     let mut list = edges_of_position();
     list.extend(edges_of_marks());
     list.extend(edges_of_refusals());
+    list.extend(edges_of_noughts());
     list.iter().map(Asked::words).collect()
 }
 
@@ -58,6 +59,22 @@ fn edges_of_marks() -> Vec<Asked> {
     let over_rubbish = list.iter_mut().skip(1).step_by(2);
     over_rubbish.for_each(|asked| spoil_left(asked, &mut chance));
     list
+}
+
+/// A velocity turned to 0, and back; releases that are written otherwise, which is a change though no sample moves.
+fn edges_of_noughts() -> Vec<Asked> {
+    let struck = vec![on(0, 60, 100), on(64, 64, 90), on(100, 60, 80)];
+    let hushed = vec![on(0, 60, 100), on(64, 64, 0), on(100, 60, 80)];
+    let between = |old: &[Record], new: &[Record]| Asked::whole(8000, SAW, 130, old).edited(new);
+    let marks = Asked::whole(48000, WAVES[1], 4200, &over_marks());
+    vec![
+        between(&struck, &hushed),
+        between(&hushed, &struck),
+        between(&tune(), &by_noughts(&tune())),
+        between(&by_noughts(&tune()), &tune()),
+        marks.edited(&by_noughts(&over_marks())),
+        marks.edited(&with(&over_marks(), on(4096, 119, 0))),
+    ]
 }
 
 /// 6, 7, each fault of the old score and of the new one, an entry that is no state; alone and before those after it.

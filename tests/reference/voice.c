@@ -228,15 +228,18 @@ void put_record(uint8_t *record, uint32_t position, enum kind kind, uint8_t note
     memcpy(record, bytes, sizeof bytes);
 }
 
+/* A note-on with velocity 0 "acts as a note-off of that note". */
+static bool is_release(const uint8_t *record) { return record[6] == OFF || (record[6] == ON && record[8] == 0); }
+
 /* "On: voice and envelope `note_on`. Off: voice `note_off`, and the envelope's where it returned true. Reset: voice,
  * envelope and phase to their fresh state." The LFO's phase is "set to 0 by a reset record". */
 void voice_act(struct voice *v, const uint8_t *record) {
     uint64_t acted = v->acted + 1;
-    if (record[6] == ON) {
+    if (is_release(record)) {
+        if (note_off(v, record[7])) envelope_off(&v->envelope);
+    } else if (record[6] == ON) {
         note_on(v, record[7], record[8]);
         envelope_on(&v->envelope);
-    } else if (record[6] == OFF) {
-        if (note_off(v, record[7])) envelope_off(&v->envelope);
     } else {
         *v = voice_fresh();
     }

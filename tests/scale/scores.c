@@ -37,8 +37,13 @@ static uint8_t lift(struct chance *c, struct hands *h) {
     return note;
 }
 
-/* A reset; a key lifted that may not be down; one struck, some without velocity; one lifted that is down. An off's
- * velocity is in the record, and nobody hears it. */
+/* As an off, whose velocity is in the record and is not heard, or as an on with velocity 0. */
+static void put_release(struct chance *c, uint8_t *record, uint32_t position, uint8_t note) {
+    bool is_on = one_in(c, 3);
+    put_record(record, position, is_on ? ON : OFF, note, is_on ? 0 : (uint8_t)below(c, 128));
+}
+
+/* A reset; a key lifted that may not be down; one struck; one lifted that is down. */
 static void play_next(struct chance *c, struct hands *h, uint8_t *record, uint32_t position) {
     uint8_t note = (uint8_t)(h->lowest + below(c, h->keys));
     if (one_in(c, 30)) h->rising = !h->rising;
@@ -46,12 +51,12 @@ static void play_next(struct chance *c, struct hands *h, uint8_t *record, uint32
     if (chosen == 0) {
         put_record(record, position, RESET, 0, 0);
     } else if (chosen == 1) {
-        put_record(record, position, OFF, note, 64);
+        put_release(c, record, position, note);
     } else if (h->down == 0 || (chosen < 28) == h->rising) {
         h->notes[h->down++] = note;
-        put_record(record, position, ON, note, one_in(c, 16) ? 0 : (uint8_t)below(c, 128));
+        put_record(record, position, ON, note, (uint8_t)(1 + below(c, 127)));
     } else {
-        put_record(record, position, OFF, lift(c, h), (uint8_t)below(c, 128));
+        put_release(c, record, position, lift(c, h));
     }
 }
 
@@ -144,6 +149,12 @@ static uint32_t edit_position(struct chance *c, size_t n) {
     return PICK(c, near);
 }
 
+/* Often none, of an on that has one. */
+static uint8_t another_velocity(struct chance *c, const uint8_t *record) {
+    bool falls = record[6] == ON && record[8] > 0 && one_in(c, 3);
+    return falls ? 0 : (uint8_t)below(c, 128);
+}
+
 /* A record is put in, taken out, moved, or gets another velocity. */
 void edit_score(struct chance *c, size_t n, struct score *score) {
     uint64_t how = below(c, 8);
@@ -153,7 +164,7 @@ void edit_score(struct chance *c, size_t n, struct score *score) {
     uint8_t record[RECORD];
     memcpy(record, score->bytes + RECORD * index, RECORD);
     if (how == 7) {
-        if (record[6] != RESET) score->bytes[RECORD * index + 8] = (uint8_t)below(c, 128);
+        if (record[6] != RESET) score->bytes[RECORD * index + 8] = another_velocity(c, record);
         return;
     }
     take_out(score, index);
