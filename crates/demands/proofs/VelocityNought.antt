@@ -20,7 +20,7 @@ use Rattle.state.specs.Settings.{settingsOk}
 use Rattle.state.specs.State.{freshOf, eventOf, actOf}
 use Rattle.state.specs.ButReleases.{IsNought, SameButReleases}
 use Rattle.state.proofs.Limits.{EventIn, accepted-events}
-use Rattle.state.proofs.ButReleases.{off-lifts, nought-lifts, other-strikes, strike-is-heard, state-releases, samples-releases, entries-releases, below-releases}
+use Rattle.state.proofs.ButReleases.{off-lifts, nought-lifts, release-lifts, other-strikes, strike-from-1, state-releases, samples-releases, entries-releases, below-releases}
 use Rattle.judging.specs.Judging.{refusalsOf}
 use Rattle.render.specs.declared.Rendered.{Rendered}
 use Rattle.render.specs.Calls.{renderOf, continueOf}
@@ -31,13 +31,13 @@ use Rattle.demands.specs.VelocityNought.{Unmoved, VelocityNought}
 use Rattle.demands.proofs.Edits.{any-edits}
 
 -- ---- one record
-same-event : (g : Settings) (r p : Record) → IsNought r → p .kind ≡ Off → r .note ≡ p .note → eventOf g r ≡ eventOf g p
-same-event g r p h o n = nought-lifts g r h ∙ ap event.Lift n ∙ sym (off-lifts g p o)
+same-event : (g : Settings) (r off : Record) → IsNought r → off .kind ≡ Off → r .note ≡ off .note → eventOf g r ≡ eventOf g off
+same-event g r off h o n = nought-lifts g r h ∙ ap event.Lift n ∙ sym (off-lifts g off o)
 
-strikes-are-heard : (g : Settings) (s : List ℕ) → Taken s → (i : ℕ) → i < countOf s → (n v : ℕ) → eventOf g (recordAt s i) ≡ event.Strike n v → (1 ≤ v) × (v ≤ 127)
-strikes-are-heard g s a i l n v e =
-    let b : EventIn (event.Strike n v) = rw e at (accepted-events g s (a .records) (a .accepted) i l) in
-    (strike-is-heard g (recordAt s i) n v e, b .1)
+strike-velocities : (g : Settings) (s : List ℕ) → Taken s → (i : ℕ) → i < countOf s → (note velocity : ℕ) → eventOf g (recordAt s i) ≡ event.Strike note velocity → (1 ≤ velocity) × (velocity ≤ 127)
+strike-velocities g s a i l note velocity e =
+    let b : EventIn (event.Strike note velocity) = rw e at (accepted-events g s (a .records) (a .accepted) i l) in
+    (strike-from-1 g (recordAt s i) note velocity e, b .1)
 
 -- ---- the calls
 module _ (s t : List ℕ) (h : SameButReleases s t) (a : Taken s) (b : Taken t) (g : Settings) where
@@ -79,10 +79,11 @@ module _ (s t : List ℕ) (h : SameButReleases s t) (a : Taken s) (b : Taken t) 
 pub velocity-nought : VelocityNought
 velocity-nought =
     record {
+      lifts = release-lifts;
       same-event = same-event;
-      same-state = λ g v r p h o n. ap (actOf g v) (same-event g r p h o n);
+      same-state = λ g v r off h o n. ap (actOf g v) (same-event g r off h o n);
       others-strike = other-strikes;
-      strikes-are-heard = strikes-are-heard;
+      strike-velocities = strike-velocities;
       states = state-releases;
       samples = samples-releases;
       rendered = rendered;

@@ -2,8 +2,9 @@
 -- 02, R-4: "Most keyboards send a key's release as a note-on with velocity 0, and MIDI 1.0 says that it is one."; "From
 -- now on such a record acts as a note-off of that note".
 -- So how a release is written is not heard: accepted scores that are the same but for that (`SameButReleases`) are
--- rendered and continued alike, whatever the call is lent, and refused alike too. They are not equal as scores: a
--- re-render from one to the other starts at the first record that is written otherwise, and remakes what is there.
+-- rendered and continued alike, whatever the call is lent, and where one is refused, with 6, 7 or 10, so is the other.
+-- They are not equal as scores: a re-render from one to the other starts at the section of the first record that is
+-- written otherwise, and makes the same again.
 -- The voice's own `note_on` strikes with any velocity, and so does the event `Strike`; no record gives that event with
 -- velocity 0. The arguments are in proofs/ButReleases.antt of the crate `state` and in proofs/VelocityNought.antt.
 -- Definitions only.
@@ -24,7 +25,7 @@ use Rattle.state.specs.declared.Event.the-variants as event
 use Rattle.state.specs.Settings.{settingsOk}
 use Rattle.state.specs.State.{eventOf, actOf}
 use Rattle.state.specs.Heart.{stateFrom, samplesFrom}
-use Rattle.state.specs.ButReleases.{IsNought, SameButReleases}
+use Rattle.state.specs.ButReleases.{IsNought, IsRelease, SameButReleases}
 use Rattle.render.specs.Calls.{renderOf, continueOf}
 use Rattle.rerender.specs.Rerender.{rerenderOf}
 use Rattle.demands.specs.Demand3.{Taken, Buffers, leftIn}
@@ -35,19 +36,21 @@ pub record Unmoved {R : Type 0} (before : Outcome R) (after : Outcome Answer) : 
   pub entries : after .stored ≡ before .stored
 
 pub record VelocityNought : Type 0 where
-  -- an on with velocity 0 does what an off of that note does, of any velocity, and from every state leaves what it leaves
-  pub same-event : (g : Settings) (r p : Record) → IsNought r → p .kind ≡ Off → r .note ≡ p .note → eventOf g r ≡ eventOf g p
-  pub same-state : (g : Settings) (v : State) (r p : Record) → IsNought r → p .kind ≡ Off → r .note ≡ p .note → actOf g v (eventOf g r) ≡ actOf g v (eventOf g p)
-  -- an on with any other velocity strikes
+  -- an off, and an on with velocity 0, lift the key of their note; what that calls is in `state`'s specs/Calls.antt
+  pub lifts : (g : Settings) (r : Record) → IsRelease r → eventOf g r ≡ event.Lift (r .note)
+  -- so an on with velocity 0 and an off of that note, whatever the off's velocity, are the same event, and from every
+  -- state leave the same state
+  pub same-event : (g : Settings) (r off : Record) → IsNought r → off .kind ≡ Off → r .note ≡ off .note → eventOf g r ≡ eventOf g off
+  pub same-state : (g : Settings) (v : State) (r off : Record) → IsNought r → off .kind ≡ Off → r .note ≡ off .note → actOf g v (eventOf g r) ≡ actOf g v (eventOf g off)
+  -- an on with any other velocity strikes, and every strike of an accepted score has a velocity from 1 to 127
   pub others-strike : (g : Settings) (r : Record) → r .kind ≡ On → 1 ≤ r .velocity → eventOf g r ≡ event.Strike (r .note) (r .velocity)
-  -- so every strike of an accepted score has a velocity from 1 to 127
-  pub strikes-are-heard : (g : Settings) (s : List ℕ) → Taken s → (i : ℕ) → i < countOf s → (n v : ℕ) → eventOf g (recordAt s i) ≡ event.Strike n v → (1 ≤ v) × (v ≤ 127)
-  -- from every state, at any position
+  pub strike-velocities : (g : Settings) (s : List ℕ) → Taken s → (i : ℕ) → i < countOf s → (note velocity : ℕ) → eventOf g (recordAt s i) ≡ event.Strike note velocity → (1 ≤ velocity) × (velocity ≤ 127)
+  -- the same states and samples are made, from every state and position
   pub states : (s t : List ℕ) → SameButReleases s t → (g : Settings) (n : ℕ) (v : State) (k : ℕ) → stateFrom g s n v k ≡ stateFrom g t n v k
   pub samples : (s t : List ℕ) → SameButReleases s t → (g : Settings) (n : ℕ) (v : State) (k : ℕ) → samplesFrom g s n v k ≡ samplesFrom g t n v k
-  -- the calls
+  -- the calls leave the same, whatever they are lent
   pub rendered : (s t : List ℕ) → SameButReleases s t → Taken s → Taken t → (g : Settings) (out : List Float) (shelf : List ℕ) → renderOf g s out shelf ≡ renderOf g t out shelf
   pub continued : (s t : List ℕ) → SameButReleases s t → Taken s → Taken t → (g : Settings) (v : State) (p : ℕ) (part : List Float) → continueOf g s v p part ≡ continueOf g t v p part
-  -- over what a render of s left
+  -- a re-render from s to t, over what a render of s left
   pub re-rendered : (s t : List ℕ) → SameButReleases s t → Taken s → Taken t → (g : Settings) → settingsOk g ≡ true → T (fits binary64 (g .adsr .sustain)) → (n : ℕ) (b : Buffers n)
       → Unmoved (leftIn g s b) (rerenderOf g s t (leftIn g s b .heard) (leftIn g s b .stored))

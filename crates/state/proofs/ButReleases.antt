@@ -38,22 +38,22 @@ pub other-strikes : (g : Settings) (r : Record) → r .kind ≡ On → 1 ≤ r .
 other-strikes g r e h = rw (e, ne-eqb (r .velocity) 0 (λ z. omega arith)) refl
 
 -- and no record strikes with velocity 0
-abbrev Heard : Event → Type 0
-Heard (event.Strike note velocity) = 1 ≤ velocity
-Heard (event.Lift note) = Unit
-Heard event.Reset = Unit
+abbrev From1 : Event → Type 0
+From1 (event.Strike note velocity) = 1 ≤ velocity
+From1 (event.Lift note) = Unit
+From1 event.Reset = Unit
 
-heard-for : (k : Kind) (n v : ℕ) → Heard (eventFor k n v)
-heard-for On n v = go (eqb v 0) refl
+from-1 : (k : Kind) (note velocity : ℕ) → From1 (eventFor k note velocity)
+from-1 On note velocity = go (eqb velocity 0) refl
   where
-    go : (t : Bool) → eqb v 0 ≡ t → Heard (cond t (event.Lift n) (event.Strike n v))
+    go : (t : Bool) → eqb velocity 0 ≡ t → From1 (cond t (event.Lift note) (event.Strike note velocity))
     go true e = tt
-    go false e = omega (arith, eqb-false v 0 e)
-heard-for Off n v = tt
-heard-for Reset n v = tt
+    go false e = omega (arith, eqb-false velocity 0 e)
+from-1 Off note velocity = tt
+from-1 Reset note velocity = tt
 
-pub strike-is-heard : (g : Settings) (r : Record) (n v : ℕ) → eventOf g r ≡ event.Strike n v → 1 ≤ v
-strike-is-heard g r n v e = subst Heard e (heard-for (r .kind) (r .note) (r .velocity))
+pub strike-from-1 : (g : Settings) (r : Record) (note velocity : ℕ) → eventOf g r ≡ event.Strike note velocity → 1 ≤ velocity
+strike-from-1 g r note velocity e = subst From1 e (from-1 (r .kind) (r .note) (r .velocity))
 
 -- ---- two scores
 same-release-alike : (r p : Record) → SameRelease r p → ActAlike r p

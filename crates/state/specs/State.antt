@@ -72,8 +72,8 @@ reducedOf v = withPhases v (remainderOf (v .phase .0)) (remainderOf (v .lfo .0))
 
 -- ---- act
 -- what a record does: an on strikes a key (note, velocity), or lifts it where its velocity is 0 (02, R-4); an off lifts
--- a key (note); a reset resets. A lift releases the envelope only if the voice's note_off returns true. No setting
--- changes that today
+-- a key (note); a reset resets. A lift releases the envelope only where the voice's note_off says released. The event
+-- does not depend on the settings today
 abbrev pub eventFor : Kind → ℕ → ℕ → Event
 eventFor On note velocity = cond (eqb velocity 0) (event.Lift note) (event.Strike note velocity)
 eventFor Off note velocity = event.Lift note

@@ -1,7 +1,8 @@
 -- `state::event_of` meets its contract. Assumes nothing.
 use borrow.Author.Needs.{needs}
-use mathlib.Core.Path.{refl}
-use borrow.Author.Tests.{eq-eqb, ne-eqb}
+use mathlib.Core.Path.{sym}
+use native.Mathlib.Omega.{arith}
+use Rattle.state.proofs.ButReleases.{off-lifts, nought-lifts, other-strikes}
 use Rattle.state.proofs.event_of.Statement.{statement}
 use Rattle.state.proofs.event_of.Tie as tie
 
@@ -14,17 +15,20 @@ enum-told-2 c = search needs
 enum-told-3 : tie.Need-enum-told-3
 enum-told-3 c = search needs
 
--- an on with velocity 0
 returns : tie.Need-returns
-returns c = rw (c .before .before .enum-told .given .1, eq-eqb _ _ (c .if1 .taken)) refl
+returns c =
+    let a = c .before .before .before .before .args in
+    sym (nought-lifts (a .settings) (a .given) (c .before .before .enum-told .given .1, omega (arith, c .if1 .taken)))
 
--- with any other velocity
 returns-2 : tie.Need-returns-2
-returns-2 c = rw (c .before .before .enum-told .given .1, ne-eqb _ _ (c .if1 .left)) refl
+returns-2 c =
+    let a = c .before .before .before .before .args in
+    sym (other-strikes (a .settings) (a .given) (c .before .before .enum-told .given .1) (omega (arith, c .if1 .left)))
 
--- an off
 returns-3 : tie.Need-returns-3
-returns-3 c = rw (c .enum-told2 .given .1) refl
+returns-3 c =
+    let a = c .before .before .args in
+    sym (off-lifts (a .settings) (a .given) (c .enum-told2 .given .1))
 
 returns-4 : tie.Need-returns-4
 returns-4 c = search needs
