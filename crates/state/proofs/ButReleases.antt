@@ -2,7 +2,7 @@
 -- same but for that have the same positions and events, so from one state they make the same states, samples and
 -- entries. No record strikes a key with velocity 0. Assumes nothing.
 use mathlib.Core.Path.{_≡_, refl, sym, ap, subst, _∙_}
-use mathlib.Core.Logic.{_⊎_, inl, inr, ⊎-elim}
+use mathlib.Core.Logic.{⊎-elim}
 use mathlib.Core.Bool.{Bool, true, false, cond}
 use mathlib.Core.List.{List}
 use Prim.Native.Nat.{ℕ, zero, suc, _+_, _*_, _≤_, _<_}
@@ -12,7 +12,7 @@ use borrow.Author.Tests.{ne-eqb, eqb-false}
 use Rattle.score.specs.declared.Record.{Record}
 use Rattle.score.specs.declared.Kind.{Kind}
 use Rattle.score.specs.declared.Kind.the-variants.{On, Off, Reset}
-use Rattle.score.specs.Record.{countOf, positionAt, recordAt}
+use Rattle.score.specs.Record.{countOf, recordAt}
 use Rattle.score.specs.Below.{below, countBelow}
 use Rattle.state.specs.declared.Settings.{Settings}
 use Rattle.state.specs.declared.State.{State}

@@ -1,8 +1,8 @@
 -- Samples of a state whose fields are within their limits, and whose phases are not negative, are finite; with velocity
 -- 0 they are +0 or -0; and with depth 0 they are the samples without tremolo. 02, R-7: "With depth 0 the samples equal
--- the old ones as numbers"; here to the bit. A key struck with velocity 0 gives a state with velocity 0, as in the Rust;
--- no record strikes so (02, R-4). The floats of state and settings are taken to be values of an f64, as every f64 of a
--- program is. Assumes nothing.
+-- the old ones as numbers"; here to the bit. A key struck with velocity 0 gives a state with velocity 0, as in the
+-- Rust; no record strikes so (02, R-4). The floats of state and settings are taken to be values of an f64, as every f64
+-- of a program is. Assumes nothing.
 use mathlib.Core.Path.{_≡_, refl}
 use mathlib.Core.Logic.{inl}
 use mathlib.Core.Bool.{true, _&&_}
