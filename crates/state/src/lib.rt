@@ -94,10 +94,9 @@ pub fn event_of(settings: Settings, given: Record) -> Event
     match kind {
         Kind::On => {
             if given.velocity == 0 {
-                Event::Lift(given.note)
-            } else {
-                Event::Strike(given.note, given.velocity)
+                return Event::Lift(given.note);
             }
+            Event::Strike(given.note, given.velocity)
         }
         Kind::Off => Event::Lift(given.note),
         Kind::Reset => Event::Reset,

@@ -9,16 +9,16 @@ use Rattle.state.proofs.event_of.Tie as tie
 enum-told : tie.Need-enum-told
 enum-told c = search needs
 
+returns : tie.Need-returns
+returns c =
+    let a = c .before .before .before .before .args in
+    sym (nought-lifts (a .settings) (a .given) (c .before .before .enum-told .given .1, omega (arith, c .if1 .taken)))
+
 enum-told-2 : tie.Need-enum-told-2
 enum-told-2 c = search needs
 
 enum-told-3 : tie.Need-enum-told-3
 enum-told-3 c = search needs
-
-returns : tie.Need-returns
-returns c =
-    let a = c .before .before .before .before .args in
-    sym (nought-lifts (a .settings) (a .given) (c .before .before .enum-told .given .1, omega (arith, c .if1 .taken)))
 
 returns-2 : tie.Need-returns-2
 returns-2 c =
@@ -34,4 +34,4 @@ returns-4 : tie.Need-returns-4
 returns-4 c = search needs
 
 pub event-of-spec : {M : Type 1} → statement M
-event-of-spec = tie.close (tie.spec enum-told enum-told-2 enum-told-3 returns returns-2 returns-3 returns-4)
+event-of-spec = tie.close (tie.spec enum-told returns enum-told-2 enum-told-3 returns-2 returns-3 returns-4)
