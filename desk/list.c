@@ -26,6 +26,7 @@ const struct verb list_verb = {
         "desk list SCORE\n"
         "Prints how many records the score has, and then a line for each:\n"
         "  POSITION on|off|reset NOTE VELOCITY\n"
-        "POSITION is a sample, counted from 0; NOTE and VELOCITY are 0 to 127. SCORE may be - for standard input.\n",
+        "POSITION is a sample, counted from 0; NOTE and VELOCITY are 0 to 127. An on with VELOCITY 0 acts as an off of\n"
+        "its note. SCORE may be - for standard input.\n",
     .run = run_list,
 };

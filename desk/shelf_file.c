@@ -2,7 +2,7 @@
    bytes, low byte first:
 
        0        "GAVSHELF"
-       1        the version of this file, 4: 3 had the same words, and ons with velocity 0 that struck their keys
+       1        the version of this file, 4: in version 3, of the same words, an on with velocity 0 struck its key
        2        the version of the voice
        3        N, the samples of the sound
        4        bits of a sample in the WAV, 32 or 64

@@ -30,8 +30,9 @@
  *
  * A score is records of 10 bytes: 56 4E (hex), position (4 bytes, low byte first, in samples), kind (1 on, 2 off, 3
  * reset), note (0 to 127), velocity (0 to 127), 00. Positions never fall, a reset has note and velocity 0, and there
- * are at most 4,096 records. An on with velocity 0 is the release of its key, as keyboards send it: it acts as an off.
- * What an earlier library rendered of a score with such an on, samples and shelf, is to be rendered anew.
+ * are at most 4,096 records. An on with velocity 0 is the release of its key, as most keyboards send it: it acts as an
+ * off of its note. Samples, shelves and states that an earlier library made of a score with such an on are stale, and
+ * no call can tell: render the score anew. GAV_VERSION did not grow with this rule.
  *
  * An output is divided into sections of 4,096 samples, the last of which may be short: section k starts at sample
  * 4096k. The shelf of an output has an entry for each section: the state before the section's first sample.

@@ -3,7 +3,7 @@
 use crate::chance::Chance;
 use crate::envelope_rows::{random_rate, random_settings};
 use crate::patterns::near;
-use crate::render::{off, on, reset, Record, Settings, Wave, Words, STATE_WORDS};
+use crate::render::{by_noughts, off, on, reset, Record, Settings, Wave, Words, STATE_WORDS};
 use crate::render_asked::{is_state, packed_words, Asked, CONTINUE, LAST, MOST_SAMPLES, RENDER};
 use crate::render_tremolo::{random_lfo, spoilt_lfo};
 use crate::waveform_rows::{duties, not_a_unit, TINY};
@@ -24,7 +24,7 @@ pub fn row(chance: &mut Chance) -> Vec<u64> {
 pub fn random_render(chance: &mut Chance) -> Asked {
     let samples = random_length(chance);
     let wave = random_wave(chance);
-    let mut asked = Asked::whole(random_rate(chance), wave, samples, &random_score(samples, chance));
+    let mut asked = Asked::whole(random_rate(chance), wave, samples, &random_releases(samples, chance));
     asked.settings.adsr = random_settings(chance);
     asked.settings.lfo = random_lfo(chance);
     audible(&mut asked.settings);
@@ -55,6 +55,16 @@ fn random_length(chance: &mut Chance) -> u64 {
         1 => chance.below(10001),
         2..=4 => chance.below(1500),
         _ => chance.below(200),
+    }
+}
+
+/// In one score of eight, by its length, every release is a note-on with velocity 0.
+fn random_releases(samples: u64, chance: &mut Chance) -> Vec<Record> {
+    let score = random_score(samples, chance);
+    if samples % 8 == 1 {
+        by_noughts(&score)
+    } else {
+        score
     }
 }
 

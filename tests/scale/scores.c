@@ -138,7 +138,7 @@ static void put_in(struct chance *c, struct score *score, const uint8_t *record)
 
 void strike(struct chance *c, struct score *score, uint64_t position) {
     uint8_t record[RECORD];
-    put_record(record, (uint32_t)position, ON, (uint8_t)below(c, 128), (uint8_t)below(c, 128));
+    put_record(record, (uint32_t)position, ON, (uint8_t)below(c, 128), (uint8_t)(1 + below(c, 127)));
     put_in(c, score, record);
 }
 
@@ -149,7 +149,7 @@ static uint32_t edit_position(struct chance *c, size_t n) {
     return PICK(c, near);
 }
 
-/* Often none, of an on that has one. */
+/* Of an on that strikes often 0, else any. */
 static uint8_t another_velocity(struct chance *c, const uint8_t *record) {
     bool falls = record[6] == ON && record[8] > 0 && one_in(c, 3);
     return falls ? 0 : (uint8_t)below(c, 128);

@@ -5,9 +5,9 @@
 -- rendered and continued alike, whatever the call is lent, and where one is refused, with 6, 7 or 10, so is the other.
 -- They are not equal as scores: a re-render from one to the other starts at the section of the first record that is
 -- written otherwise, and makes the same again.
--- The voice's own `note_on` strikes with any velocity, and so does the event `Strike`; no record gives that event with
--- velocity 0. The arguments are in proofs/ButReleases.antt of the crate `state` and in proofs/VelocityNought.antt.
--- Definitions only.
+-- "`VoiceState` itself keeps the Rust's behaviour": the voice's own `note_on` strikes with any velocity, and so does
+-- the event `Strike`; no record gives that event with velocity 0. The arguments are in proofs/ButReleases.antt of the
+-- crate `state` and in proofs/VelocityNought.antt. Definitions only.
 use mathlib.Core.Path.{_≡_}
 use mathlib.Core.Bool.{true}
 use mathlib.Core.List.{List}
@@ -16,9 +16,13 @@ use lib.Dec.{T}
 use lib.Ieee.{Float, binary64, fits}
 use Rattle.sections.specs.Outcome.{Outcome}
 use Rattle.answers.specs.declared.Answer.{Answer}
+use Rattle.answers.specs.declared.Answer.the-variants.{Done}
 use Rattle.score.specs.declared.Record.{Record}
-use Rattle.score.specs.declared.Kind.the-variants.{On, Off}
+use Rattle.score.specs.declared.Kind.the-variants.{On, Off, Reset}
 use Rattle.score.specs.Record.{countOf, recordAt}
+use Rattle.voice.specs.declared.VoiceState.{VoiceState}
+use Rattle.voice.specs.Keys.{pressedOf}
+use Rattle.voice.specs.Voice.{isVoice, soundingOf, noteOnOf}
 use Rattle.state.specs.declared.Settings.{Settings}
 use Rattle.state.specs.declared.State.{State}
 use Rattle.state.specs.declared.Event.the-variants as event
@@ -42,15 +46,20 @@ pub record VelocityNought : Type 0 where
   -- state leave the same state
   pub same-event : (g : Settings) (r off : Record) → IsNought r → off .kind ≡ Off → r .note ≡ off .note → eventOf g r ≡ eventOf g off
   pub same-state : (g : Settings) (v : State) (r off : Record) → IsNought r → off .kind ≡ Off → r .note ≡ off .note → actOf g v (eventOf g r) ≡ actOf g v (eventOf g off)
-  -- an on with any other velocity strikes, and every strike of an accepted score has a velocity from 1 to 127
+  -- an on with any other velocity strikes; a reset, whose velocity is 0 too, resets
   pub others-strike : (g : Settings) (r : Record) → r .kind ≡ On → 1 ≤ r .velocity → eventOf g r ≡ event.Strike (r .note) (r .velocity)
+  pub resets : (g : Settings) (r : Record) → r .kind ≡ Reset → eventOf g r ≡ event.Reset
+  -- every strike of an accepted score has a velocity from 1 to 127
   pub strike-velocities : (g : Settings) (s : List ℕ) → Taken s → (i : ℕ) → i < countOf s → (note velocity : ℕ) → eventOf g (recordAt s i) ≡ event.Strike note velocity → (1 ≤ velocity) × (velocity ≤ 127)
+  -- the voice's own call with velocity 0: note n sounds, with velocity 0, and its key is pressed
+  pub voice-strikes : (s : VoiceState) (n : ℕ) → isVoice s ≡ true → n ≤ 127 → noteOnOf s n 0 ≡ record { answer = Done 0; voice = soundingOf (pressedOf (s .keys) n 0) n 0 }
   -- the same states and samples are made, from every state and position
   pub states : (s t : List ℕ) → SameButReleases s t → (g : Settings) (n : ℕ) (v : State) (k : ℕ) → stateFrom g s n v k ≡ stateFrom g t n v k
   pub samples : (s t : List ℕ) → SameButReleases s t → (g : Settings) (n : ℕ) (v : State) (k : ℕ) → samplesFrom g s n v k ≡ samplesFrom g t n v k
   -- the calls leave the same, whatever they are lent
   pub rendered : (s t : List ℕ) → SameButReleases s t → Taken s → Taken t → (g : Settings) (out : List Float) (shelf : List ℕ) → renderOf g s out shelf ≡ renderOf g t out shelf
   pub continued : (s t : List ℕ) → SameButReleases s t → Taken s → Taken t → (g : Settings) (v : State) (p : ℕ) (part : List Float) → continueOf g s v p part ≡ continueOf g t v p part
-  -- a re-render from s to t, over what a render of s left
+  -- a re-render from s to t, over what a render of s left, leaves every sample and entry as it was; it answers what
+  -- demand 3 says
   pub re-rendered : (s t : List ℕ) → SameButReleases s t → Taken s → Taken t → (g : Settings) → settingsOk g ≡ true → T (fits binary64 (g .adsr .sustain)) → (n : ℕ) (b : Buffers n)
       → Unmoved (leftIn g s b) (rerenderOf g s t (leftIn g s b .heard) (leftIn g s b .stored))

@@ -37,7 +37,11 @@ release-lifts g r h = ⊎-elim (off-lifts g r) (nought-lifts g r) h
 pub other-strikes : (g : Settings) (r : Record) → r .kind ≡ On → 1 ≤ r .velocity → eventOf g r ≡ event.Strike (r .note) (r .velocity)
 other-strikes g r e h = rw (e, ne-eqb (r .velocity) 0 (λ z. omega arith)) refl
 
--- and no record strikes with velocity 0
+-- a reset resets, though its velocity is 0
+pub reset-resets : (g : Settings) (r : Record) → r .kind ≡ Reset → eventOf g r ≡ event.Reset
+reset-resets g r e = rw e refl
+
+-- no record strikes with velocity 0
 abbrev From1 : Event → Type 0
 From1 (event.Strike note velocity) = 1 ≤ velocity
 From1 (event.Lift note) = Unit

@@ -85,8 +85,8 @@ pub fn reduce(state: State) -> State
     next
 }
 
-// An on strikes the key of its note, an off lifts that key, and so does an on with velocity 0 (02, R-4); a reset
-// resets. No setting changes that today.
+// An on strikes the key of its note, but with velocity 0 it lifts that key, as an off does (02, R-4); a reset resets.
+// No setting changes that today.
 pub fn event_of(settings: Settings, given: Record) -> Event
     ensures { λ r. ⌜ r ≡ eventOf settings given ⌝ }
 {
