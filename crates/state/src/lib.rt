@@ -93,10 +93,10 @@ pub fn event_of(settings: Settings, given: Record) -> Event
     let kind = given.kind;
     match kind {
         Kind::On => {
-            if given.velocity > 0 {
-                return Event::Strike(given.note, given.velocity);
+            if given.velocity == 0 {
+                return Event::Lift(given.note);
             }
-            Event::Lift(given.note)
+            Event::Strike(given.note, given.velocity)
         }
         Kind::Off => Event::Lift(given.note),
         Kind::Reset => Event::Reset,
