@@ -1,6 +1,6 @@
 -- The claim of specs/VelocityNought.antt: `state`'s laws of scores that are the same but for how releases are written,
--- and that such scores, where both are accepted, meet the same refusals. Then two scores that it is about. Assumes
--- nothing.
+-- and that such scores, where both are accepted, meet the same refusals. Then two unequal scores that the claim is
+-- about. Assumes nothing.
 use mathlib.Core.Path.{_≡_, refl, sym, ap, _∙_}
 use mathlib.Core.Logic.{_⊎_, inl, inr}
 use mathlib.Core.Bool.{true}

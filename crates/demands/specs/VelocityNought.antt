@@ -59,7 +59,7 @@ pub record VelocityNought : Type 0 where
   -- the calls leave the same, whatever they are lent
   pub rendered : (s t : List ℕ) → SameButReleases s t → Taken s → Taken t → (g : Settings) (out : List Float) (shelf : List ℕ) → renderOf g s out shelf ≡ renderOf g t out shelf
   pub continued : (s t : List ℕ) → SameButReleases s t → Taken s → Taken t → (g : Settings) (v : State) (p : ℕ) (part : List Float) → continueOf g s v p part ≡ continueOf g t v p part
-  -- a re-render from s to t, over what a render of s left, leaves every sample and entry as it was; it answers what
-  -- demand 3 says
+  -- a re-render from s to t, over what a render of s left, leaves every sample and entry as it was; `Demand3`
+  -- says what the re-render answers
   pub re-rendered : (s t : List ℕ) → SameButReleases s t → Taken s → Taken t → (g : Settings) → settingsOk g ≡ true → T (fits binary64 (g .adsr .sustain)) → (n : ℕ) (b : Buffers n)
       → Unmoved (leftIn g s b) (rerenderOf g s t (leftIn g s b .heard) (leftIn g s b .stored))

@@ -37,7 +37,7 @@ release-lifts g r h = ⊎-elim (off-lifts g r) (nought-lifts g r) h
 pub other-strikes : (g : Settings) (r : Record) → r .kind ≡ On → 1 ≤ r .velocity → eventOf g r ≡ event.Strike (r .note) (r .velocity)
 other-strikes g r e h = rw (e, ne-eqb (r .velocity) 0 (λ z. omega arith)) refl
 
--- a reset resets, though its velocity is 0
+-- a reset resets, whatever its velocity, which is 0 in an accepted score
 pub reset-resets : (g : Settings) (r : Record) → r .kind ≡ Reset → eventOf g r ≡ event.Reset
 reset-resets g r e = rw e refl
 
