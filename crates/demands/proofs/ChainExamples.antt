@@ -22,6 +22,7 @@ use Rattle.score.specs.declared.Verdict.the-variants.{Accepted}
 use Rattle.score.specs.Record.{positionAt}
 use Rattle.score.specs.Score.{markRight, kindRight, fieldsRight, inOrder, faultsAt, faultsFrom, faultsOf, verdictOf}
 use Rattle.state.specs.declared.Settings.{Settings}
+use Rattle.state.specs.declared.Keying.the-variants.{Joined}
 use Rattle.state.specs.declared.State.{State}
 use Rattle.state.specs.Settings.{settingsOk}
 use Rattle.state.specs.State.{freshOf}
@@ -33,9 +34,9 @@ use Rattle.demands.proofs.Chain.{chain, chain-done}
 
 -- ---- the chains
 -- a square wave at 8,000 Hz; attack, decay and release half a second each, sustain one half; a tremolo of one half that
--- is a square wave of half a Hz
+-- is a square wave of half a Hz; notes are joined
 abbrev pub trembling : Settings
-trembling = record { rate = 8000; waveform = Square; adsr = record { attack = half; decay = half; sustain = half; release = half }; lfo = record { waveform = Square; frequency = half; depth = half } }
+trembling = record { rate = 8000; waveform = Square; adsr = record { attack = half; decay = half; sustain = half; release = half }; lfo = record { waveform = Square; frequency = half; depth = half }; keying = Joined }
 
 -- note 69 on at 0
 abbrev pub begins : List ℕ

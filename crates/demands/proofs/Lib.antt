@@ -27,3 +27,5 @@ pub mod Tremolo
 pub mod NeverNegative
 -- a note-on with velocity 0 is a note-off, and how a release is written is not heard
 pub mod VelocityNought
+-- a key is struck or joined: joined, it triggers the envelope only where no note was active just before
+pub mod JoinedNotes

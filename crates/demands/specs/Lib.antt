@@ -5,3 +5,4 @@ pub mod Edits
 pub mod Tremolo
 pub mod NeverNegative
 pub mod VelocityNought
+pub mod JoinedNotes

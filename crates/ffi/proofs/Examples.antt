@@ -9,7 +9,7 @@ use Rattle.answers.specs.declared.ScoreFault.the-variants.{Kind, Order}
 use Rattle.floats.specs.Double.{zero64}
 use Rattle.ffi.specs.Packed.{packedOf}
 use Rattle.ffi.specs.declared.Choice.the-variants.{Unknown}
-use Rattle.ffi.specs.Ffi.{asks, shapeOf, choiceOf, singleOf}
+use Rattle.ffi.specs.Ffi.{asks, shapeOf, mannerOf, choiceOf, singleOf}
 
 -- done with count 0, done with count 4,096; position of record 1 below that of record 0; the new score's record 3 has a
 -- wrong kind; 6
@@ -30,7 +30,9 @@ pub judged : (singleOf 9 nan zero64 zero64 .answer ∷ singleOf 4 zero64 zero64 
 unfolding shapeOf ofBits le lt eq
 judged = refl
 
--- an LFO's code of 5 is unknown beside a waveform that is known, as a waveform's of 5 is beside an LFO
-pub unknown : (choiceOf (asks 8000 0 zero64 zero64 zero64 zero64 zero64 5 zero64 zero64 zero64) ∷ choiceOf (asks 8000 5 zero64 zero64 zero64 zero64 zero64 0 zero64 zero64 zero64) ∷ []) ≡ Unknown ∷ Unknown ∷ []
-unfolding shapeOf choiceOf
+-- an LFO's code of 5 is unknown beside a waveform that is known, as a waveform's of 5 is beside an LFO; and so is 2 for
+-- joined beside two codes that are known
+pub unknown : (choiceOf (asks 8000 0 zero64 zero64 zero64 zero64 zero64 5 zero64 zero64 zero64 0) ∷ choiceOf (asks 8000 5 zero64 zero64 zero64 zero64 zero64 0 zero64 zero64 zero64 0) ∷ choiceOf (asks 8000 0 zero64 zero64 zero64 zero64 zero64 0 zero64 zero64 zero64 2) ∷ [])
+    ≡ Unknown ∷ Unknown ∷ Unknown ∷ []
+unfolding shapeOf mannerOf choiceOf
 unknown = refl

@@ -3,7 +3,8 @@
 -- it, on numbers and byte slices. Sine to Pulse are codes 0 to 4 there, in the Rust's order. A single sample takes
 -- code, normalised phase, dt and a duty that is read and judged for Pulse only; for Sine u is the phase"; number 6: "at
 -- the desk also a waveform code above 4". 02, R-7: "Settings gain an LFO"; "6 covers the new settings", and so a code
--- of the LFO's waveform above 4.
+-- of the LFO's waveform above 4. 02, R-9: "A setting chooses joined or struck"; 0 is struck, 1 joined, and any other
+-- number is 6.
 -- Beyond 01: render, re-render, continuing call, fresh state and listing, on slices of f64 and u64 too.
 -- Each outcome is that of the call of the crate below, with its answer packed into one word, and what is left in every
 -- lent buffer. Definitions only.
@@ -29,6 +30,8 @@ use Rattle.rerender.specs.Rerender.{rerenderOf}
 use Rattle.score.specs.Below.{countBelow}
 use Rattle.score.specs.Score.{answerOf}
 use Rattle.shelf.specs.Shelf.{entryWords, entryOf, stateOf, isEntry}
+use Rattle.state.specs.declared.Keying.{Keying}
+use Rattle.state.specs.declared.Keying.the-variants.{Struck, Joined}
 use Rattle.state.specs.declared.Settings.{Settings}
 use Rattle.state.specs.State.{freshOf}
 use Rattle.state.specs.Heart.{stateFrom, samplesFrom}
@@ -38,6 +41,8 @@ use Rattle.waveform.specs.Waveform.{sampleOf}
 use Rattle.ffi.specs.declared.Asked.{Asked}
 use Rattle.ffi.specs.declared.Shape.{Shape}
 use Rattle.ffi.specs.declared.Shape.the-variants as shape
+use Rattle.ffi.specs.declared.Manner.{Manner}
+use Rattle.ffi.specs.declared.Manner.the-variants as manner
 use Rattle.ffi.specs.declared.Choice.{Choice}
 use Rattle.ffi.specs.declared.Choice.the-variants.{Known, Unknown}
 use Rattle.ffi.specs.Packed.{packedOf}
@@ -62,8 +67,8 @@ continues result part ws = record { result = result; heard = part; words = ws }
 
 -- ---- the settings
 -- what a host asks for, in its own numbers
-abbrev pub asks : ℕ → ℕ → Float → Float → Float → Float → Float → ℕ → Float → Float → Float → Asked
-asks rate code duty attack decay sustain release lfoCode lfoDuty lfoFrequency lfoDepth =
+abbrev pub asks : ℕ → ℕ → Float → Float → Float → Float → Float → ℕ → Float → Float → Float → ℕ → Asked
+asks rate code duty attack decay sustain release lfoCode lfoDuty lfoFrequency lfoDepth joined =
     record {
       rate = rate;
       code = code;
@@ -76,6 +81,7 @@ asks rate code duty attack decay sustain release lfoCode lfoDuty lfoFrequency lf
       «lfo_duty» = lfoDuty;
       «lfo_frequency» = lfoFrequency;
       «lfo_depth» = lfoDepth;
+      joined = joined;
     }
 
 -- the table of codes: 0 to 4 in the Rust's order, every other code is unknown; only Pulse reads the duty
@@ -87,23 +93,29 @@ shapeOf code duty =
     (cond (eqb code 3) (shape.Known Triangle)
     (cond (eqb code 4) (shape.Known (Pulse duty)) shape.Unknown))))
 
--- the settings that a host asks for, with the waveforms of its two codes
-abbrev pub settingsOf : Asked → Waveform → Waveform → Settings
-settingsOf a w l =
+-- 0 is struck, 1 joined, every other number is unknown
+unfoldable pub mannerOf : ℕ → Manner
+mannerOf joined = cond (eqb joined 0) (manner.Known Struck) (cond (eqb joined 1) (manner.Known Joined) manner.Unknown)
+
+-- the settings that a host asks for, with what its two codes and its choice of struck or joined stand for
+abbrev pub settingsOf : Asked → Waveform → Waveform → Keying → Settings
+settingsOf a w l k =
     record {
       rate = a .rate;
       waveform = w;
       adsr = record { attack = a .attack; decay = a .decay; sustain = a .sustain; release = a .release };
       lfo = record { waveform = l; frequency = a .«lfo_frequency»; depth = a .«lfo_depth» };
+      keying = k;
     }
 
-abbrev pub choiceFor : Shape → Shape → Asked → Choice
-choiceFor (shape.Known w) (shape.Known l) a = Known (settingsOf a w l)
-choiceFor (shape.Known w) shape.Unknown a = Unknown
-choiceFor shape.Unknown l a = Unknown
+abbrev pub choiceFor : Shape → Shape → Manner → Asked → Choice
+choiceFor (shape.Known w) (shape.Known l) (manner.Known k) a = Known (settingsOf a w l k)
+choiceFor (shape.Known w) (shape.Known l) manner.Unknown a = Unknown
+choiceFor (shape.Known w) shape.Unknown m a = Unknown
+choiceFor shape.Unknown l m a = Unknown
 
 unfoldable pub choiceOf : Asked → Choice
-choiceOf a = choiceFor (shapeOf (a .code) (a .duty)) (shapeOf (a .«lfo_code») (a .«lfo_duty»)) a
+choiceOf a = choiceFor (shapeOf (a .code) (a .duty)) (shapeOf (a .«lfo_code») (a .«lfo_duty»)) (mannerOf (a .joined)) a
 
 -- ---- the score's check
 abbrev pub checkOf : List ℕ → ℕ

@@ -1,8 +1,9 @@
 -- The version of what C sees. It grows with every change of a call's arguments or of the number of words of a state, so
 -- a host and a library with the same number fit each other. include/gavberin.h has the number as GAV_VERSION, and the
--- shared library's name carries it (libgavberin.so.2). Definitions only.
+-- shared library's name carries it (libgavberin.so.3). Definitions only.
 use Prim.Native.Nat.{ℕ}
 
--- version 1: seven settings, and a state of twelve words; version 2, with 02's R-7: eleven, and thirteen words
+-- version 1: seven settings, and a state of twelve words; version 2, with 02's R-7: eleven, and thirteen words; version
+-- 3, with R-9: twelve settings
 abbrev pub version : ℕ
-version = 2
+version = 3

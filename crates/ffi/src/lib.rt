@@ -7,18 +7,19 @@ ghost use mathlib.Core.Path.{_≡_};
 ghost use Rattle.sections.specs.Outcome.{leaves};
 ghost use Rattle.ffi.specs.Packed.{packedOf};
 ghost use Rattle.ffi.specs.Version.{version};
-ghost use Rattle.ffi.specs.Ffi.{fills, continues, shapeOf, asks, choiceOf, checkOf, singleOf, renderFor, rerenderFor, continueIn, continueFor, freshFor, listFor};
+ghost use Rattle.ffi.specs.Ffi.{fills, continues, shapeOf, mannerOf, asks, choiceOf, checkOf, singleOf, renderFor, rerenderFor, continueIn, continueFor, freshFor, listFor};
 use answers::Answer;
 use answers::Refusal;
 use answers::Value;
 use envelope::Adsr;
 use shelf::ENTRY_WORDS;
+use state::Keying;
 use state::Settings;
 use tremolo::Lfo;
 use waveform::Waveform;
 
 // GAV_VERSION of the header.
-const VERSION: u32 = 2;
+const VERSION: u32 = 3;
 
 // What a host asks for, in its own numbers.
 pub struct Asked {
@@ -33,6 +34,7 @@ pub struct Asked {
     pub lfo_duty: f64,
     pub lfo_frequency: f64,
     pub lfo_depth: f64,
+    pub joined: u32,
 }
 
 // The waveform of a code; unknown where the code is above 4.
@@ -41,7 +43,13 @@ pub enum Shape {
     Unknown,
 }
 
-// The settings that a host asks for; unknown where a code of theirs is above 4.
+// Whether notes are struck or joined; unknown where the host's number is above 1.
+pub enum Manner {
+    Known(Keying),
+    Unknown,
+}
+
+// The settings that a host asks for; unknown where a code of theirs is above 4, or `joined` above 1.
 pub enum Choice {
     Known(Settings),
     Unknown,
@@ -96,11 +104,12 @@ pub extern "C" fn gav_render(
     lfo_duty: f64,
     lfo_frequency: f64,
     lfo_depth: f64,
+    joined: u32,
     score: &[u8],
     out: &mut [f64],
     shelf: &mut [u64],
 ) -> u64
-    ensures { λ r. ⌜ leaves r (now (out .exit)) (now (shelf .exit)) ≡ renderFor (choiceOf (asks rate code duty attack decay sustain release «lfo_code» «lfo_duty» «lfo_frequency» «lfo_depth»)) (now (score .entry)) (now (out .entry)) (now (shelf .entry)) ⌝ }
+    ensures { λ r. ⌜ leaves r (now (out .exit)) (now (shelf .exit)) ≡ renderFor (choiceOf (asks rate code duty attack decay sustain release «lfo_code» «lfo_duty» «lfo_frequency» «lfo_depth» joined)) (now (score .entry)) (now (out .entry)) (now (shelf .entry)) ⌝ }
 {
     let asked = Asked {
         rate,
@@ -114,6 +123,7 @@ pub extern "C" fn gav_render(
         lfo_duty,
         lfo_frequency,
         lfo_depth,
+        joined,
     };
     let choice = choice_of(asked);
     let Choice::Known(settings) = choice else {
@@ -139,12 +149,13 @@ pub extern "C" fn gav_rerender(
     lfo_duty: f64,
     lfo_frequency: f64,
     lfo_depth: f64,
+    joined: u32,
     old: &[u8],
     new: &[u8],
     out: &mut [f64],
     shelf: &mut [u64],
 ) -> u64
-    ensures { λ r. ⌜ leaves r (now (out .exit)) (now (shelf .exit)) ≡ rerenderFor (choiceOf (asks rate code duty attack decay sustain release «lfo_code» «lfo_duty» «lfo_frequency» «lfo_depth»)) (now (old .entry)) (now (new .entry)) (now (out .entry)) (now (shelf .entry)) ⌝ }
+    ensures { λ r. ⌜ leaves r (now (out .exit)) (now (shelf .exit)) ≡ rerenderFor (choiceOf (asks rate code duty attack decay sustain release «lfo_code» «lfo_duty» «lfo_frequency» «lfo_depth» joined)) (now (old .entry)) (now (new .entry)) (now (out .entry)) (now (shelf .entry)) ⌝ }
 {
     let asked = Asked {
         rate,
@@ -158,6 +169,7 @@ pub extern "C" fn gav_rerender(
         lfo_duty,
         lfo_frequency,
         lfo_depth,
+        joined,
     };
     let choice = choice_of(asked);
     let Choice::Known(settings) = choice else {
@@ -181,12 +193,13 @@ pub extern "C" fn gav_continue(
     lfo_duty: f64,
     lfo_frequency: f64,
     lfo_depth: f64,
+    joined: u32,
     score: &[u8],
     state: &mut [u64],
     position: u64,
     part: &mut [f64],
 ) -> u64
-    ensures { λ r. ⌜ continues r (now (part .exit)) (now (state .exit)) ≡ continueFor (choiceOf (asks rate code duty attack decay sustain release «lfo_code» «lfo_duty» «lfo_frequency» «lfo_depth»)) (now (score .entry)) (now (state .entry)) position (now (part .entry)) ⌝ }
+    ensures { λ r. ⌜ continues r (now (part .exit)) (now (state .exit)) ≡ continueFor (choiceOf (asks rate code duty attack decay sustain release «lfo_code» «lfo_duty» «lfo_frequency» «lfo_depth» joined)) (now (score .entry)) (now (state .entry)) position (now (part .entry)) ⌝ }
 {
     let asked = Asked {
         rate,
@@ -200,6 +213,7 @@ pub extern "C" fn gav_continue(
         lfo_duty,
         lfo_frequency,
         lfo_depth,
+        joined,
     };
     let choice = choice_of(asked);
     let Choice::Known(settings) = choice else {
@@ -256,15 +270,29 @@ fn shape_of(code: u32, duty: f64) -> Shape
     }
 }
 
+fn manner_of(joined: u32) -> Manner
+    ensures { λ r. ⌜ r ≡ mannerOf joined ⌝ }
+{
+    match joined {
+        0 => Manner::Known(Keying::Struck),
+        1 => Manner::Known(Keying::Joined),
+        _ => Manner::Unknown,
+    }
+}
+
 fn choice_of(asked: Asked) -> Choice
     ensures { λ r. ⌜ r ≡ choiceOf asked ⌝ }
 {
     let shape = shape_of(asked.code, asked.duty);
     let lfo_shape = shape_of(asked.lfo_code, asked.lfo_duty);
+    let manner = manner_of(asked.joined);
     let Shape::Known(waveform) = shape else {
         return Choice::Unknown;
     };
     let Shape::Known(lfo_waveform) = lfo_shape else {
+        return Choice::Unknown;
+    };
+    let Manner::Known(keying) = manner else {
         return Choice::Unknown;
     };
     let adsr = Adsr {
@@ -283,6 +311,7 @@ fn choice_of(asked: Asked) -> Choice
         waveform,
         adsr,
         lfo,
+        keying,
     })
 }
 

@@ -7,9 +7,11 @@ use Rattle.state.specs.declared.Settings.{Settings}
 use Rattle.ffi.specs.declared.Asked.{Asked}
 use Rattle.ffi.specs.declared.Shape.{Shape}
 use Rattle.ffi.specs.declared.Shape.the-variants as shape
+use Rattle.ffi.specs.declared.Manner.{Manner}
+use Rattle.ffi.specs.declared.Manner.the-variants as manner
 use Rattle.ffi.specs.declared.Choice.{Choice}
 use Rattle.ffi.specs.declared.Choice.the-variants.{Known, Unknown}
-use Rattle.ffi.specs.Ffi.{shapeOf, settingsOf, choiceFor, choiceOf}
+use Rattle.ffi.specs.Ffi.{shapeOf, mannerOf, settingsOf, choiceFor, choiceOf}
 use Rattle.score.proofs.Parted.{clash}
 
 pub record IsKnown (a : Asked) : Type 0 where
@@ -25,9 +27,10 @@ is-known a n = go (choiceOf a) refl
 
 pub sustain-fits : (a : Asked) → T (fits binary64 (a .sustain)) → (g : Settings) → choiceOf a ≡ Known g → T (fits binary64 (g .adsr .sustain))
 unfolding choiceOf
-sustain-fits a w g e = go (shapeOf (a .code) (a .duty)) (shapeOf (a .«lfo_code») (a .«lfo_duty»)) e
+sustain-fits a w g e = go (shapeOf (a .code) (a .duty)) (shapeOf (a .«lfo_code») (a .«lfo_duty»)) (mannerOf (a .joined)) e
   where
-    go : (x y : Shape) → choiceFor x y a ≡ Known g → T (fits binary64 (g .adsr .sustain))
-    go (shape.Known f) (shape.Known l) e = let q : settingsOf a f l ≡ g = cc in subst (λ (x : Float). T (fits binary64 x)) (ap (λ (h : Settings). h .adsr .sustain) q) w
-    go (shape.Known f) shape.Unknown e = absurd (clash (cc))
-    go shape.Unknown y e = absurd (clash (cc))
+    go : (x y : Shape) (m : Manner) → choiceFor x y m a ≡ Known g → T (fits binary64 (g .adsr .sustain))
+    go (shape.Known f) (shape.Known l) (manner.Known k) e = let q : settingsOf a f l k ≡ g = cc in subst (λ (x : Float). T (fits binary64 x)) (ap (λ (h : Settings). h .adsr .sustain) q) w
+    go (shape.Known f) (shape.Known l) manner.Unknown e = absurd (clash (cc))
+    go (shape.Known f) shape.Unknown m e = absurd (clash (cc))
+    go shape.Unknown y m e = absurd (clash (cc))

@@ -19,18 +19,18 @@ use Rattle.demands.proofs.ChainExamples.{trembling, trembling-ok, begins, begin
 use Rattle.demands.specs.Demand3.{Taken}
 use Rattle.ffi.specs.declared.Asked.{Asked}
 use Rattle.ffi.specs.declared.Choice.the-variants.{Known}
-use Rattle.ffi.specs.Ffi.{Continued, asks, shapeOf, choiceOf}
+use Rattle.ffi.specs.Ffi.{Continued, asks, shapeOf, mannerOf, choiceOf}
 use Rattle.ffi_demands.specs.WordsChain.{wordsChain, AllZero, OneFfiRender}
 use Rattle.ffi_demands.specs.WordsEdits.{wordsEdits, LastFfiRender}
 use Rattle.ffi_demands.proofs.FfiChain.{desk-chain, desk-chain-done}
 use Rattle.ffi_demands.proofs.FfiEdits.{desk-edits, desk-edits-done}
 
--- code 1 is a square wave, which reads no duty, and the LFO's too
+-- code 1 is a square wave, which reads no duty, and the LFO's too; 1 is joined
 abbrev pub square : Asked
-square = asks 8000 1 half (trembling .adsr .attack) (trembling .adsr .decay) (trembling .adsr .sustain) (trembling .adsr .release) 1 half (trembling .lfo .frequency) (trembling .lfo .depth)
+square = asks 8000 1 half (trembling .adsr .attack) (trembling .adsr .decay) (trembling .adsr .sustain) (trembling .adsr .release) 1 half (trembling .lfo .frequency) (trembling .lfo .depth) 1
 
 known : choiceOf square ≡ Known trembling
-unfolding shapeOf choiceOf
+unfolding shapeOf mannerOf choiceOf
 known = refl
 
 -- ---- a chain

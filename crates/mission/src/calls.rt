@@ -5,12 +5,13 @@ use crate::compared;
 use libc::STDOUT_FILENO;
 
 // What the script chooses between: the pad, a slowly falling sawtooth with a tremolo of 5 Hz, so that every comparison
-// holds the LFO's phase too; and a square with sustain 1.0, after a short decay and after a long one.
+// holds the LFO's phase too; a square with sustain 1.0, after a short decay and after a long one; and the pad joined.
 struct Settings {
     code: u32,
     decay: f64,
     sustain: f64,
     depth: f64,
+    joined: u32,
 }
 
 // The words of an entry.
@@ -72,6 +73,7 @@ fn call(now: Now, letter: u8, old: &[u8], new: &[u8], out: &mut [f64], shelf: &m
             0.5,
             5.0,
             s.depth,
+            s.joined,
             new,
             out,
             shelf,
@@ -88,6 +90,7 @@ fn call(now: Now, letter: u8, old: &[u8], new: &[u8], out: &mut [f64], shelf: &m
             0.5,
             5.0,
             s.depth,
+            s.joined,
             old,
             new,
             out,
@@ -119,6 +122,7 @@ fn continued(s: Settings, score: &[u8], state: &mut [u64], position: u64, part: 
         0.5,
         5.0,
         s.depth,
+        s.joined,
         score,
         state,
         position,
@@ -132,7 +136,12 @@ fn settings_of(which: u64) -> Settings {
         decay: 10.0,
         sustain: 0.2,
         depth: 0.6,
+        joined: 0,
     };
+    if which == 3 {
+        s.joined = 1;
+        return s;
+    }
     if which > 0 {
         s.code = 1;
         s.sustain = 1.0;

@@ -41,8 +41,8 @@ use Rattle.state.specs.declared.Settings.{Settings}
 use Rattle.state.specs.declared.State.{State}
 use Rattle.state.specs.declared.Event.{Event}
 use Rattle.state.specs.declared.Event.the-variants as event
-use Rattle.state.specs.State.{concert, freshOf, afterNoteOff, actOf}
-use Rattle.state.specs.Calls.{Alike, voiceCall, envelopeCall, phaseThen}
+use Rattle.state.specs.State.{concert, freshOf, triggersOver, triggeredIf, afterNoteOff, actOf}
+use Rattle.state.specs.Calls.{Alike, voiceCall, calledIf, envelopeCall, phaseThen}
 use Rattle.state.proofs.Limits.{is-true, Kept, EventIn}
 
 -- ---- what a call leaves that is done
@@ -75,8 +75,12 @@ module _ (g : Settings) (v : State) (w : VoiceState) (b : EnvelopeBlock) (a : Al
   left-alike keys (FellBack note velocity) c e = record { keys = refl; frequency = refl; velocity = refl; envelope = a .envelope ∙ sym e }
   left-alike keys NoChange c e = record { keys = refl; frequency = a .frequency; velocity = a .velocity; envelope = a .envelope ∙ sym e }
 
-  off-block : (r : Bool) → cond r (envelope.noteOffOf b) (record { answer = Done 0; block = b }) .answer ≡ Done 0
-      → cond r (envelope.noteOffOf b) (record { answer = Done 0; block = b }) .block .envelope ≡ cond r (releasedOf (b .envelope)) (b .envelope)
+  on-block : (t : Bool) → calledIf t b (envelope.noteOnOf b) .answer ≡ Done 0 → calledIf t b (envelope.noteOnOf b) .block .envelope ≡ triggeredIf t (b .envelope)
+  on-block true d = block-left b (triggeredOf (b .envelope)) d
+  on-block false d = refl
+
+  off-block : (r : Bool) → calledIf r b (envelope.noteOffOf b) .answer ≡ Done 0
+      → calledIf r b (envelope.noteOffOf b) .block .envelope ≡ cond r (releasedOf (b .envelope)) (b .envelope)
   off-block true d = block-left b (releasedOf (b .envelope)) d
   off-block false d = refl
 
@@ -85,14 +89,14 @@ module _ (g : Settings) (v : State) (w : VoiceState) (b : EnvelopeBlock) (a : Al
   unfolding actOf
   lift-is note = ap (λ (keys : Keys). afterNoteOff v (liftedOf keys note .keys) (liftedOf keys note .off)) (a .keys)
 
-  lift-alike : (note : ℕ) → voiceCall w (event.Lift note) .answer ≡ Done 0 → envelopeCall w b (event.Lift note) .answer ≡ Done 0
-      → Alike (actOf g v (event.Lift note)) (voiceCall w (event.Lift note) .voice) (envelopeCall w b (event.Lift note) .block)
+  lift-alike : (note : ℕ) → voiceCall w (event.Lift note) .answer ≡ Done 0 → envelopeCall g w b (event.Lift note) .answer ≡ Done 0
+      → Alike (actOf g v (event.Lift note)) (voiceCall w (event.Lift note) .voice) (envelopeCall g w b (event.Lift note) .block)
   lift-alike note d f =
       let l = liftedOf (w .keys) note in
       rw (lift-is note, off-done w note d) (left-alike (l .keys) (l .off) _ (off-block (isReleased (l .off)) (rw (off-done w note d) at f)))
 
   -- if both calls are done, they leave what the event does
-  pub calls-act : (e : Event) → voiceCall w e .answer ≡ Done 0 → envelopeCall w b e .answer ≡ Done 0 → Alike (actOf g v e) (voiceCall w e .voice) (envelopeCall w b e .block)
+  pub calls-act : (e : Event) → voiceCall w e .answer ≡ Done 0 → envelopeCall g w b e .answer ≡ Done 0 → Alike (actOf g v e) (voiceCall w e .voice) (envelopeCall g w b e .block)
   unfolding actOf
   calls-act (event.Strike note velocity) d f =
       let after = soundingOf (pressedOf (w .keys) note velocity) note velocity in
@@ -101,7 +105,7 @@ module _ (g : Settings) (v : State) (w : VoiceState) (b : EnvelopeBlock) (a : Al
         keys = rw (a .keys, left) refl;
         frequency = rw left refl;
         velocity = rw left refl;
-        envelope = rw (a .envelope, block-left b (triggeredOf (b .envelope)) f) refl;
+        envelope = rw (a .keys, a .envelope, on-block (triggersOver (g .keying) (w .keys)) f) refl;
       }
   calls-act (event.Lift note) d f = lift-alike note d f
   calls-act event.Reset d f = let left = voice-left (unless (isVoice w) Argument) w voice.newOf d in record { keys = rw left refl; frequency = rw left same-pitch; velocity = rw left same-zero; envelope = rw (block-left b stages.freshOf f) refl }
@@ -134,7 +138,7 @@ pub fresh-alike : (acted : ℕ) (attack decay sustain release : Float) → Alike
 fresh-alike acted attack decay sustain release = record { keys = refl; frequency = same-pitch; velocity = same-zero; envelope = refl }
 
 -- ---- both calls are done
-module _ (P : Float → Type 0) (v : State) (k : Kept P v) (w : VoiceState) (b : EnvelopeBlock) (a : Alike v w b) where
+module _ (g : Settings) (P : Float → Type 0) (v : State) (k : Kept P v) (w : VoiceState) (b : EnvelopeBlock) (a : Alike v w b) where
   voice-in : isVoice w ≡ true
   unfolding isVoice
   voice-in =
@@ -146,11 +150,15 @@ module _ (P : Float → Type 0) (v : State) (k : Kept P v) (w : VoiceState) (b :
   block-in : isEnvelope (b .envelope) ≡ true
   block-in = is-true (isEnvelope (b .envelope)) (rw (a .envelope) at (k .envelope-in))
 
-  pub calls-done : (e : Event) → EventIn e → (voiceCall w e .answer ≡ Done 0) × (envelopeCall w b e .answer ≡ Done 0)
-  calls-done (event.Strike note velocity) h = (rw (voice-in, le-leb note 127 (h .0), le-leb velocity 127 (h .1)) refl, rw block-in refl)
+  pub calls-done : (e : Event) → EventIn e → (voiceCall w e .answer ≡ Done 0) × (envelopeCall g w b e .answer ≡ Done 0)
+  calls-done (event.Strike note velocity) h = (rw (voice-in, le-leb note 127 (h .0), le-leb velocity 127 (h .1)) refl, go (triggersOver (g .keying) (w .keys)))
+    where
+      go : (t : Bool) → calledIf t b (envelope.noteOnOf b) .answer ≡ Done 0
+      go true = rw block-in refl
+      go false = refl
   calls-done (event.Lift note) h = (rw (voice-in, le-leb note 127 h) refl, go (isReleased (voice.noteOffOf w note .off)))
     where
-      go : (r : Bool) → cond r (envelope.noteOffOf b) (record { answer = Done 0; block = b }) .answer ≡ Done 0
+      go : (r : Bool) → calledIf r b (envelope.noteOffOf b) .answer ≡ Done 0
       go true = rw block-in refl
       go false = refl
   calls-done event.Reset h = (rw voice-in refl, rw block-in refl)

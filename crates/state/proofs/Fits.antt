@@ -1,6 +1,6 @@
 -- The floats of a state are values of an f64, and every step keeps that, for any score: what reading an entry back from
 -- its bits needs. The sustain setting is taken to be a value of an f64, as every f64 of a program is. Assumes nothing.
-use mathlib.Core.Bool.{cond}
+use mathlib.Core.Bool.{Bool, true, false, cond}
 use mathlib.Core.List.{List}
 use Prim.Native.Nat.{ℕ, _+_}
 use lib.Dec.{T}
@@ -17,13 +17,14 @@ use Rattle.voice.specs.declared.keys.NoteOff.{NoteOff}
 use Rattle.voice.specs.declared.keys.NoteOff.the-variants.{Released, FellBack, NoChange}
 use Rattle.envelope.specs.Limits.{clampedOf, sampleTimeOf}
 use Rattle.envelope.specs.declared.Adsr.{Adsr}
+use Rattle.envelope.specs.declared.Envelope.{Envelope}
 use Rattle.envelope.proofs.Holds.{Held, fresh-holds, triggered-holds, released-holds, step-holds}
 use Rattle.waveform.specs.Waveform.{tau}
 use Rattle.state.specs.declared.Settings.{Settings}
 use Rattle.state.specs.declared.State.{State}
 use Rattle.state.specs.declared.Event.{Event}
 use Rattle.state.specs.declared.Event.the-variants as event
-use Rattle.state.specs.State.{freshOf, reducedOf, afterNoteOff, actOf, phaseStepOf, lfoStepOf, advanceOf}
+use Rattle.state.specs.State.{freshOf, reducedOf, triggers, triggeredIf, afterNoteOff, actOf, phaseStepOf, lfoStepOf, advanceOf}
 use Rattle.state.specs.Heart.{begun, stateFrom}
 use Rattle.state.proofs.Lasting.{every-state, every-begun}
 
@@ -61,9 +62,13 @@ lifted-fits v k Released f = record { phase-fits = f .phase-fits; frequency-fits
 lifted-fits v k (FellBack n l) f = record { phase-fits = f .phase-fits; frequency-fits = pitch-fits n; velocity-fits = loudness-fits l; envelope-held = f .envelope-held; lfo-fits = f .lfo-fits }
 lifted-fits v k NoChange f = record { phase-fits = f .phase-fits; frequency-fits = f .frequency-fits; velocity-fits = f .velocity-fits; envelope-held = f .envelope-held; lfo-fits = f .lfo-fits }
 
+struck-holds : (t : Bool) (e : Envelope) → Held e → Held (triggeredIf t e)
+struck-holds true e h = triggered-holds e h
+struck-holds false e h = h
+
 act-fits : (g : Settings) (v : State) (e : Event) → Fitting v → Fitting (actOf g v e)
 unfolding actOf
-act-fits g v (event.Strike n l) f = record { phase-fits = f .phase-fits; frequency-fits = pitch-fits n; velocity-fits = loudness-fits l; envelope-held = triggered-holds (v .envelope) (f .envelope-held); lfo-fits = f .lfo-fits }
+act-fits g v (event.Strike n l) f = record { phase-fits = f .phase-fits; frequency-fits = pitch-fits n; velocity-fits = loudness-fits l; envelope-held = struck-holds (triggers g v) (v .envelope) (f .envelope-held); lfo-fits = f .lfo-fits }
 act-fits g v (event.Lift n) f = let l = liftedOf (v .keys) n in lifted-fits v (l .keys) (l .off) f
 act-fits g v event.Reset f = fresh-fits _
 

@@ -10,7 +10,7 @@ use Rattle.state.specs.declared.State.{State}
 
 -- g with another LFO
 abbrev pub withTremolo : Settings → Lfo → Settings
-withTremolo g l = record { rate = g .rate; waveform = g .waveform; adsr = g .adsr; lfo = l }
+withTremolo g l = record { rate = g .rate; waveform = g .waveform; adsr = g .adsr; lfo = l; keying = g .keying }
 
 -- v with another phase of the LFO
 abbrev pub withLfoPhase : State → Radians → State

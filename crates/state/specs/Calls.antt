@@ -2,10 +2,11 @@
 -- envelope's where it returned true. Reset: voice, envelope and phase to their fresh state."
 -- The calls are those of `VoiceState` and `EnvelopeBlock`, as their crates define them; `calls-act` in
 -- proofs/Calls.antt proves that an event does what they do. The voice's `note_off` says one of three (02, R-2), and
--- released is where the original's returned true.
+-- released is where the original's returned true. Under Joined an on skips the envelope's `note_on` where the voice has
+-- an active note before its own (02, R-9: "Demand 2's oracle skips the trigger in those cases").
 -- Frequency and velocity are f32 in a voice and f64 in a state. Every f32 is also an f64, so they are compared as
 -- numbers. Definitions only.
-use mathlib.Core.Bool.{cond}
+use mathlib.Core.Bool.{Bool, cond}
 use mathlib.Core.Path.{_≡_}
 use Rattle.floats.specs.Double.{zero64}
 use Rattle.answers.specs.declared.Answer.the-variants.{Done}
@@ -17,9 +18,11 @@ use Rattle.envelope.specs.declared.EnvelopeBlock.{EnvelopeBlock}
 use Rattle.envelope.specs.declared.Processed.{Processed}
 use Rattle.waveform.specs.Waveform.{radians}
 use Rattle.waveform.specs.declared.Radians.{Radians}
+use Rattle.state.specs.declared.Settings.{Settings}
 use Rattle.state.specs.declared.State.{State}
 use Rattle.state.specs.declared.Event.{Event}
 use Rattle.state.specs.declared.Event.the-variants as event
+use Rattle.state.specs.State.{triggersOver}
 
 -- the voice w and the envelope block b have the fields of the state v
 pub record Alike (v : State) (w : VoiceState) (b : EnvelopeBlock) : Type 0 where
@@ -34,11 +37,15 @@ voiceCall w (event.Strike note velocity) = voice.noteOnOf w note velocity
 voiceCall w (event.Lift note) = let off = voice.noteOffOf w note in record { answer = off .answer; voice = off .voice }
 voiceCall w event.Reset = voice.resetOf w
 
--- the envelope's note_off if the voice's says released, else no call
-abbrev pub envelopeCall : VoiceState → EnvelopeBlock → Event → Processed
-envelopeCall w b (event.Strike note velocity) = envelope.noteOnOf b
-envelopeCall w b (event.Lift note) = cond (voice.isReleased (voice.noteOffOf w note .off)) (envelope.noteOffOf b) (record { answer = Done 0; block = b })
-envelopeCall w b event.Reset = envelope.resetOf b
+-- the envelope is called, or it is not and stays
+abbrev pub calledIf : Bool → EnvelopeBlock → Processed → Processed
+calledIf called b after = cond called after (record { answer = Done 0; block = b })
+
+-- the envelope's note_on unless it is skipped, and its note_off if the voice's says released
+abbrev pub envelopeCall : Settings → VoiceState → EnvelopeBlock → Event → Processed
+envelopeCall g w b (event.Strike note velocity) = calledIf (triggersOver (g .keying) (w .keys)) b (envelope.noteOnOf b)
+envelopeCall g w b (event.Lift note) = calledIf (voice.isReleased (voice.noteOffOf w note .off)) b (envelope.noteOffOf b)
+envelopeCall g w b event.Reset = envelope.resetOf b
 
 -- what becomes of a phase, the oscillator's or the LFO's: an on and an off leave it, a reset sets it to 0
 abbrev pub phaseThen : Radians → Event → Radians

@@ -6,9 +6,11 @@
 -- phase is reduced at the same moments as the oscillator's, set to 0 by a reset record". An on and an off do not change
 -- the LFO's phase.
 -- 02, R-4: a note-on with velocity 0 "acts as a note-off of that note".
+-- 02, R-9: "A setting chooses joined or struck; struck is today's rule. Joined triggers the envelope only if no note was
+-- active just before. Note-off is as before"; "the active note decides, not the stack".
 -- 02, R-13, takes the branch for a negative remainder out of the voice's reduction; the block calls keep it.
 -- A reset does not set the number of records acted to 0: it is counted as one more. Definitions only.
-use mathlib.Core.Bool.{Bool, true, cond}
+use mathlib.Core.Bool.{Bool, true, false, cond}
 use Prim.Native.Nat.{ℕ, _+_}
 use lib.Dec.{ltb, eqb}
 use lib.Ieee.{Float, binary64, ofBits}
@@ -16,6 +18,8 @@ use Rattle.floats.specs.Double.{_⊕_, _⊗_, zero64}
 use Rattle.pitch.specs.Pitch.{frequencyOf}
 use Rattle.voice.specs.Keys.{freshKeys, pressedOf, liftedOf}
 use Rattle.voice.specs.Voice.{velocityOf}
+use Rattle.voice.specs.declared.keys.ActiveNote.{ActiveNote}
+use Rattle.voice.specs.declared.keys.ActiveNote.the-variants.{Silent, Note}
 use Rattle.voice.specs.declared.keys.Keys.{Keys}
 use Rattle.voice.specs.declared.keys.NoteOff.{NoteOff}
 use Rattle.voice.specs.declared.keys.NoteOff.the-variants.{Released, FellBack, NoChange}
@@ -29,6 +33,8 @@ use Rattle.tremolo.specs.Tremolo.{lfoAt, factorOf}
 use Rattle.score.specs.declared.Record.{Record}
 use Rattle.score.specs.declared.Kind.{Kind}
 use Rattle.score.specs.declared.Kind.the-variants.{On, Off, Reset}
+use Rattle.state.specs.declared.Keying.{Keying}
+use Rattle.state.specs.declared.Keying.the-variants.{Struck, Joined}
 use Rattle.state.specs.declared.Settings.{Settings}
 use Rattle.state.specs.declared.State.{State}
 use Rattle.state.specs.declared.Event.{Event}
@@ -72,8 +78,8 @@ reducedOf v = withPhases v (remainderOf (v .phase .0)) (remainderOf (v .lfo .0))
 
 -- ---- act
 -- what a record does: an on strikes a key (note, velocity), or lifts it where its velocity is 0 (02, R-4); an off lifts
--- a key (note); a reset resets. A lift releases the envelope only where the voice's note_off says released. The event
--- does not depend on the settings today
+-- a key (note); a reset resets. A lift releases the envelope only where the voice's note_off says released. No event
+-- depends on the settings: whether a strike triggers the envelope is said below
 abbrev pub eventFor : Kind → ℕ → ℕ → Event
 eventFor On note velocity = cond (eqb velocity 0) (event.Lift note) (event.Strike note velocity)
 eventFor Off note velocity = event.Lift note
@@ -82,14 +88,28 @@ eventFor Reset note velocity = event.Reset
 abbrev pub eventOf : Settings → Record → Event
 eventOf g r = eventFor (r .kind) (r .note) (r .velocity)
 
--- whether striking a key triggers the envelope: today always
+-- no note
+abbrev pub isSilent : ActiveNote → Bool
+isSilent Silent = true
+isSilent (Note n) = false
+
+-- whether a key that is struck triggers the envelope, over the keys just before (02, R-9): under Struck always, under
+-- Joined only if no note was active. Gate, held keys and stage do not matter
+abbrev pub triggersOver : Keying → Keys → Bool
+triggersOver Struck keys = true
+triggersOver Joined keys = isSilent (keys .active)
+
 abbrev pub triggers : Settings → State → Bool
-triggers g v = true
+triggers g v = triggersOver (g .keying) (v .keys)
+
+-- the envelope that is not triggered runs on
+abbrev pub triggeredIf : Bool → Envelope → Envelope
+triggeredIf t e = cond t (triggeredOf e) e
 
 -- the key is struck: its note sounds with this velocity
 abbrev pub struckOf : Settings → State → ℕ → ℕ → State
 struckOf g v note velocity =
-    withEnvelope (withNote (actedWith v (pressedOf (v .keys) note velocity)) note velocity) (cond (triggers g v) (triggeredOf (v .envelope)) (v .envelope))
+    withEnvelope (withNote (actedWith v (pressedOf (v .keys) note velocity)) note velocity) (triggeredIf (triggers g v) (v .envelope))
 
 -- a key is lifted, and these keys are left: voice and envelope are released, or a held note sounds, or nothing else
 -- changes

@@ -5,24 +5,33 @@ ghost use mathlib.Core.Path.{_≡_};
 ghost use Rattle.voice.specs.Keys.{liftedOf};
 ghost use Rattle.state.specs.Limits.{inLimits, isState};
 ghost use Rattle.state.specs.Settings.{settingsOk};
-ghost use Rattle.state.specs.State.{counted, freshOf, withNote, actedWith, reducedOf, eventOf, actOf, struckOf, afterNoteOff, nextEnvelopeOf, dryOf, sampleOf, advanceOf};
+ghost use Rattle.state.specs.State.{counted, freshOf, withNote, actedWith, reducedOf, eventOf, actOf, isSilent, triggers, triggeredIf, struckOf, afterNoteOff, nextEnvelopeOf, dryOf, sampleOf, advanceOf};
 use envelope::Adsr;
 use envelope::Envelope;
 use score::Kind;
 use score::Record;
 use tremolo::Lfo;
 use voice::keys;
+use voice::keys::ActiveNote;
 use voice::keys::Keys;
 use voice::keys::NoteOff;
 use waveform::Radians;
 use waveform::Waveform;
 
-// What does not change during a render: the rate in Hz, the choice of waveform, the envelope's settings and the LFO's.
+// Whether every key that is struck triggers the envelope, or only one that is struck while no note sounds (02, R-9).
+pub enum Keying {
+    Struck,
+    Joined,
+}
+
+// What does not change during a render: the rate in Hz, the choice of waveform, the envelope's settings, the LFO's, and
+// whether notes are struck or joined.
 pub struct Settings {
     pub rate: u32,
     pub waveform: Waveform,
     pub adsr: Adsr,
     pub lfo: Lfo,
+    pub keying: Keying,
 }
 
 // What changes from sample to sample: the oscillator's phase, the envelope, the voice's frequency in Hz and velocity
@@ -38,7 +47,8 @@ pub struct State {
 }
 
 // What a record does: it strikes a key (note, velocity), lifts a key (note), or sets all that sounds to its fresh
-// state. Whether a lift releases the envelope depends on the held keys.
+// state. Whether a strike triggers the envelope depends on the setting and the note that sounds, and whether a lift
+// releases it on the held keys.
 pub enum Event {
     Strike(u8, u8),
     Lift(u8),
@@ -86,7 +96,7 @@ pub fn reduce(state: State) -> State
 }
 
 // An on strikes the key of its note, but with velocity 0 it lifts that key, as an off does (02, R-4); a reset resets.
-// No setting changes that today.
+// No setting changes that.
 pub fn event_of(settings: Settings, given: Record) -> Event
     ensures { λ r. ⌜ r ≡ eventOf settings given ⌝ }
 {
@@ -187,10 +197,41 @@ fn strike(settings: Settings, state: State, note: u8, velocity: u8) -> State
     ensures { λ r. ⌜ r ≡ struckOf settings state note velocity ⌝ }
 {
     let keys = keys::pressed(state.keys, note, velocity);
-    let envelope = envelope::triggered(state.envelope);
+    let envelope = triggered_if(triggers(settings, state), state.envelope);
     let mut next = with_note(acted_with(state, keys), note, velocity);
     next.envelope = envelope;
     next
+}
+
+// Whether a key that is struck now triggers the envelope: joined to a note that sounds, it does not.
+fn triggers(settings: Settings, state: State) -> bool
+    ensures { λ r. ⌜ r ≡ triggers settings state ⌝ }
+{
+    let keying = settings.keying;
+    match keying {
+        Keying::Struck => true,
+        Keying::Joined => is_silent(state.keys),
+    }
+}
+
+// Whether no note sounds.
+fn is_silent(keys: Keys) -> bool
+    ensures { λ r. ⌜ r ≡ isSilent (keys .active) ⌝ }
+{
+    let active = keys.active;
+    match active {
+        ActiveNote::Silent => true,
+        ActiveNote::Note(_) => false,
+    }
+}
+
+fn triggered_if(triggers: bool, envelope: Envelope) -> Envelope
+    ensures { λ r. ⌜ r ≡ triggeredIf triggers envelope ⌝ }
+{
+    if triggers {
+        return envelope::triggered(envelope);
+    }
+    envelope
 }
 
 fn lift(state: State, note: u8) -> State
