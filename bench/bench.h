@@ -64,6 +64,7 @@ void report_end(const struct bench *bench);
 extern const char *const WAVES[5];
 void measure_renders(struct bench *bench);
 void measure_tremolos(struct bench *bench);
+void measure_keyings(struct bench *bench);
 void measure_continuing(struct bench *bench);
 void measure_edits(struct bench *bench);
 void measure_scores(struct bench *bench);

@@ -300,7 +300,7 @@ void best_render(const struct gav_settings *settings, const struct score *score,
     const uint8_t *next = score->bytes, *end = score->bytes + score->len;
     struct voice voice = voice_fresh();
     for (size_t i = 0, stop; i < n; i = stop) {
-        for (; next < end && record_position(next) == i; next += RECORD) voice_act(&voice, next);
+        for (; next < end && record_position(next) == i; next += RECORD) voice_act(&s, &voice, next);
         stop = span_end(i, next, end, n);
         play(&s, &voice, out + i, stop - i);
     }

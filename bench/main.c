@@ -39,7 +39,7 @@ int main(int argc, char **argv) {
     for (int i = 1; i < argc; i += 2) {
         if (i + 1 == argc || !read_option(argv[i], argv[i + 1], &b)) return usage();
     }
-    /* A pad, without a tremolo. */
+    /* A pad, without a tremolo and of struck notes. */
     b.settings = (struct gav_settings){
         .rate = 48000, .code = GAV_SINE, .duty = 0.25, .attack = 0.05, .decay = 0.3, .sustain = 0.6, .release = 0.4};
     b.score = make_score(b.seed, USUAL_KEYS, b.records, b.samples);
@@ -50,6 +50,7 @@ int main(int argc, char **argv) {
     best_prepare();
     measure_renders(&b);
     measure_tremolos(&b);
+    measure_keyings(&b);
     measure_continuing(&b);
     measure_edits(&b);
     measure_scores(&b);

@@ -17,6 +17,11 @@ static const char **place_of_value(const struct arguments *takes, const char *na
     return takes->settings ? setting_text(takes->settings, name) : NULL;
 }
 
+/* Whether the verb has the option, and the option a value. */
+static bool takes_value(const struct arguments *takes, const char *name) {
+    return place_of_value(takes, name) && !stands_alone(name);
+}
+
 /* Takes the option at *given, whose value follows a '=' or is the next word; *given is then at its last word. */
 static bool take_option(char ***given, const struct arguments *takes, struct why *why) {
     const char *word = **given, *equals = strchr(word, '=');
@@ -26,7 +31,10 @@ static bool take_option(char ***given, const struct arguments *takes, struct why
     const char **value = place_of_value(takes, name);
     if (!value) return misuse(why, "unknown option %s", word);
     if (*value) return misuse(why, "%s is given twice", name);
-    if (equals) {
+    if (!takes_value(takes, name)) {
+        if (equals) return misuse(why, "%s takes no value", name);
+        *value = word;
+    } else if (equals) {
         *value = equals + 1;
     } else if ((*given)[1]) {
         *value = *++*given;
@@ -40,7 +48,7 @@ static bool take_option(char ***given, const struct arguments *takes, struct why
 static bool asks_for_help(char **given, const struct arguments *takes) {
     for (; *given && strcmp(*given, "--") != 0; given++) {
         if (is_help(*given)) return true;
-        if (place_of_value(takes, *given) && given[1]) given++;
+        if (takes_value(takes, *given) && given[1]) given++;
     }
     return false;
 }

@@ -152,6 +152,8 @@ struct setting_texts {
 
 /* The place of an option's text; NULL where no setting has the option. */
 const char **setting_text(struct setting_texts *texts, const char *option);
+/* Whether the option of a setting stands alone, without a value; its text is then its name. */
+bool stands_alone(const char *option);
 bool read_settings(const struct setting_texts *texts, struct gav_settings *settings, struct why *why);
 /* How many samples the sound has; GAV_MOST_SAMPLES + 1 where it has more than GAV_MOST_SAMPLES. */
 bool read_length(const struct setting_texts *texts, const struct gav_settings *settings, const struct score *score,
@@ -333,7 +335,7 @@ size_t export_clips(const struct export *export, const double *at, size_t sample
            MOST_SCORE / 8u + 1u))
 
 /* The version of the file: another layout, or other samples for the same score, is another version. */
-#define SHELF_VERSION 4u
+#define SHELF_VERSION 5u
 
 /* What the file has beside the words of the entries. */
 struct shelf_file {

@@ -88,8 +88,9 @@ static void tell_wav(FILE *out, const char *path, const struct render *r) {
     const struct gav_settings *s = &r->about.settings;
     const struct export *export = &r->export;
     size_t samples = r->about.samples, clips = export_clips(export, r->sound.at, samples);
-    fprintf(out, "%s: %zu %s, %.3f s at %u Hz, %s, %u-bit %s%s%s%s\n", path, samples,
-            counted(samples, "sample", "samples"), (double)samples / s->rate, s->rate, wave_name(s->code), export->bits,
+    fprintf(out, "%s: %zu %s, %.3f s at %u Hz, %s%s, %u-bit %s%s%s%s\n", path, samples,
+            counted(samples, "sample", "samples"), (double)samples / s->rate, s->rate, wave_name(s->code),
+            s->joined == GAV_JOINED ? ", joined notes" : "", export->bits,
             export->bits < 32 ? "whole numbers" : "floats", *export->gain ? ", gain " : "", export->gain,
             *export->gain ? " dB" : "");
     tell_peak(out, path, peak_of(r->sound.at, samples), s->rate);

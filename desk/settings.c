@@ -6,12 +6,12 @@
 #include <stdlib.h>
 #include <string.h>
 
-enum kind { WHOLE, WAVE, NUMBER, LENGTH };
+enum kind { WHOLE, WAVE, KEYING, NUMBER, LENGTH };
 
 /* An option with several fields has a row for each, one after the other, and its text has commas between them. The
    limits are the library's, for words: it refuses what is outside, and a NaN; of a duty only where the waveform in the
-   field `pulse` is one. The length of a sound is an option beside the settings: it has no field of the struct and no
-   word of the head. */
+   field `pulse` is one. A keying's option has no value: where it is given, notes are joined. The length of a sound is
+   an option beside the settings: it has no field of the struct and no word of the head. */
 struct setting {
     const char *option;
     enum kind kind;
@@ -102,6 +102,15 @@ static const struct setting rows[] = {
      OF_PULSE(lfo_code),
      .form = "--tremolo-duty D",
      .help = "of a pulse in --tremolo: the fraction of its cycle that is loud, 0 to 1 (0.5)"},
+    {.option = "--joined",
+     .kind = KEYING,
+     FIELD(joined),
+     .word = 19,
+     .name = "keying",
+     .unit = "",
+     .form = "--joined",
+     .help = "a key that is pressed while a note sounds changes pitch and velocity, and leaves the\n"
+             "                   envelope running (without: every key begins the envelope anew)"},
     {.option = "--seconds",
      .kind = LENGTH,
      .form = "--seconds S",
@@ -140,6 +149,13 @@ static const char *wave_list(char room[WAVE_LIST_ROOM]) {
         used += (size_t)put;
     }
     return room;
+}
+
+/* The name of a code; NULL where the field is none, or where the code has no name. */
+static const char *code_name(const struct setting *row, double code) {
+    if (row->kind == WAVE) return wave_name((uint32_t)code);
+    if (row->kind != KEYING) return NULL;
+    return code == GAV_STRUCK ? "struck" : code == GAV_JOINED ? "joined" : NULL;
 }
 
 /* The first row of an option, at whose place its text is kept; ROWS where there is none. */
@@ -195,6 +211,9 @@ static bool read_field(const struct setting *row, const char *text, struct gav_s
         if (read) word = bits_of(number);
     } else if (row->kind == WAVE) {
         read = read_wave(row->option, text, &word, why);
+    } else if (row->kind == KEYING) {
+        word = GAV_JOINED;
+        read = true;
     } else {
         /* A unit begins with the blank that separates it from its number. */
         read = read_whole(row->option, row->unit + strspn(row->unit, " "), text, UINT32_MAX, &word, why);
@@ -231,6 +250,11 @@ const char **setting_text(struct setting_texts *texts, const char *option) {
     return row < ROWS ? &texts->of[row] : NULL;
 }
 
+bool stands_alone(const char *option) {
+    size_t row = row_of(option);
+    return row < ROWS && rows[row].kind == KEYING;
+}
+
 bool read_settings(const struct setting_texts *texts, struct gav_settings *settings, struct why *why) {
     struct gav_settings defaults = GAV_SETTINGS_DEFAULT;
     *settings = defaults;
@@ -241,7 +265,7 @@ bool read_settings(const struct setting_texts *texts, struct gav_settings *setti
     return true;
 }
 
-/* A field as a number; of a waveform its code. */
+/* A field as a number; of a waveform or a keying its code. */
 static double number_of(const struct setting *row, const struct gav_settings *settings) {
     uint64_t word = get_field(row, settings);
     return row->kind == NUMBER ? from_bits(word) : (double)word;
@@ -262,8 +286,8 @@ void put_settings(FILE *out, const struct gav_settings *settings) {
     char room[NUMBER_ROOM];
     for (const struct setting *row = rows; row < rows + ROWS && row->kind != LENGTH; row++) {
         double value = number_of(row, settings);
-        const char *wave = row->kind == WAVE ? wave_name((uint32_t)value) : NULL;
-        fprintf(out, "%s%s %s%s", row == rows ? "" : ", ", row->name, wave ? wave : number_words(value, room),
+        const char *name = code_name(row, value);
+        fprintf(out, "%s%s %s%s", row == rows ? "" : ", ", row->name, name ? name : number_words(value, room),
                 row->unit);
     }
 }
@@ -284,7 +308,7 @@ void put_settings_help(FILE *out) {
 static bool is_wrong(const struct setting *row, const struct gav_settings *settings) {
     double value = number_of(row, settings);
     uint32_t code = GAV_PULSE;
-    if (row->kind == WAVE) return !wave_name((uint32_t)value);
+    if (row->kind == WAVE || row->kind == KEYING) return !code_name(row, value);
     if (row->pulse) memcpy(&code, (const uint8_t *)settings + row->pulse, sizeof code);
     return code == GAV_PULSE && !(value >= row->lowest && value <= row->highest);
 }
@@ -297,6 +321,8 @@ bool find_wrong_setting(const struct gav_settings *settings, struct why *why) {
     number_words(number_of(row, settings), value);
     if (row->kind == WAVE) {
         refuse(why, "the %s's code, %s, is of no waveform", row->name, value);
+    } else if (row->kind == KEYING) {
+        refuse(why, "the %s's code, %s, is neither 0, struck, nor 1, joined", row->name, value);
     } else if (isinf(row->highest)) {
         refuse(why, "the %s, %s%s, is no number", row->name, value, row->unit);
     } else {

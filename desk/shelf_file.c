@@ -2,7 +2,8 @@
    bytes, low byte first:
 
        0        "GAVSHELF"
-       1        the version of this file, 4: in version 3, of the same words, an on with velocity 0 struck its key
+       1        the version of this file, 5: in version 4 there was no setting for joined notes, and in version 3 an on
+                with velocity 0 struck its key
        2        the version of the voice
        3        N, the samples of the sound
        4        bits of a sample in the WAV, 32 or 64

@@ -11,7 +11,7 @@ import ctypes
 import os
 import sys
 
-VERSION, SECTION, STATE_WORDS = 2, 4096, 13  # GAV_VERSION, GAV_SECTION and GAV_STATE_WORDS of gavberin.h
+VERSION, SECTION, STATE_WORDS = 3, 4096, 13  # GAV_VERSION, GAV_SECTION and GAV_STATE_WORDS of gavberin.h
 WHOLE, NUMBER = ctypes.c_uint32, ctypes.c_double
 
 # The settings in gav_render's order, each with its type and what GAV_SETTINGS_DEFAULT has.
@@ -27,6 +27,7 @@ SETTINGS = {
     "lfo_duty": (NUMBER, 0.5),
     "lfo_frequency": (NUMBER, 0.0),
     "lfo_depth": (NUMBER, 0.0),
+    "joined": (WHOLE, 0),
 }
 
 library = ctypes.CDLL(os.environ.get("GAVBERIN_SO", f"libgavberin.so.{VERSION}"))

@@ -32,7 +32,7 @@
  * reset), note (0 to 127), velocity (0 to 127), 00. Positions never fall, a reset has note and velocity 0, and there
  * are at most 4,096 records. An on with velocity 0 is the release of its key, as most keyboards send it: it acts as an
  * off of its note. Samples, shelves and states that an earlier library made of a score with such an on are stale, and
- * no call can tell: render the score anew. GAV_VERSION did not grow with this rule.
+ * no call can tell: render the score anew. GAV_VERSION did not grow with this rule; every library of version 3 has it.
  *
  * An output is divided into sections of 4,096 samples, the last of which may be short: section k starts at sample
  * 4096k. The shelf of an output has an entry for each section: the state before the section's first sample.
@@ -65,8 +65,9 @@ extern "C" {
 
 /* The version of what this header declares; gav_version gives the library's. It grows with every change of a call's
  * arguments or of the number of words of a state, so a host and a library of one version fit each other. The shared
- * library's name carries the version: libgavberin.so.2. Since version 2 there is a tremolo. */
-#define GAV_VERSION 2
+ * library's name carries the version: libgavberin.so.3. Since version 2 there is a tremolo; since version 3 notes may
+ * be joined. */
+#define GAV_VERSION 3
 
 /* The codes of the waveforms. */
 #define GAV_SINE 0
@@ -74,6 +75,10 @@ extern "C" {
 #define GAV_SAWTOOTH 2
 #define GAV_TRIANGLE 3
 #define GAV_PULSE 4
+
+/* The codes of joined: what a key does that is pressed while a note sounds. */
+#define GAV_STRUCK 0
+#define GAV_JOINED 1
 
 #define GAV_STATE_WORDS 13         /* words of a state, and of an entry of a shelf */
 #define GAV_SECTION 4096           /* samples of a section: from one entry of a shelf to the next */
@@ -89,8 +94,8 @@ enum gav_answer {
     GAV_SCORE_KIND = 3,        /* a record of the score: its kind is not 1, 2 or 3 */
     GAV_SCORE_FIELD = 4,       /* a record of the score: a field is out of range, or the last byte is not 0 */
     GAV_SCORE_ORDER = 5,       /* a record of the score: its position is below that of the record before */
-    GAV_SETTING = 6,           /* a rate, a code, a pulse's duty, an envelope setting, or the LFO's frequency or depth
-                                  outside its limits */
+    GAV_SETTING = 6,           /* a rate, a code, a pulse's duty, an envelope setting, the LFO's frequency or depth, or
+                                  joined outside its limits */
     GAV_SIZE = 7,              /* too many samples, a shelf of the wrong size, or too little room for a listing */
     GAV_START_ENTRY = 8,       /* re-render: the entry to start from is no state, or the new score has another number of
                                   records before it than have acted */
@@ -145,22 +150,28 @@ uint64_t gav_sample_says(uint32_t code, double phase, double dt, double duty);
  * lfo_code:      GAV_SINE to GAV_PULSE, 0 to 4; above is 6
  * lfo_duty:      the fraction of a cycle that a pulse is high, 0 to 1; else 6. Read where lfo_code is GAV_PULSE alone
  * lfo_frequency: Hz, 0 to 100; else 6
- * lfo_depth:     0 to 1; else 6 */
+ * lfo_depth:     0 to 1; else 6
+ * Struck, every key that is pressed triggers the envelope. Joined, a key that is pressed while a note sounds changes
+ * pitch and velocity at once, so that the loudness may step, and leaves the envelope running; it triggers the envelope
+ * only where no note sounds just before its record acts, which is after every earlier record, those at its position
+ * too. The held keys and the envelope's stage do not matter. Letting a key go is the same in both.
+ * joined: GAV_STRUCK or GAV_JOINED, 0 or 1; above is 6 */
 struct gav_settings {
     uint32_t rate, code;
     double duty, attack, decay, sustain, release;
     uint32_t lfo_code;
     double lfo_duty, lfo_frequency, lfo_depth;
+    uint32_t joined;
 };
 
 /* The settings that the desk takes where no option is given: struct gav_settings settings = GAV_SETTINGS_DEFAULT; They
- * have no tremolo: 0 Hz and depth 0. */
-#define GAV_SETTINGS_DEFAULT {48000, GAV_SAWTOOTH, 0.5, 0.01, 0.1, 0.7, 0.3, GAV_SINE, 0.5, 0.0, 0.0}
+ * have no tremolo, 0 Hz and depth 0, and struck notes. */
+#define GAV_SETTINGS_DEFAULT {48000, GAV_SAWTOOTH, 0.5, 0.01, 0.1, 0.7, 0.3, GAV_SINE, 0.5, 0.0, 0.0, GAV_STRUCK}
 
 /* The settings of a struct one by one, as the three calls take them. */
 #define GAV_SETTINGS_OF(s) \
     (s)->rate, (s)->code, (s)->duty, (s)->attack, (s)->decay, (s)->sustain, (s)->release, (s)->lfo_code, \
-    (s)->lfo_duty, (s)->lfo_frequency, (s)->lfo_depth
+    (s)->lfo_duty, (s)->lfo_frequency, (s)->lfo_depth, (s)->joined
 
 /* Renders a score: n samples from sample zero, and their shelf. The count is n. The end state is not given: for that
  * use gav_continue.
@@ -170,7 +181,8 @@ struct gav_settings {
  *                   on, is the state before sample 4096k */
 uint64_t gav_render(uint32_t rate, uint32_t code, double duty, double attack, double decay, double sustain,
                     double release, uint32_t lfo_code, double lfo_duty, double lfo_frequency, double lfo_depth,
-                    const uint8_t *score, size_t score_len, double *out, size_t n, uint64_t *shelf, size_t words);
+                    uint32_t joined, const uint8_t *score, size_t score_len, double *out, size_t n, uint64_t *shelf,
+                    size_t words);
 
 static inline uint64_t gav_render_with(const struct gav_settings *s, const uint8_t *score, size_t score_len, double *out,
                                        size_t n, uint64_t *shelf, size_t words) {
@@ -187,8 +199,8 @@ static inline uint64_t gav_render_with(const struct gav_settings *s, const uint8
  *                       section stays */
 uint64_t gav_rerender(uint32_t rate, uint32_t code, double duty, double attack, double decay, double sustain,
                       double release, uint32_t lfo_code, double lfo_duty, double lfo_frequency, double lfo_depth,
-                      const uint8_t *old, size_t old_len, const uint8_t *new_, size_t new_len, double *out, size_t n,
-                      uint64_t *shelf, size_t words);
+                      uint32_t joined, const uint8_t *old, size_t old_len, const uint8_t *new_, size_t new_len,
+                      double *out, size_t n, uint64_t *shelf, size_t words);
 
 static inline uint64_t gav_rerender_with(const struct gav_settings *s, const uint8_t *old, size_t old_len,
                                          const uint8_t *new_, size_t new_len, double *out, size_t n, uint64_t *shelf,
@@ -207,8 +219,8 @@ static inline uint64_t gav_rerender_with(const struct gav_settings *s, const uin
  * part, n:            the samples; position + n is at most GAV_MOST_SAMPLES, else 7. All are written */
 uint64_t gav_continue(uint32_t rate, uint32_t code, double duty, double attack, double decay, double sustain,
                       double release, uint32_t lfo_code, double lfo_duty, double lfo_frequency, double lfo_depth,
-                      const uint8_t *score, size_t score_len, uint64_t *state, size_t state_words, uint64_t position,
-                      double *part, size_t n);
+                      uint32_t joined, const uint8_t *score, size_t score_len, uint64_t *state, size_t state_words,
+                      uint64_t position, double *part, size_t n);
 
 static inline uint64_t gav_continue_with(const struct gav_settings *s, const uint8_t *score, size_t score_len,
                                          uint64_t *state, size_t state_words, uint64_t position, double *part, size_t n) {

@@ -77,6 +77,15 @@ static uint64_t tremolo_of_sine(void) { return tremolo_of(GAV_SINE, GAV_TRIANGLE
 static uint64_t tremolo_triangle(void) { return tremolo_of(GAV_SAWTOOTH, GAV_TRIANGLE, render_some); }
 static uint64_t tremolo_pulse(void) { return tremolo_of(GAV_SQUARE, GAV_PULSE, render_some); }
 static uint64_t tremolo_refused(void) { return tremolo_of(GAV_SQUARE, GAV_PULSE + 1, render_some); }
+/* Not struck, as the other calls are. */
+static uint64_t keying_of(uint32_t joined, uint64_t (*make)(uint32_t)) {
+    settings.joined = joined;
+    uint64_t said = make(GAV_SAWTOOTH);
+    settings.joined = GAV_STRUCK;
+    return said;
+}
+static uint64_t render_joined(void) { return keying_of(GAV_JOINED, render_some); }
+static uint64_t keying_refused(void) { return keying_of(GAV_JOINED + 1, render_some); }
 static uint64_t render_longest(void) { return render_of(GAV_SINE, GAV_MOST_SAMPLES); }
 static uint64_t render_sine(void) { return render_of(GAV_SINE, N); }
 static uint64_t render_square(void) { return render_of(GAV_SQUARE, N); }
@@ -120,6 +129,7 @@ static uint64_t continue_triangle(void) { return continue_of(GAV_TRIANGLE); }
 static uint64_t continue_pulse(void) { return continue_of(GAV_PULSE); }
 static uint64_t continue_tremolo(void) { return tremolo_of(GAV_SAWTOOTH, GAV_SINE, continue_of); }
 static uint64_t continue_tremolos(void) { return tremolo_of(GAV_SINE, GAV_TRIANGLE, continue_of); }
+static uint64_t continue_joined(void) { return keying_of(GAV_JOINED, continue_of); }
 static uint64_t continue_refused(void) {
     return gav_continue_with(&settings, score, sizeof score, state, 1, 0, out, 1);
 }
@@ -155,6 +165,8 @@ static const struct call calls[] = {
     {"gav_render, sawtooth, with a tremolo of a triangle", tremolo_triangle, 0},
     {"gav_render, square, with a tremolo of a pulse", tremolo_pulse, 0},
     {"gav_render, a refused tremolo", tremolo_refused, GAV_SETTING},
+    {"gav_render, sawtooth, joined", render_joined, 0},
+    {"gav_render, a refused keying", keying_refused, GAV_SETTING},
     {"gav_render, refused", render_refused, GAV_SETTING},
     {"gav_render, pulse", render_pulse, 0},
     {"gav_rerender, the last record", rerender_late, 0},
@@ -167,6 +179,7 @@ static const struct call calls[] = {
     {"gav_continue, pulse", continue_pulse, 0},
     {"gav_continue, sawtooth, with a tremolo of a sine", continue_tremolo, 0},
     {"gav_continue, sine, with a tremolo of a triangle", continue_tremolos, 0},
+    {"gav_continue, sawtooth, joined", continue_joined, 0},
     {"gav_continue, a long pulse, with a tremolo of a pulse", long_pulse, 0},
     {"gav_continue, refused", continue_refused, GAV_GIVEN_STATE},
 };

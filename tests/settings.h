@@ -5,7 +5,7 @@
 
 #define SETTINGS                                                                                                       \
     uint32_t rate, uint32_t code, double duty, double attack, double decay, double sustain, double release,            \
-        uint32_t lfo_code, double lfo_duty, double lfo_frequency, double lfo_depth
-#define GIVEN rate, code, duty, attack, decay, sustain, release, lfo_code, lfo_duty, lfo_frequency, lfo_depth
+        uint32_t lfo_code, double lfo_duty, double lfo_frequency, double lfo_depth, uint32_t joined
+#define GIVEN rate, code, duty, attack, decay, sustain, release, lfo_code, lfo_duty, lfo_frequency, lfo_depth, joined
 
 #endif

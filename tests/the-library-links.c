@@ -11,18 +11,25 @@
 #define RATE 44100
 #define ADSR 0.001, 0.1, 0.7, 0.2
 #define NO_LFO GAV_SINE, NAN, 0, 0
-#define SETTINGS RATE, GAV_SAWTOOTH, NAN, ADSR, NO_LFO
+#define PLAIN NO_LFO, GAV_STRUCK
+#define KEYED(joined) RATE, GAV_SAWTOOTH, NAN, ADSR, NO_LFO, joined
+#define SETTINGS KEYED(GAV_STRUCK)
+#define JOINED KEYED(GAV_JOINED)
 #define WORDS GAV_STATE_WORDS
 #define LEN(a) (sizeof(a) / sizeof *(a))
 
 #define ON_69 0x56, 0x4E, 0, 0, 0, 0, 1, 69, 127, 0
 #define OFF_69_AT_100 0x56, 0x4E, 100, 0, 0, 0, 2, 69, 0, 0
+#define AT_4500(kind, note, velocity) 0x56, 0x4E, 0x94, 0x11, 0, 0, kind, note, velocity, 0
+#define ON_60 AT_4500(1, 60, 100)
 
 static const uint8_t example[] = {ON_69, OFF_69_AT_100};
 /* the example, and note 60 on at 4,500 */
-static const uint8_t longer[] = {ON_69, OFF_69_AT_100, 0x56, 0x4E, 0x94, 0x11, 0, 0, 1, 60, 100, 0};
+static const uint8_t longer[] = {ON_69, OFF_69_AT_100, ON_60};
 /* the longer score, and a reset at 300 */
-static const uint8_t reset[] = {ON_69, OFF_69_AT_100, 0x56, 0x4E, 0x2C, 1, 0, 0, 3, 0, 0, 0, 0x56, 0x4E, 0x94, 0x11, 0, 0, 1, 60, 100, 0};
+static const uint8_t reset[] = {ON_69, OFF_69_AT_100, 0x56, 0x4E, 0x2C, 1, 0, 0, 3, 0, 0, 0, ON_60};
+/* note 69 on, and note 60 on at 4,500, while 69 sounds */
+static const uint8_t overlapping[] = {ON_69, ON_60};
 static const uint8_t wrong_mark[] = {ON_69, 0x56, 0x4F, 100, 0, 0, 0, 2, 69, 0, 0};
 static const uint8_t wrong_kind[] = {ON_69, 0x56, 0x4E, 100, 0, 0, 0, 4, 69, 0, 0};
 static const uint8_t wrong_note[] = {ON_69, 0x56, 0x4E, 100, 0, 0, 0, 2, 128, 0, 0};
@@ -126,10 +133,10 @@ static void samples(void) {
 
 static void renders(void) {
     spoil();
-    HOLD(gav_render(7999, GAV_SAWTOOTH, 0.5, ADSR, NO_LFO, example, 20, out, N, shelf, 25) == says(6, 0, 0));
-    HOLD(gav_render(RATE, 5, 0.5, ADSR, NO_LFO, example, 19, out, N, shelf, 2 * WORDS) == says(6, 0, 0));
-    HOLD(gav_render(RATE, GAV_PULSE, NAN, ADSR, NO_LFO, example, 20, out, N, shelf, 2 * WORDS) == says(6, 0, 0));
-    HOLD(gav_render(RATE, GAV_SINE, 0.5, NAN, 0, 0, 0, NO_LFO, example, 20, out, N, shelf, 2 * WORDS) == says(6, 0, 0));
+    HOLD(gav_render(7999, GAV_SAWTOOTH, 0.5, ADSR, PLAIN, example, 20, out, N, shelf, 25) == says(6, 0, 0));
+    HOLD(gav_render(RATE, 5, 0.5, ADSR, PLAIN, example, 19, out, N, shelf, 2 * WORDS) == says(6, 0, 0));
+    HOLD(gav_render(RATE, GAV_PULSE, NAN, ADSR, PLAIN, example, 20, out, N, shelf, 2 * WORDS) == says(6, 0, 0));
+    HOLD(gav_render(RATE, GAV_SINE, 0.5, NAN, 0, 0, 0, PLAIN, example, 20, out, N, shelf, 2 * WORDS) == says(6, 0, 0));
     HOLD(gav_render(SETTINGS, example, 19, out, N, shelf, 2 * WORDS - 1) == says(7, 0, 0));
     HOLD(gav_render(SETTINGS, example, 19, out, N, shelf, 2 * 12) == says(7, 0, 0));
     HOLD(gav_render(SETTINGS, wrong_kind, 20, out, N, shelf, 2 * WORDS) == says(3, 1, 0));
@@ -155,7 +162,7 @@ static void rerenders(void) {
     memcpy(out_before, out, sizeof out);
     memcpy(shelf_before, shelf, sizeof shelf);
     HOLD(gav_rerender(SETTINGS, example, 20, example, 20, out, N, shelf, 2 * WORDS) == 0);
-    HOLD(gav_rerender(RATE, 5, 0, ADSR, NO_LFO, example, 19, example, 20, out, N, shelf, 2 * WORDS) == says(6, 0, 0));
+    HOLD(gav_rerender(RATE, 5, 0, ADSR, PLAIN, example, 19, example, 20, out, N, shelf, 2 * WORDS) == says(6, 0, 0));
     HOLD(gav_rerender(SETTINGS, example, 20, longer, 30, out, N, shelf, WORDS) == says(7, 0, 0));
     HOLD(gav_rerender(SETTINGS, example, 19, wrong_kind, 20, out, N, shelf, 2 * WORDS) == says(1, 0, 0));
     HOLD(gav_rerender(SETTINGS, example, 20, wrong_kind, 20, out, N, shelf, 2 * WORDS) == says(19, 1, 0));
@@ -194,13 +201,15 @@ static void overlaps(void) {
     HOLD(SAME(out, played) && SAME(shelf, shelf_before));
 }
 
-/* The wrappers hand each setting on in its place: pulses of their own duties, and settings that all differ. */
-#define PULSE 9000, GAV_PULSE, 0.25, 0.01, 0.1, 0.7, 0.02, GAV_PULSE, 0.375, 7, 0.875
+/* The wrappers hand each setting on in its place: pulses of their own duties, settings that all differ, and keys that
+ * are joined. */
+#define PULSE 9000, GAV_PULSE, 0.25, 0.01, 0.1, 0.7, 0.02, GAV_PULSE, 0.375, 7, 0.875, GAV_JOINED
 static void wrappers(void) {
     struct gav_settings s = GAV_SETTINGS_DEFAULT;
     HOLD(s.rate == 48000 && s.code == GAV_SAWTOOTH && s.duty == 0.5);
     HOLD(s.attack == 0.01 && s.decay == 0.1 && s.sustain == 0.7 && s.release == 0.3);
     HOLD(s.lfo_code == GAV_SINE && s.lfo_duty == 0.5 && s.lfo_frequency == 0 && s.lfo_depth == 0);
+    HOLD(s.joined == GAV_STRUCK);
     s.rate = 9000;
     s.code = s.lfo_code = GAV_PULSE;
     s.duty = 0.25;
@@ -208,15 +217,19 @@ static void wrappers(void) {
     s.lfo_duty = 0.375;
     s.lfo_frequency = 7;
     s.lfo_depth = 0.875;
-    HOLD(gav_render(PULSE, example, 20, out, N, shelf, 2 * WORDS) == says(0, 0, N));
-    HOLD(gav_render_with(&s, example, 20, played, N, shelf_before, 2 * WORDS) == says(0, 0, N));
+    s.joined = GAV_JOINED;
+    HOLD(gav_render(PULSE, overlapping, 20, out, N, shelf, 2 * WORDS) == says(0, 0, N));
+    HOLD(gav_render_with(&s, overlapping, 20, played, N, shelf_before, 2 * WORDS) == says(0, 0, N));
     HOLD(SAME(out, played) && SAME(shelf, shelf_before));
     const uint64_t done = says(0, 0, N - GAV_SECTION);
-    HOLD(gav_rerender(PULSE, example, 20, longer, 30, out, N, shelf, 2 * WORDS) == done);
-    HOLD(gav_rerender_with(&s, example, 20, longer, 30, played, N, shelf_before, 2 * WORDS) == done);
+    HOLD(gav_render_with(&s, overlapping, 10, played, N, shelf_before, 2 * WORDS) == says(0, 0, N));
+    HOLD(gav_rerender(PULSE, overlapping, 20, overlapping, 10, out, N, shelf, 2 * WORDS) == done);
+    HOLD(SAME(out, played) && SAME(shelf, shelf_before));
+    HOLD(gav_rerender(PULSE, overlapping, 10, overlapping, 20, out, N, shelf, 2 * WORDS) == done);
+    HOLD(gav_rerender_with(&s, overlapping, 10, overlapping, 20, played, N, shelf_before, 2 * WORDS) == done);
     HOLD(SAME(out, played) && SAME(shelf, shelf_before));
     HOLD(gav_fresh(state, WORDS) == 0);
-    HOLD(gav_continue_with(&s, longer, 30, state, WORDS, 0, played, N) == says(0, 0, N));
+    HOLD(gav_continue_with(&s, overlapping, 20, state, WORDS, 0, played, N) == says(0, 0, N));
     HOLD(SAME(out, played));
 }
 
@@ -232,7 +245,7 @@ static void continues(void) {
     HOLD(memcmp(state, entries, WORDS * sizeof *state) == 0 && state[WORDS] == state_before[WORDS]);
 
     memcpy(state_before, state, sizeof state);
-    HOLD(gav_continue(RATE, 9, 0, ADSR, NO_LFO, longer, 29, state, WORDS - 1, GAV_MOST_SAMPLES, out, N) == says(6, 0, 0));
+    HOLD(gav_continue(RATE, 9, 0, ADSR, PLAIN, longer, 29, state, WORDS - 1, GAV_MOST_SAMPLES, out, N) == says(6, 0, 0));
     HOLD(gav_continue(SETTINGS, longer, 29, state, WORDS - 1, GAV_MOST_SAMPLES, out, 1) == says(7, 0, 0));
     HOLD(gav_continue(SETTINGS, longer, 29, state, WORDS - 1, UINT64_MAX, out, N) == says(7, 0, 0));
     HOLD(gav_continue(SETTINGS, falling, 20, state, WORDS - 1, 0, out, N) == says(5, 1, 0));
@@ -265,7 +278,8 @@ static void tremolo_of(uint32_t code, double duty, double frequency, double dept
     const double tau = 6.283185307179586, step = frequency / RATE * tau, dt = step * (1 / tau);
     double phase = 0, lfo;
     int right = 1;
-    HOLD(gav_render(RATE, GAV_SAWTOOTH, NAN, ADSR, code, duty, frequency, depth, reset, 40, out, N, shelf, 2 * WORDS) == says(0, 0, N));
+    HOLD(gav_render(RATE, GAV_SAWTOOTH, NAN, ADSR, code, duty, frequency, depth, GAV_STRUCK, reset, 40, out, N, shelf,
+                    2 * WORDS) == says(0, 0, N));
     for (size_t i = 0; i < N; i++) {
         if (i == GAV_SECTION) HOLD(shelf[WORDS + 12] == bits(phase));
         if (i % 64 == 0 || i == 100 || i == 300 || i == 4500) phase = i == 300 ? 0 : fmod(phase, tau);
@@ -280,13 +294,14 @@ static void tremolo_of(uint32_t code, double duty, double frequency, double dept
 }
 
 /* A part of ten samples from position 1 on, whose LFO of 100 Hz begins at some phase. */
+#define FAST 8000, GAV_SINE, NAN, ADSR, GAV_SINE, NAN, 100, 1, GAV_STRUCK
 static uint64_t from_phase(uint64_t phase) {
     HOLD(gav_fresh(state, WORDS) == 0);
     state[12] = phase;
-    return gav_continue(8000, GAV_SINE, NAN, ADSR, GAV_SINE, NAN, 100, 1, NULL, 0, state, WORDS, 1, out, 10);
+    return gav_continue(FAST, NULL, 0, state, WORDS, 1, out, 10);
 }
 
-#define SLOW RATE, GAV_SQUARE, NAN, ADSR, GAV_TRIANGLE, NAN, 12.5, 0.9
+#define SLOW RATE, GAV_SQUARE, NAN, ADSR, GAV_TRIANGLE, NAN, 12.5, 0.9, GAV_STRUCK
 static void tremolos(void) {
     HOLD(gav_render(SETTINGS, reset, 40, played, N, entries, 2 * WORDS) == says(0, 0, N));
     tremolo_of(GAV_SINE, NAN, 5, 1);
@@ -316,11 +331,15 @@ static void tremolos(void) {
 }
 
 /* Each of the three calls is 6, before all else: the score, the shelf and the state are wrong too. */
-static int is_six(uint32_t code, double duty, double frequency, double depth) {
-#define WRONG RATE, GAV_SAWTOOTH, NAN, ADSR, code, duty, frequency, depth
+static int are_six(uint32_t code, double duty, double frequency, double depth, uint32_t joined) {
+#define WRONG RATE, GAV_SAWTOOTH, NAN, ADSR, code, duty, frequency, depth, joined
     return gav_render(WRONG, example, 19, out, N, shelf, 1) == says(6, 0, 0) &&
            gav_rerender(WRONG, example, 19, example, 19, out, N, shelf, 1) == says(6, 0, 0) &&
            gav_continue(WRONG, example, 19, state, 1, UINT64_MAX, out, N) == says(6, 0, 0);
+}
+
+static int is_six(uint32_t code, double duty, double frequency, double depth) {
+    return are_six(code, duty, frequency, depth, GAV_STRUCK);
 }
 
 static void refused_tremolos(void) {
@@ -338,13 +357,110 @@ static void refused_tremolos(void) {
     HOLD(from_phase(bits(NAN)) == says(10, 0, 0) && from_phase(bits(INFINITY)) == says(10, 0, 0));
     HOLD(from_phase(bits(-0.0)) == says(0, 0, 10) && from_phase(bits(nextafter(1000, 0))) == says(0, 0, 10));
     HOLD(from_phase(bits(999.9)) == says(0, 0, 10) && state[12] > bits(1000.0) && state[12] < bits(1001.0));
-    HOLD(gav_continue(8000, GAV_SINE, NAN, ADSR, GAV_SINE, NAN, 100, 1, NULL, 0, state, WORDS, 11, out, 1) == says(10, 0, 0));
+    HOLD(gav_continue(FAST, NULL, 0, state, WORDS, 11, out, 1) == says(10, 0, 0));
     /* and of the entry that a re-render starts from */
     HOLD(gav_render(SETTINGS, example, 20, out, N, shelf, 2 * WORDS) == says(0, 0, N));
     memcpy(out_before, out, sizeof out);
     shelf[WORDS + 12] = bits(1000.0);
     HOLD(gav_rerender(SETTINGS, example, 20, longer, 30, out, N, shelf, 2 * WORDS) == says(8, 0, 0));
     HOLD(SAME(out, out_before));
+}
+
+/* N samples from the fresh state, struck or joined; state is then the one after them. */
+static void play_keyed(uint32_t joined, const uint8_t *score, size_t len, double *part) {
+    HOLD(gav_fresh(state, WORDS) == 0);
+    HOLD(gav_continue(KEYED(joined), score, len, state, WORDS, 0, part, N) == says(0, 0, N));
+}
+
+/* The score's last record, at 4,500, is a key that joins: before it all is as struck, and so are phase, keys, pitch and
+ * velocity after it; the envelope, words 1 to 4, goes on as without the record. */
+static void joins(const uint8_t *score, size_t len) {
+    static uint64_t alone[GAV_STATE_WORDS], struck[GAV_STATE_WORDS];
+    play_keyed(GAV_JOINED, score, len - 10, played);
+    memcpy(alone, state, sizeof alone);
+    play_keyed(GAV_STRUCK, score, len, out);
+    memcpy(struck, state, sizeof struck);
+    play_keyed(GAV_JOINED, score, len, played);
+    HOLD(memcmp(out, played, 4500 * sizeof *out) == 0 && !SAME(out, played));
+    HOLD(state[0] == struck[0] && memcmp(state + 5, struck + 5, 8 * sizeof *state) == 0);
+    HOLD(memcmp(state + 1, alone + 1, 4 * sizeof *state) == 0);
+    HOLD(memcmp(state + 1, struck + 1, 4 * sizeof *state) != 0);
+}
+
+/* No key of the score joins. */
+static void strikes(const uint8_t *score, size_t len) {
+    play_keyed(GAV_STRUCK, score, len, out);
+    memcpy(state_before, state, sizeof state);
+    play_keyed(GAV_JOINED, score, len, played);
+    HOLD(SAME(out, played) && SAME(state, state_before));
+}
+
+/* 02's joined notes: the note that sounds just before a record acts decides. */
+static void joined_notes(void) {
+    static const uint8_t again[] = {ON_69, AT_4500(1, 69, 100)};
+    static const uint8_t off_then_on[] = {ON_69, AT_4500(2, 69, 0), ON_60};
+    static const uint8_t nought_then_on[] = {ON_69, AT_4500(1, 69, 0), ON_60};
+    static const uint8_t reset_then_on[] = {ON_69, AT_4500(3, 0, 0), ON_60};
+    static const uint8_t on_then_off[] = {ON_69, ON_60, AT_4500(2, 69, 0)};
+    joins(overlapping, LEN(overlapping));
+    joins(again, LEN(again));
+    strikes(off_then_on, LEN(off_then_on));
+    strikes(nought_then_on, LEN(nought_then_on));
+    strikes(reset_then_on, LEN(reset_then_on));
+    /* in the tail of a release no note sounds */
+    strikes(longer, LEN(longer));
+    play_keyed(GAV_JOINED, overlapping, LEN(overlapping), played);
+    play_keyed(GAV_JOINED, on_then_off, LEN(on_then_off), out);
+    HOLD(SAME(out, played));
+}
+
+static void put_key(uint8_t *record, uint32_t position, uint8_t kind, uint8_t note) {
+    const uint8_t bytes[10] = {0x56, 0x4E, (uint8_t)position, (uint8_t)(position >> 8), 0, 0, kind, note, 100, 0};
+    memcpy(record, bytes, sizeof bytes);
+}
+
+/* Neither the held keys decide, nor the stage. */
+static void joined_to_none_held(void) {
+    static uint8_t keys[10 * 34];
+    /* seventeen keys go down and the sixteen that are held up: the seventeenth sounds */
+    for (uint8_t i = 0; i < 16; i++) {
+        put_key(keys + 10 * i, 0, 1, (uint8_t)(40 + i));
+        put_key(keys + 10 * (17 + i), 100, 2, (uint8_t)(40 + i));
+    }
+    put_key(keys + 160, 0, 1, 60);
+    put_key(keys + 330, 4500, 1, 62);
+    joins(keys, sizeof keys);
+    play_keyed(GAV_JOINED, keys, sizeof keys - 10, out);
+    HOLD(state[5] == 60 + 256 + 33 * 65536 && state[8] == 0);
+
+    /* a made-up state in which note 60 sounds while the envelope is idle: joined, key 69 leaves it so, in silence */
+    for (uint32_t joined = GAV_STRUCK; joined <= GAV_JOINED; joined++) {
+        HOLD(gav_fresh(state, WORDS) == 0);
+        state[5] = 60 + 256;
+        HOLD(gav_continue(KEYED(joined), example, 10, state, WORDS, 0, out, 100) == says(0, 0, 100));
+        HOLD(state[1] == (joined ? 0 : 2) && (out[50] == 0) == joined && state[5] == 69 + 256 + 512 + 65536);
+    }
+}
+
+/* An edit that joins a key, and parts of any lengths. */
+static void joined_edits(void) {
+    HOLD(gav_render(JOINED, overlapping, 20, all, N, entries, 2 * WORDS) == says(0, 0, N));
+    HOLD(gav_render(JOINED, overlapping, 10, out, N, shelf, 2 * WORDS) == says(0, 0, N));
+    HOLD(!SAME(out, all));
+    HOLD(gav_rerender(JOINED, overlapping, 10, overlapping, 20, out, N, shelf, 2 * WORDS) == says(0, 0, 904));
+    HOLD(SAME(out, all) && SAME(shelf, entries));
+    HOLD(gav_fresh(state, WORDS) == 0);
+    for (size_t at = 0; at < N; at += 250) {
+        HOLD(gav_continue(JOINED, overlapping, 20, state, WORDS, at, played + at, 250) == says(0, 0, 250));
+    }
+    HOLD(SAME(played, all));
+}
+
+static void refused_keyings(void) {
+    spoil();
+    HOLD(are_six(NO_LFO, 2) && are_six(NO_LFO, 256) && are_six(NO_LFO, 257) && are_six(NO_LFO, 2147483648));
+    HOLD(are_six(NO_LFO, UINT32_MAX) && are_six(9, 2, 101, 2, 2));
+    HOLD(untouched());
 }
 
 static void lists(void) {
@@ -373,6 +489,10 @@ int main(void) {
     wrappers();
     tremolos();
     refused_tremolos();
+    joined_notes();
+    joined_to_none_held();
+    joined_edits();
+    refused_keyings();
     printf("%d facts held, %d faults\n", held - faults, faults);
     return faults != 0;
 }

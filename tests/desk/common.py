@@ -20,11 +20,11 @@ SOUNDS = {"sine": 0, "square": 1, "saw": 2, "triangle": 3, "pulse": 4}
 # The settings of gavberin.h in their order, as they are without an option: a whole number or a float.
 SETTINGS = {
     "rate": 48000, "code": 2, "duty": 0.5, "attack": 0.01, "decay": 0.1, "sustain": 0.7, "release": 0.3,
-    "lfo_code": 0, "lfo_duty": 0.5, "lfo_frequency": 0.0, "lfo_depth": 0.0,
+    "lfo_code": 0, "lfo_duty": 0.5, "lfo_frequency": 0.0, "lfo_depth": 0.0, "joined": 0,
 }  # fmt: skip
 SETTING_WORDS = 24  # of a shelf's head, in use or free
 FREE_WORDS = SETTING_WORDS - len(SETTINGS)
-SHELF_VERSION = 4
+SHELF_VERSION = 5
 SHELF_NAMES = ["magic", "version", "voice", "samples", "bits", "score_len", "entry", "beside", *SETTINGS]
 SHELF_HEAD = struct.Struct("<8s7Q" + "".join("d" if isinstance(x, float) else "Q" for x in SETTINGS.values()) + f"{FREE_WORDS}Q")
 STATE_WORDS = 13

@@ -96,6 +96,7 @@ static void good_shelf(struct dice *dice, struct bytes *file) {
     settings.lfo_code = (uint32_t)roll(dice, 6);
     settings.lfo_frequency = (double)roll(dice, 102);
     settings.lfo_depth = (double)roll(dice, 6) / 4;
+    settings.joined = (uint32_t)roll(dice, 3);
     about.settings = settings;
     about.samples = roll(dice, 4) ? roll(dice, 300) : roll(dice, 13000);
     about.bits = roll(dice, 2) ? 32 : 64;

@@ -11,7 +11,7 @@ static double number(const char *text) { return strtod(text, NULL); }
 
 int main(int argc, char **argv) {
     static uint8_t score[40961];
-    if (argc != 13) return 2;
+    if (argc != 14) return 2;
     const struct gav_settings settings = {
         .rate = whole(argv[1]),
         .code = whole(argv[2]),
@@ -24,9 +24,10 @@ int main(int argc, char **argv) {
         .lfo_duty = number(argv[9]),
         .lfo_frequency = number(argv[10]),
         .lfo_depth = number(argv[11]),
+        .joined = whole(argv[12]),
     };
     size_t len = fread(score, 1, sizeof score, stdin);
-    size_t n = strtoul(argv[12], NULL, 10), words = (n + 4095) / 4096 * GAV_STATE_WORDS;
+    size_t n = strtoul(argv[13], NULL, 10), words = (n + 4095) / 4096 * GAV_STATE_WORDS;
     double *out = calloc(n + 1, sizeof *out);
     uint64_t *shelf = calloc(words + 1, sizeof *shelf);
     if (!out || !shelf) return 1;

@@ -90,7 +90,7 @@ static double number(const char *text) { return strtod(text, NULL); }
 
 int main(int argc, char **argv) {
     static struct host host;
-    if (argc != 12) return 2;
+    if (argc != 13) return 2;
     host.settings = (struct gav_settings){
         .code = whole(argv[1]),
         .duty = number(argv[2]),
@@ -102,8 +102,9 @@ int main(int argc, char **argv) {
         .lfo_duty = number(argv[8]),
         .lfo_frequency = number(argv[9]),
         .lfo_depth = number(argv[10]),
+        .joined = whole(argv[11]),
     };
-    host.samples = strtoul(argv[11], NULL, 10);
+    host.samples = strtoul(argv[12], NULL, 10);
     host.score_len = fread(host.score, 1, sizeof host.score, stdin);
     gav_fresh(host.state, GAV_STATE_WORDS);
     jack_client_t *client = jack_client_open("gavberin", JackNoStartServer, NULL);

@@ -12,7 +12,7 @@ use Rattle.state.specs.declared.Settings.{Settings}
 use Rattle.state.specs.declared.State.{State}
 use Rattle.state.specs.State.{freshOf, actOf}
 use Rattle.state.specs.Heart.{begun, stateFrom}
-use Rattle.state.specs.Joined.{HeldIfActive}
+use Rattle.state.specs.Joined.{HeldIfActive, withKeying, withKeys}
 use Rattle.state.proofs.Joined.{struck-triggers, joined-runs-on, joined-triggers, lift-anyhow, reset-anyhow, state-held, begun-held}
 use Rattle.demands.specs.JoinedNotes.{JoinedExamples, JoinedNotes}
 
@@ -23,19 +23,9 @@ fresh-held n a = let z : Silent ≡ Note n = a in cc
 held-after : (g : Settings) (s : List ℕ) (k : ℕ) → HeldIfActive (begun g s k (stateFrom g s 0 (freshOf 0) k))
 held-after g s k = rw (zero-add k) at (begun-held g s 0 (freshOf 0) fresh-held k)
 
-examples : (g : Settings) → g .keying ≡ Joined → (v : State) → v .keys ≡ freshKeys → JoinedExamples g v
+examples : (g : Settings) (v : State) → JoinedExamples (withKeying g Joined) (withKeys v freshKeys)
 unfolding actOf pairs pressedOf others withoutOf lastOf liftedOf releasedOf
-examples g e v k =
-    record {
-      seventeenth = rw (e, k) refl;
-      falls-back = rw (e, k) refl;
-      none-held = rw (e, k) refl;
-      joins-with-none-held = λ x. rw (e, k) refl;
-      off-then-on = λ x. rw (e, k) refl;
-      on-then-off = λ x. rw (e, k) refl;
-      the-same-again = λ x. rw (e, k) refl;
-      reset-then-on = λ x. rw (e, k) refl;
-    }
+examples g v = record { seventeenth = refl; falls-back = refl; none-held = refl; joins-with-none-held = λ e. refl; off-then-on = λ e. refl; on-then-off = λ e. refl; the-same-again = λ e. refl; reset-then-on = λ e. refl }
 
 pub joined-notes : JoinedNotes
 joined-notes =

@@ -8,7 +8,7 @@
 -- with the trigger skipped, is `calls-act` in `state`'s proofs/Calls.antt. The arguments are in proofs/Joined.antt of
 -- the crate `state` and in proofs/JoinedNotes.antt. Definitions only.
 use mathlib.Core.Path.{_≡_}
-use mathlib.Core.List.{List, [], _∷_, _++_, map}
+use mathlib.Core.List.{List, [], _∷_, _++_}
 use Prim.Native.Nat.{ℕ, zero, suc, _+_}
 use Rattle.voice.specs.Keys.{freshKeys}
 use Rattle.voice.specs.declared.keys.ActiveNote.{ActiveNote}
@@ -24,7 +24,7 @@ use Rattle.state.specs.declared.Event.{Event}
 use Rattle.state.specs.declared.Event.the-variants as event
 use Rattle.state.specs.State.{freshOf, withEnvelope, eventOf, actOf}
 use Rattle.state.specs.Heart.{begun, stateFrom}
-use Rattle.state.specs.Joined.{alwaysTriggered, HeldIfActive, actAll}
+use Rattle.state.specs.Joined.{alwaysTriggered, HeldIfActive, withKeying, withKeys, actAll}
 
 -- ---- keys one after the other, at one sample
 -- the k keys from n on, struck with velocity 100, and lifted
@@ -52,7 +52,7 @@ heardOf v = record { active = v .keys .active; held = v .keys .count; envelope =
 abbrev pub hears : ActiveNote → ℕ → Envelope → Heard
 hears active held e = record { active = active; held = held; envelope = e }
 
--- from a state in which no key is down and no note sounds, with any envelope, under Joined: what these events leave
+-- what events leave; below, under Joined, from a state in which no key is down and no note sounds, with any envelope
 pub record JoinedExamples (g : Settings) (v : State) : Type 0 where
   -- (k) 60 is not held, and joins as any other; 60 off: 55 sounds, and nothing is triggered
   pub seventeenth : heardOf (actAll g v seventeen) ≡ hears (Note 60) 16 (triggeredOf (v .envelope))
@@ -87,4 +87,4 @@ pub record JoinedNotes : Type 0 where
   -- and so from every state in which it is so, such as an entry that a render left, at any position
   pub held-from : (g : Settings) (s : List ℕ) (n : ℕ) (v : State) → HeldIfActive v → (k : ℕ) → HeldIfActive (stateFrom g s n v k) × HeldIfActive (begun g s (n + k) (stateFrom g s n v k))
   -- 01's marks, and records at one sample
-  pub examples : (g : Settings) → g .keying ≡ Joined → (v : State) → v .keys ≡ freshKeys → JoinedExamples g v
+  pub examples : (g : Settings) (v : State) → JoinedExamples (withKeying g Joined) (withKeys v freshKeys)

@@ -8,9 +8,11 @@ use mathlib.Core.List.{List, [], _∷_}
 use Prim.Native.Nat.{ℕ}
 use Rattle.voice.specs.Keys.{pressedOf}
 use Rattle.voice.specs.declared.keys.ActiveNote.the-variants.{Note}
+use Rattle.voice.specs.declared.keys.Keys.{Keys}
 use Rattle.envelope.specs.Stages.{triggeredOf}
 use Rattle.envelope.specs.declared.EnvelopeStage.{EnvelopeStage}
 use Rattle.envelope.specs.declared.EnvelopeStage.the-variants.{Idle, Attack, Decay, Sustain, Release}
+use Rattle.state.specs.declared.Keying.{Keying}
 use Rattle.state.specs.declared.Settings.{Settings}
 use Rattle.state.specs.declared.State.{State}
 use Rattle.state.specs.declared.Event.{Event}
@@ -31,6 +33,13 @@ isHeld Release = false
 -- the envelope of a note that is active is held
 abbrev pub HeldIfActive : State → Type 0
 HeldIfActive v = (n : ℕ) → v .keys .active ≡ Note n → isHeld (v .envelope .stage) ≡ true
+
+-- g with another keying, v with other keys
+abbrev pub withKeying : Settings → Keying → Settings
+withKeying g k = record { rate = g .rate; waveform = g .waveform; adsr = g .adsr; lfo = g .lfo; keying = k }
+
+abbrev pub withKeys : State → Keys → State
+withKeys v keys = record { phase = v .phase; envelope = v .envelope; frequency = v .frequency; velocity = v .velocity; keys = keys; acted = v .acted; lfo = v .lfo }
 
 -- events act one after the other
 abbrev pub actAll : Settings → State → List Event → State

@@ -6,8 +6,8 @@
 -- phase is reduced at the same moments as the oscillator's, set to 0 by a reset record". An on and an off do not change
 -- the LFO's phase.
 -- 02, R-4: a note-on with velocity 0 "acts as a note-off of that note".
--- 02, R-9: "A setting chooses joined or struck; struck is today's rule. Joined triggers the envelope only if no note was
--- active just before. Note-off is as before"; "the active note decides, not the stack".
+-- 02, R-9: "A setting chooses joined or struck; struck is today's rule. Joined triggers the envelope only if no note
+-- was active just before. Note-off is as before"; "the active note decides, not the stack".
 -- 02, R-13, takes the branch for a negative remainder out of the voice's reduction; the block calls keep it.
 -- A reset does not set the number of records acted to 0: it is counted as one more. Definitions only.
 use mathlib.Core.Bool.{Bool, true, false, cond}
@@ -53,8 +53,9 @@ abbrev pub freshOf : ℕ → State
 freshOf acted = record { phase = radians zero64; envelope = envelope.freshOf; frequency = concert; velocity = zero64; keys = freshKeys; acted = acted; lfo = radians zero64 }
 
 -- ---- the state with some fields changed. Who adds a field to `State` adds it to these definitions, to `freshOf`, to
--- `withActed` of ButActed.antt, to `withLfoPhase` of ButLfo.antt and to `stateOf` of the crate `shelf`, which name all
--- fields; and, where it has limits and words, to `inLimits` of Limits.antt and to shelf's `entryOf` and `entryWords`
+-- `withActed` of ButActed.antt, to `withLfoPhase` of ButLfo.antt, to `withKeys` of Joined.antt and to `stateOf` of the
+-- crate `shelf`, which name all fields; and, where it has limits and words, to `inLimits` of Limits.antt and to shelf's
+-- `entryOf` and `entryWords`
 
 -- the phases of the oscillator and of the LFO
 abbrev pub withPhases : State → Float → Float → State
