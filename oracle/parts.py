@@ -19,7 +19,7 @@ SHAPES = {
     "waveform": (8, 17, 7),
     "voice": (4, 31, 16),
     "blocks": (8, 10, 8),
-    "render": (8, 44, 30),
+    "render": (8, 45, 31),
 }
 # A row of these goes on: this word of it says by how many.
 MORE = {"blocks": 7, "render": 1}

@@ -48,6 +48,7 @@ pub struct Given {
     lfo_duty: f64,
     lfo_frequency: f64,
     lfo_depth: f64,
+    joined: u32,
 }
 
 impl Given {
@@ -55,7 +56,8 @@ impl Given {
         let adsr = [self.attack, self.decay, self.sustain, self.release];
         let wave = (self.lfo_code as u64, self.lfo_duty);
         let lfo = Lfo { wave, frequency: self.lfo_frequency, depth: self.lfo_depth };
-        Settings { rate: self.rate as u64, wave: (self.code as u64, self.duty), adsr, lfo }
+        let (rate, wave) = (self.rate as u64, (self.code as u64, self.duty));
+        Settings { rate, wave, adsr, lfo, joined: self.joined == 1 }
     }
 }
 

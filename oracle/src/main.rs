@@ -23,6 +23,7 @@ mod render;
 mod render_asked;
 mod render_edges;
 mod render_edits;
+mod render_joined;
 mod render_random;
 mod render_rows;
 mod render_tremolo;

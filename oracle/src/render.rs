@@ -1,6 +1,7 @@
 //! The original driven span by span, as 01 says under "Making sample n": its voice, its envelope, its oscillator, and,
 //! as 02 says under "Tremolo", its LFO. As 02 says under "Velocity nought", a note-on with velocity 0 is driven with
-//! `note_off`.
+//! `note_off`; as it says under "Joined notes", of a joined note the voice's `note_on` is called alone where a note is
+//! active.
 //!
 //! `Player` goes on from any state within the limits and shows its states: it has the opened copies, and makes a span's
 //! values one by one, since the original's blocks have one duty only. `Plain` has the untouched copies alone, from
@@ -66,6 +67,8 @@ pub struct Settings {
     /// Attack, decay, sustain, release.
     pub adsr: [f64; 4],
     pub lfo: Lfo,
+    /// Whether notes are joined; else each one is struck.
+    pub joined: bool,
 }
 
 impl Settings {
@@ -81,6 +84,11 @@ impl Settings {
         let slow = if self.lfo.is_heard_sine() { 0.5 * self.lfo.depth * dry.abs() } else { 0.0 };
         own + slow
     }
+}
+
+/// Whether a note-on triggers the envelope: a joined one does not where a note is active just before it acts.
+fn triggers(joined: bool, is_active: bool) -> bool {
+    !(joined && is_active)
 }
 
 #[derive(Clone, Copy)]
@@ -207,8 +215,11 @@ impl Player {
         self.acted += 1;
         match record.acts_as() {
             KIND_ON => {
+                let is_active = self.voice.state().active != voice_rows::NONE;
                 self.voice.call(NOTE_ON, record.note, record.velocity);
-                self.envelope.note_on();
+                if triggers(self.settings.joined, is_active) {
+                    self.envelope.note_on();
+                }
                 self.hear();
             }
             KIND_OFF => match self.voice.call(NOTE_OFF, record.note, 0) {
@@ -297,6 +308,7 @@ struct Plain {
     envelope: EnvelopeBlock<f64>,
     source: Source,
     tremolo: Option<(Lfo, Source)>,
+    joined: bool,
 }
 
 /// The original's blocks; a pulse of another duty is a block's loop over the original's single sample.
@@ -360,8 +372,11 @@ impl Plain {
     fn act(&mut self, record: Record) {
         match record.acts_as() {
             KIND_ON => {
+                let is_active = self.voice.active_note.is_some();
                 self.voice.note_on(record.note, record.velocity);
-                self.envelope.note_on();
+                if triggers(self.joined, is_active) {
+                    self.envelope.note_on();
+                }
             }
             KIND_OFF if self.voice.note_off(record.note) => self.envelope.note_off(),
             KIND_OFF => {}
@@ -397,10 +412,10 @@ impl Plain {
 
 /// The first samples of a score by the untouched copies.
 pub fn play_untouched(settings: Settings, score: impl Iterator<Item = Record>, out: &mut [f64]) {
-    let [attack, decay, sustain, release] = settings.adsr;
+    let Settings { wave, adsr: [attack, decay, sustain, release], lfo, joined, .. } = settings;
     let envelope = EnvelopeBlock::new(attack, decay, sustain, release);
-    let tremolo = (settings.lfo.depth != 0.0).then(|| (settings.lfo, Source::lfo(settings.lfo)));
-    let mut plain = Plain { voice: VoiceState::new(), envelope, source: Source::oscillator(settings.wave), tremolo };
+    let tremolo = (lfo.depth != 0.0).then(|| (lfo, Source::lfo(lfo)));
+    let mut plain = Plain { voice: VoiceState::new(), envelope, source: Source::oscillator(wave), tremolo, joined };
     let (mut rest, mut n) = (score.peekable(), 0);
     while n < out.len() {
         while let Some(record) = rest.next_if(|record| record.position == n as u64) {

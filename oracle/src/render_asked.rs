@@ -9,7 +9,7 @@ pub const CONTINUE: u64 = 1;
 pub const RERENDER: u64 = 2;
 
 /// The given words before the score.
-pub const GIVEN: usize = 30;
+pub const GIVEN: usize = 31;
 
 const RECORD: usize = 10;
 pub const MOST_RECORDS: usize = 4096;
@@ -47,10 +47,10 @@ fn unheard(number: u64) -> Lfo {
 }
 
 impl Asked {
-    /// A whole render, with the shelf that it takes, and no tremolo.
+    /// A whole render of struck notes, with the shelf that it takes, and no tremolo.
     pub fn whole(rate: u64, wave: Wave, samples: u64, score: &[Record]) -> Self {
         let lfo = unheard(rate + samples + score.len() as u64);
-        let settings = Settings { rate, wave, adsr: QUICK, lfo };
+        let settings = Settings { rate, wave, adsr: QUICK, lfo, joined: false };
         let (score, shelf) = (score.iter().flat_map(bytes_of).collect(), shelf_words(samples));
         let (state, old, left) = ([0; STATE_WORDS], vec![], vec![]);
         Self { op: RENDER, settings, samples, score, shelf, position: 0, state, old, left }
@@ -59,6 +59,12 @@ impl Asked {
     /// The same with a tremolo; what was made of it before it had one stays.
     pub fn with_lfo(mut self, lfo: Lfo) -> Self {
         self.settings.lfo = lfo;
+        self
+    }
+
+    /// The same with joined notes; what was made of it before stays.
+    pub fn joined(mut self) -> Self {
+        self.settings.joined = true;
         self
     }
 
@@ -87,7 +93,7 @@ impl Asked {
     }
 
     pub fn words(&self) -> Vec<u64> {
-        let Settings { rate, wave, adsr, lfo } = self.settings;
+        let Settings { rate, wave, adsr, lfo, joined } = self.settings;
         let mut given: Vec<u64> = self.score.chunks(8).chain(self.old.chunks(8)).map(word_of).collect();
         given.extend(&self.left);
         let more = given.len() as u64 + self.samples + self.scales() + self.shelf;
@@ -97,7 +103,7 @@ impl Asked {
         row.extend(adsr.map(f64::to_bits));
         row.extend(wave_words(lfo.wave));
         row.extend([lfo.frequency, lfo.depth].map(f64::to_bits));
-        row.extend([self.samples, self.score.len() as u64, self.shelf, position]);
+        row.extend([joined as u64, self.samples, self.score.len() as u64, self.shelf, position]);
         row.extend(self.state);
         row.extend(given);
         row
@@ -107,12 +113,12 @@ impl Asked {
         let adsr = [5, 6, 7, 8].map(|at| f64::from_bits(row[at]));
         let [duty, lfo_duty, frequency, depth] = [4, 10, 11, 12].map(|at| f64::from_bits(row[at]));
         let lfo = Lfo { wave: (row[9], lfo_duty), frequency, depth };
-        let settings = Settings { rate: row[2], wave: (row[3], duty), adsr, lfo };
-        let [op, samples, shelf, position] = [0, 13, 15, 16].map(|at| row[at]);
+        let settings = Settings { rate: row[2], wave: (row[3], duty), adsr, lfo, joined: row[13] == 1 };
+        let [op, samples, shelf, position] = [0, 14, 16, 17].map(|at| row[at]);
         let (position, size) = if op == RERENDER { (0, position) } else { (position, 0) };
-        let (score, rest) = bytes_and_rest(&row[GIVEN..], row[14]);
+        let (score, rest) = bytes_and_rest(&row[GIVEN..], row[15]);
         let (old, rest) = bytes_and_rest(rest, size);
-        let (state, left) = (row[17..GIVEN].try_into().unwrap(), rest.to_vec());
+        let (state, left) = (row[18..GIVEN].try_into().unwrap(), rest.to_vec());
         Self { op, settings, samples, score, shelf, position, state, old, left }
     }
 
@@ -256,7 +262,7 @@ fn word_of(bytes: &[u8]) -> u64 {
     bytes.iter().rev().fold(0, |word, &byte| word << 8 | byte as u64)
 }
 
-fn is_settings(Settings { rate, wave, adsr, lfo }: Settings) -> bool {
+fn is_settings(Settings { rate, wave, adsr, lfo, .. }: Settings) -> bool {
     let is_wave = |(shape, duty): Wave| shape != PULSE || (0.0..=1.0).contains(&duty);
     let is_lfo = is_wave(lfo.wave) && (0.0..=100.0).contains(&lfo.frequency) && (0.0..=1.0).contains(&lfo.depth);
     (8000..=192000).contains(&rate) && is_wave(wave) && adsr.iter().all(|x| !x.is_nan()) && is_lfo

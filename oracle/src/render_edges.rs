@@ -108,13 +108,13 @@ fn edges_of_envelope() -> Vec<Asked> {
 }
 
 /// Seventeen keys struck, of which sixteen are held.
-fn pressed() -> Vec<Record> {
+pub fn pressed() -> Vec<Record> {
     let sixteen = (40..56).map(|note| on(2 * (note as u64 - 40), note, note));
     sixteen.chain([on(40, 60, 99)]).collect()
 }
 
 /// The sixteen lifted.
-fn lifted() -> Vec<Record> {
+pub fn lifted() -> Vec<Record> {
     (40..56).map(|note| off(note as u64, note)).collect()
 }
 

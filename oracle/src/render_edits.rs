@@ -13,8 +13,9 @@ use crate::rows::{each, Rows};
 const LONGEST: u64 = 4400;
 
 /// After five renders and parts of renders a re-render, from numbers of its own.
-pub fn among(chance: Chance) -> Rows {
-    let (mut edits, mut others) = (each(chance.beside(), row), each(chance, render_random::row));
+pub fn among(joined: bool, chance: Chance) -> Rows {
+    let mut edits = each(chance.beside(), move |chance| row(joined, chance));
+    let mut others = each(chance, move |chance| render_random::row(joined, chance));
     Box::new((0..).map(move |i| if i % 6 == 5 { edits.next().unwrap() } else { others.next().unwrap() }))
 }
 
@@ -27,7 +28,7 @@ pub fn edges() -> Vec<Vec<u64>> {
 }
 
 /// A score with a record more, after those of its position.
-fn with(score: &[Record], record: Record) -> Vec<Record> {
+pub fn with(score: &[Record], record: Record) -> Vec<Record> {
     let after = score.partition_point(|other| other.position <= record.position);
     [&score[..after], &[record], &score[after..]].concat()
 }
@@ -122,7 +123,7 @@ fn resize_shelf(asked: &mut Asked, words: u64) {
 }
 
 /// Rubbish everywhere but in the entry that the re-render starts from.
-fn spoil_left(asked: &mut Asked, chance: &mut Chance) {
+pub fn spoil_left(asked: &mut Asked, chance: &mut Chance) {
     let (samples, from) = (asked.samples as usize, start_of(&asked.old, &asked.score, asked.samples));
     let entry = from.map(|from| samples + entry_at(from) as usize);
     for at in 0..asked.left.len() {
@@ -134,8 +135,8 @@ fn spoil_left(asked: &mut Asked, chance: &mut Chance) {
     }
 }
 
-fn row(chance: &mut Chance) -> Vec<u64> {
-    let mut render = random_render(chance);
+fn row(joined: bool, chance: &mut Chance) -> Vec<u64> {
+    let mut render = random_render(joined, chance);
     if render.samples > LONGEST {
         let score = random_score(LONGEST, chance);
         render = Asked { settings: render.settings, ..Asked::whole(44100, SAW, LONGEST, &score) };

@@ -9,8 +9,8 @@ use crate::render_tremolo::{random_lfo, spoilt_lfo};
 use crate::waveform_rows::{duties, not_a_unit, TINY};
 use crate::waveform_rows::{PULSE, SAWTOOTH, SINE, SQUARE, TRIANGLE};
 
-pub fn row(chance: &mut Chance) -> Vec<u64> {
-    let render = random_render(chance);
+pub fn row(joined: bool, chance: &mut Chance) -> Vec<u64> {
+    let render = random_render(joined, chance);
     let mut asked = match chance.below(5) {
         0 | 1 => random_part(&render, chance),
         _ => render,
@@ -21,12 +21,13 @@ pub fn row(chance: &mut Chance) -> Vec<u64> {
     asked.words()
 }
 
-pub fn random_render(chance: &mut Chance) -> Asked {
+pub fn random_render(joined: bool, chance: &mut Chance) -> Asked {
     let samples = random_length(chance);
     let wave = random_wave(chance);
     let mut asked = Asked::whole(random_rate(chance), wave, samples, &random_releases(samples, chance));
     asked.settings.adsr = random_settings(chance);
     asked.settings.lfo = random_lfo(chance);
+    asked.settings.joined = joined;
     audible(&mut asked.settings);
     asked
 }

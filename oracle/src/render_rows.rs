@@ -1,8 +1,9 @@
-//! Rows of the render: op, how many words follow the row's first 44, rate, waveform (0 Sine to 4 Pulse, in the
-//! original's order), duty, the envelope's four settings, the LFO's waveform, duty, frequency and depth, samples asked
-//! for, bytes of the score, words of the shelf, position, the given state; then answer, the state after. Then the
-//! score's bytes, with zeros up to a whole word, where a sine was heard every sample's scale, every sample, and every
-//! word of the shelf. All are u64, every float as its bits; a state is the thirteen words of a shelf entry.
+//! Rows of the render: op, how many words follow the row's first 45, rate, waveform (0 Sine to 4 Pulse, in the
+//! original's order), duty, the envelope's four settings, the LFO's waveform, duty, frequency and depth, keying (0
+//! struck, 1 joined), samples asked for, bytes of the score, words of the shelf, position, the given state; then
+//! answer, the state after. Then the score's bytes, with zeros up to a whole word, where a sine was heard every
+//! sample's scale, every sample, and every word of the shelf. All are u64, every float as its bits; a state is the
+//! thirteen words of a shelf entry.
 //!
 //! A sine is heard where the call is done and the oscillator is one, or the LFO at a depth other than 0. A scale says
 //! how far a sample may be off, in millionths: of the oscillator's sine level times velocity times the tremolo's
@@ -16,16 +17,16 @@
 
 use crate::render_asked::{Asked, GIVEN};
 use crate::rows::Part;
-use crate::{render_edges, render_edits};
+use crate::{render_edges, render_edits, render_joined};
 
 pub const PART: Part = Part {
     name: "render",
     word: 8,
-    words: 44,
+    words: 45,
     more_at: Some(1),
     answer_at: Some(GIVEN),
     ops: &["render", "continue", "re-render"],
-    edges: || [render_edges::all(), render_edits::edges()].concat(),
-    random: render_edits::among,
+    edges: || [render_edges::all(), render_edits::edges(), render_joined::edges()].concat(),
+    random: render_joined::in_turn,
     answer: |row| Asked::of(row).answer(),
 };

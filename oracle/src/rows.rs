@@ -35,7 +35,7 @@ pub fn says(number: u64, place: u64, count: u64) -> u64 {
 pub type Rows = Box<dyn Iterator<Item = Vec<u64>>>;
 
 /// Rows that have nothing to do with each other.
-pub fn each(mut chance: Chance, row: fn(&mut Chance) -> Vec<u64>) -> Rows {
+pub fn each(mut chance: Chance, row: impl Fn(&mut Chance) -> Vec<u64> + 'static) -> Rows {
     Box::new(std::iter::repeat_with(move || row(&mut chance)))
 }
 

@@ -45,10 +45,13 @@ static bool is_lfo(const struct gav_settings *s) {
            is_within(0.0, s->lfo_depth, 1.0);
 }
 
+/* "A setting chooses joined or struck". */
+static bool is_keying(uint32_t joined) { return joined == GAV_STRUCK || joined == GAV_JOINED; }
+
 /* "ADSR settings may be anything but NaN." Of the LFO's: "6 covers the new settings". */
 static bool are_settings(const struct gav_settings *s) {
     return is_rate(s->rate) && is_wave(s->code, s->duty) && !isnan(s->attack) && !isnan(s->decay) &&
-           !isnan(s->sustain) && !isnan(s->release) && is_lfo(s);
+           !isnan(s->sustain) && !isnan(s->release) && is_lfo(s) && is_keying(s->joined);
 }
 
 /* "Order: 6, 7, the old or only score, the new score (same numbers plus 16), then 8 or 10" */
@@ -85,7 +88,7 @@ static void play(const struct gav_settings *settings, struct records score, stru
     for (size_t i = 0; i < n; i++) {
         uint64_t at = position + i;
         if (shelf && at % GAV_SECTION == 0) voice_words(voice, shelf + at / GAV_SECTION * GAV_STATE_WORDS);
-        voice_begin(voice, score, at);
+        voice_begin(&s, voice, score, at);
         out[i] = voice_make(&s, voice);
     }
 }

@@ -133,12 +133,12 @@ static uint8_t *take_bytes(const uint64_t **here, size_t len) {
 }
 
 static void read_asked(struct rows *rows, struct asked *a) {
-    const uint64_t *row = take(rows, 44), *here = take(rows, row[1]);
-    a->settings = (struct gav_settings){(uint32_t)row[2], (uint32_t)row[3], number(row[4]), number(row[5]),
-                                        number(row[6]),   number(row[7]),   number(row[8]), (uint32_t)row[9],
-                                        number(row[10]),  number(row[11]),  number(row[12])};
-    a->n = (size_t)row[13], a->len = (size_t)row[14], a->words = (size_t)row[15];
-    a->position = row[16], a->state = row + 17, a->answer = row + 30;
+    const uint64_t *row = take(rows, 45), *here = take(rows, row[1]);
+    a->settings = (struct gav_settings){(uint32_t)row[2], (uint32_t)row[3], number(row[4]),  number(row[5]),
+                                        number(row[6]),   number(row[7]),   number(row[8]),  (uint32_t)row[9],
+                                        number(row[10]),  number(row[11]),  number(row[12]), (uint32_t)row[13]};
+    a->n = (size_t)row[14], a->len = (size_t)row[15], a->words = (size_t)row[16];
+    a->position = row[17], a->state = row + 18, a->answer = row + 31;
     bool is_sine = has_sine(&a->settings) && gav_number(a->answer[0]) == 0, is_edit = row[0] == RERENDER;
     a->old_len = is_edit ? (size_t)a->position : 0;
     a->score = take_bytes(&here, a->len);
@@ -174,7 +174,7 @@ static bool same_walk(struct tally *tally, const struct asked *a, uint64_t *stat
     struct voice voice;
     bool fine = voice_read(&voice, state);
     for (size_t i = 0; i < a->n; i++) {
-        voice_begin(&voice, a->records, a->position + i);
+        voice_begin(&s, &voice, a->records, a->position + i);
         struct voice before = voice;
         double sample = voice_make(&s, &voice);
         fine &= bits(sample) == bits(out[i]);

@@ -1,5 +1,5 @@
-/* Making a sample: 01's "Steps", "Pitch and sine" and "Making sample n", 02's "Tremolo". Each operation is rounded
- * once, in the order in which it is written (compile with -ffp-contract=off). */
+/* Making a sample: 01's "Steps", "Pitch and sine" and "Making sample n", 02's "Tremolo" and "Joined notes". Each
+ * operation is rounded once, in the order in which it is written (compile with -ffp-contract=off). */
 #include "voice.h"
 
 #include "pitches.h"
@@ -231,15 +231,20 @@ void put_record(uint8_t *record, uint32_t position, enum kind kind, uint8_t note
 /* A note-on with velocity 0 "acts as a note-off of that note". */
 static bool is_release(const uint8_t *record) { return record[6] == OFF || (record[6] == ON && record[8] == 0); }
 
+/* "Joined triggers the envelope only if no note was active just before"; struck, every key does. */
+static bool is_triggered(const struct gav_settings *s, const struct voice *before) {
+    return s->joined != GAV_JOINED || before->active == NO_NOTE;
+}
+
 /* "On: voice and envelope `note_on`. Off: voice `note_off`, and the envelope's where it returned true. Reset: voice,
  * envelope and phase to their fresh state." The LFO's phase is "set to 0 by a reset record". */
-void voice_act(struct voice *v, const uint8_t *record) {
+void voice_act(const struct gav_settings *s, struct voice *v, const uint8_t *record) {
     uint64_t acted = v->acted + 1;
     if (is_release(record)) {
         if (note_off(v, record[7])) envelope_off(&v->envelope);
     } else if (record[6] == ON) {
+        if (is_triggered(s, v)) envelope_on(&v->envelope);
         note_on(v, record[7], record[8]);
-        envelope_on(&v->envelope);
     } else {
         *v = voice_fresh();
     }
@@ -253,12 +258,12 @@ static bool is_due(const struct voice *v, struct records score, uint64_t n) {
 
 /* "If n is a multiple of 64 or a record has position n, phase is reduced by TAU. Then the records at n act." The LFO's
  * "phase is reduced at the same moments as the oscillator's". */
-void voice_begin(struct voice *v, struct records score, uint64_t n) {
+void voice_begin(const struct gav_settings *s, struct voice *v, struct records score, uint64_t n) {
     if (n % BLOCK == 0 || is_due(v, score, n)) {
         v->phase = reduced(v->phase);
         v->lfo_phase = reduced(v->lfo_phase);
     }
-    while (is_due(v, score, n)) voice_act(v, score.bytes + RECORD * v->acted);
+    while (is_due(v, score, n)) voice_act(s, v, score.bytes + RECORD * v->acted);
 }
 
 /* "Then the sample is oscillator value * envelope level * velocity, left to right, and both advance." It "is multiplied

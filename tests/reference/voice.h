@@ -82,8 +82,8 @@ static inline bool has_sine(const struct gav_settings *s) {
 /* voice.c: making a sample. Settings are clamped ones. voice_begin reduces and lets the records at n act; voice_make
  * gives the sample and advances, and leaves the level that it was made with. */
 struct voice voice_fresh(void);
-void voice_act(struct voice *voice, const uint8_t *record);
-void voice_begin(struct voice *voice, struct records score, uint64_t n);
+void voice_act(const struct gav_settings *settings, struct voice *voice, const uint8_t *record);
+void voice_begin(const struct gav_settings *settings, struct voice *voice, struct records score, uint64_t n);
 double voice_make(const struct gav_settings *clamped, struct voice *voice);
 struct gav_settings clamped(const struct gav_settings *settings);
 double wave_at(uint32_t code, double duty, double u, double dt);       /* u and dt in cycles */

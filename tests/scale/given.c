@@ -68,7 +68,7 @@ static double random_depth(struct chance *c, uint32_t code) {
     return code == GAV_SINE && depth > 0.0 && depth < 1e-6 ? 0.5 : depth;
 }
 
-/* Only a pulse's duty is read: another waveform's may be anything. */
+/* Only a pulse's duty is read: another waveform's may be anything. In half of the rounds notes are joined. */
 struct gav_settings random_settings(struct chance *c) {
     static const uint32_t RATES[] = {8000, 16384, 44100, 48000, 192000};
     struct gav_settings s;
@@ -83,6 +83,7 @@ struct gav_settings random_settings(struct chance *c) {
     s.decay = random_time(c);
     s.sustain = random_sustain(c, has_sine(&s));
     s.release = random_time(c);
+    s.joined = one_in(c, 2) ? GAV_JOINED : GAV_STRUCK;
     return s;
 }
 
@@ -97,6 +98,7 @@ static double odd_hertz(struct chance *c) {
 }
 
 static const uint32_t NO_CODES[] = {5, 6, 256, UINT32_C(1) << 31, UINT32_MAX};
+static const uint32_t NO_KEYINGS[] = {2, 256, UINT32_C(1) << 31, UINT32_MAX};
 
 static struct gav_settings bad_lfo(struct chance *c, struct gav_settings s) {
     switch (below(c, 4)) {
@@ -119,7 +121,7 @@ static struct gav_settings bad_lfo(struct chance *c, struct gav_settings s) {
 struct gav_settings bad_settings(struct chance *c, struct gav_settings s) {
     static const uint32_t RATES[] = {0, 7999, 192001, UINT32_MAX};
     double *const times[] = {&s.attack, &s.decay, &s.sustain, &s.release};
-    switch (below(c, 8)) {
+    switch (below(c, 10)) {
     case 0:
         s.rate = PICK(c, RATES);
         break;
@@ -133,6 +135,10 @@ struct gav_settings bad_settings(struct chance *c, struct gav_settings s) {
     case 3:
         *PICK(c, times) = random_nan(c);
         break;
+    case 4:
+    case 5:
+        s.joined = PICK(c, NO_KEYINGS);
+        break;
     default:
         return bad_lfo(c, s);
     }
@@ -145,6 +151,17 @@ static double moved(struct chance *c, double most) {
     return kind == 0 ? most : kind == 1 && most != HIGHEST ? -0.0 : most * dense(c);
 }
 
+/* A note active or none, and from no key to sixteen held, whatever is active. */
+void move_keys(struct chance *c, uint64_t *state) {
+    uint64_t held = one_in(c, 2) ? 0 : below(c, MOST_HELD + 1);
+    uint64_t active = one_in(c, 2) ? NO_NOTE : 256 + below(c, 128);
+    state[5] = state[5] >> 16 << 16 | held << 9 | active;
+    for (unsigned i = 0; i < MOST_HELD; i++) {
+        uint64_t pair = i < held ? below(c, 128) + 256 * below(c, 128) : 0;
+        state[8 + i / 4] = (i % 4 == 0 ? 0 : state[8 + i / 4]) | pair << 16 * (i % 4);
+    }
+}
+
 void move_state(struct chance *c, uint64_t *state) {
     static const double MOST[8] = {999.9999, 0, 1, 11, 1, 0, HIGHEST, 1};
     for (uint64_t times = 1 + below(c, 4); times > 0; times--) {
@@ -153,7 +170,9 @@ void move_state(struct chance *c, uint64_t *state) {
             state[12] = bits(moved(c, nextafter(1000.0, 0.0)));
         else if (at == 1)
             state[1] = below(c, 5);
-        else if (at != 5)
+        else if (at == 5)
+            move_keys(c, state);
+        else
             state[at] = bits(moved(c, MOST[at]));
     }
 }

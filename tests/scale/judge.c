@@ -14,7 +14,7 @@ static void walk(const struct gav_settings *settings, const struct score *score,
             voice_words(&voice, shelf);
             shelf += GAV_STATE_WORDS;
         }
-        voice_begin(&voice, records, position + i);
+        voice_begin(&s, &voice, records, position + i);
         out[i] = voice_make(&s, &voice);
     }
     voice_words(&voice, state);

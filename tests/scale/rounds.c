@@ -80,11 +80,20 @@ static void part_from(struct round *r, uint64_t state[GAV_STATE_WORDS], size_t p
     part(r, state, score_count(&r->score), position, length);
 }
 
+/* Anywhere, or where a record acts. */
+static size_t stray_position(struct round *r) {
+    size_t count = score_count(&r->score), any = below(&r->chance, r->n + 1);
+    if (count == 0 || one_in(&r->chance, 2)) return any;
+    size_t acts = score_position(&r->score, below(&r->chance, count));
+    return acts <= r->n ? acts : any;
+}
+
 static void stray_part(struct round *r) {
     uint64_t state[GAV_STATE_WORDS];
-    size_t position = below(&r->chance, r->n + 1), length = part_length(&r->chance, r->n - position);
+    size_t position = stray_position(r), length = part_length(&r->chance, r->n - position);
     reference_fresh(state, GAV_STATE_WORDS);
     move_state(&r->chance, state);
+    move_keys(&r->chance, state);
     part_from(r, state, position, length);
 }
 

@@ -34,6 +34,7 @@ void damage_score(struct chance *c, struct score *score);
 struct gav_settings random_settings(struct chance *c);
 struct gav_settings bad_settings(struct chance *c, struct gav_settings settings);
 void move_state(struct chance *c, uint64_t *state);   /* another state, which no score may reach */
+void move_keys(struct chance *c, uint64_t *state);    /* the same with other keys alone */
 void doctor_state(struct chance *c, uint64_t *state); /* none, or with another number of records acted */
 double odd_unit(struct chance *c);                    /* no number from 0 to 1 */
 double random_duty(struct chance *c);

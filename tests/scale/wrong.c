@@ -59,6 +59,17 @@ enum wrong {
     CONTINUE_TINY,        /* the smallest phase is taken for 0 */
     CONTINUE_MINUS_ZERO,  /* a phase of -0 is taken for 0 */
     CONTINUE_PAST_1000,   /* a phase that passes 1,000 is reduced at the end of the part */
+    RENDER_ALL_STRUCK,    /* joined notes are struck */
+    RENDER_EXCHANGED,     /* struck and joined are exchanged */
+    RENDER_JOINED_TWO,    /* 2 is taken for joined */
+    RERENDER_ALL_STRUCK,  /* these three, in the same order */
+    RERENDER_EXCHANGED,
+    RERENDER_JOINED_TWO,
+    CONTINUE_ALL_STRUCK, /* and again */
+    CONTINUE_EXCHANGED,
+    CONTINUE_JOINED_TWO,
+    CONTINUE_BY_HELD,    /* the held keys decide whether the first joined key of a part triggers */
+    CONTINUE_NO_TRIGGER, /* the first joined key of a part never triggers */
     WRONGS
 };
 
@@ -77,6 +88,13 @@ static void one_payload(double *from, size_t n) {
     for (size_t i = 0; i < n; i++) {
         if (isnan(from[i])) from[i] = NAN;
     }
+}
+
+/* The keying that a call takes for the given one, of the three wrong libraries from its ..ALL_STRUCK on. */
+static uint32_t taken_keying(uint32_t joined, enum wrong all_struck) {
+    if (wrong() == all_struck && joined == GAV_JOINED) return GAV_STRUCK;
+    if (wrong() == all_struck + 1 && joined <= GAV_JOINED) return GAV_JOINED - joined;
+    return wrong() == all_struck + 2 && joined == 2 ? GAV_JOINED : joined;
 }
 
 uint64_t __wrap_gav_check_score(const uint8_t *score, size_t len) {
@@ -125,6 +143,7 @@ uint64_t __wrap_gav_render(SETTINGS, const uint8_t *score, size_t len, double *o
     if (is_lfo_wrongly_refused(lfo_code, lfo_duty, lfo_depth)) return 6;
     if (wrong() == RENDER_LFO_HERTZ && lfo_frequency > 100.0) lfo_frequency = 100.0;
     if (wrong() == RENDER_LFO_DEPTH) lfo_depth /= 2.0;
+    joined = taken_keying(joined, RENDER_ALL_STRUCK);
     double last = n > 0 ? out[n - 1] : 0.0;
     uint64_t answer = __real_gav_render(GIVEN, score, len, out, n, shelf, words);
     if (wrong() == RENDER_TWELVE && gav_number(answer) == 7 && 13 * words == 12 * gav_shelf_words(n))
@@ -151,6 +170,7 @@ uint64_t __wrap_gav_rerender(SETTINGS, const uint8_t *old, size_t old_len, const
         memcpy(entries, shelf, words * sizeof *entries);
         out = spare, shelf = entries;
     }
+    joined = taken_keying(joined, RERENDER_ALL_STRUCK);
     uint64_t answer = __real_gav_rerender(GIVEN, old, old_len, new_, new_len, out, n, shelf, words);
     if (wrong() == RERENDER_START && gav_number(answer) == 8) return 0;
     return gav_number(answer) == 0 ? spoil_rerender(answer, out, n, shelf) : answer;
@@ -163,6 +183,23 @@ static uint64_t taken_phase(uint64_t given) {
     return wrong() == CONTINUE_LFO_TAKEN && !is_phase ? 0 : given;
 }
 
+/* Whether the first record that acts before a position strikes a key. */
+static bool is_key_next(const uint8_t *score, size_t len, uint64_t acted, uint64_t end) {
+    if (acted >= len / RECORD) return false;
+    const uint8_t *next = score + RECORD * acted;
+    return next[6] == ON && next[8] > 0 && record_position(next) < end;
+}
+
+/* The keys of a state, word 5, or those that are taken for them: before a key that is struck their active note shows in
+ * nothing but whether it triggers. */
+static uint64_t taken_keys(uint64_t word) {
+    const uint64_t rest = word & ~UINT64_C(0x1FF);
+    bool is_active = (word & 255) != NO_NOTE, is_held = (word >> 9 & 127) > 0;
+    if (is_active != (word >> 8 & 1)) return word;
+    if (wrong() == CONTINUE_BY_HELD && is_active != is_held) return is_held ? rest | 256 : rest | NO_NOTE;
+    return wrong() == CONTINUE_NO_TRIGGER ? rest | 256 : word;
+}
+
 static void spoil_continue(double *part, size_t n, uint64_t *state) {
     if (wrong() == CONTINUE_GUARD && n > 0) part[n] = 0.0;
     if (wrong() == CONTINUE_REDUCES) state[0] = bits(fmod(number(state[0]), TAU));
@@ -173,14 +210,18 @@ static void spoil_continue(double *part, size_t n, uint64_t *state) {
 
 uint64_t __wrap_gav_continue(SETTINGS, const uint8_t *score, size_t len, uint64_t *state, size_t state_words,
                              uint64_t position, double *part, size_t n) {
-    uint64_t given = state_words == GAV_STATE_WORDS ? state[12] : 0;
-    if (state_words == GAV_STATE_WORDS) state[12] = taken_phase(given);
+    const bool is_whole = state_words == GAV_STATE_WORDS;
+    const uint64_t keys = is_whole ? state[5] : 0, phase = is_whole ? state[12] : 0;
+    if (is_whole) state[12] = taken_phase(phase);
+    if (is_whole && joined == GAV_JOINED && is_key_next(score, len, keys >> 16, position + n))
+        state[5] = taken_keys(keys);
     if (wrong() == CONTINUE_TINY && state_words > 0 && state[0] == 1) state[0] = 0;
     if (wrong() == CONTINUE_MINUS_ZERO && state_words > 0 && state[0] == bits(-0.0)) state[0] = 0;
+    joined = taken_keying(joined, CONTINUE_ALL_STRUCK);
     uint64_t answer = __real_gav_continue(GIVEN, score, len, state, state_words, position, part, n);
     if (wrong() == CONTINUE_REFUSED && gav_number(answer) == 10) state[0] = 0;
     if (wrong() == CONTINUE_TWELVE && gav_number(answer) == 10 && state_words == 12) return says(0, 0, n);
     if (gav_number(answer) == 0) spoil_continue(part, n, state);
-    if (gav_number(answer) != 0 && state_words == GAV_STATE_WORDS) state[12] = given;
+    if (gav_number(answer) != 0 && is_whole) state[5] = keys, state[12] = phase;
     return answer;
 }

@@ -25,7 +25,7 @@ const HEAD: usize = 16;
 const MOST: u64 = 25174;
 
 // The bytes of the longest row: the first ones of a render and the most words.
-const LONGEST: usize = 201744;
+const LONGEST: usize = 201752;
 
 // The names as words, low byte first.
 const PHASE: u64 = 0x65_7361_6870;

@@ -1,4 +1,4 @@
-// The original's renders, driven span by span: a row is 44 u64, then its score, its samples and its shelf. The answer,
+// The original's renders, driven span by span: a row is 45 u64, then its score, its samples and its shelf. The answer,
 // the state after, every sample and every word of the shelf are compared bit for bit; but where a sine is heard, which
 // is ours, a sample must only be within 0.000001 times its scale, which the row has. A re-render's row has, before the
 // samples that it must leave, its old score and the samples and the shelf that it starts with.
@@ -6,14 +6,18 @@ use crate::fields;
 use crate::nearness::Finding;
 use envelope::Adsr;
 use render::Rendered;
+use state::Keying;
 use state::Settings;
 use tremolo::Lfo;
 
 // The bytes of a row before its score.
-pub const ROW: usize = 352;
+pub const ROW: usize = 360;
 
 // The byte of a row where the number of words that follow is kept.
 pub const MORE: usize = 8;
+
+// The byte of a row where its keying is kept: 0 struck, 1 joined.
+const KEYING: usize = 104;
 
 // What each word of the shelf holds before a call: no entry has that stage.
 const UNKEPT: u64 = 0x2a2a_2a2a_2a2a_2a2a;
@@ -22,8 +26,8 @@ const UNKEPT: u64 = 0x2a2a_2a2a_2a2a_2a2a;
 pub fn compared(row: &[u8]) -> Finding {
     let mut out = [fields::UNWRITTEN; 10000];
     let mut shelf = [UNKEPT; 52];
-    let samples = fields::at_most(words::u64_at(row, 104), 10000);
-    let kept = fields::at_most(words::u64_at(row, 120), 52);
+    let samples = fields::at_most(words::u64_at(row, 112), 10000);
+    let kept = fields::at_most(words::u64_at(row, 128), 52);
     judged(row, &mut out[0..samples], &mut shelf[0..kept])
 }
 
@@ -39,15 +43,18 @@ fn judged(row: &[u8], out: &mut [f64], shelf: &mut [u64]) -> Finding {
     let scales = std::num::wrapping_sub_usize(samples, size);
     let equal = told & fields::are_words(row, first, shelf);
     let is_swayed = (words::u64_at(row, 72) == 0) & (words::u64_at(row, 96) << 1 != 0);
-    let is_done = words::u64_at(row, 240) % 256 == 0;
+    let is_done = words::u64_at(row, 248) % 256 == 0;
     let has_sine = is_done & ((words::u64_at(row, 24) == 0) | is_swayed);
     fields::compared(equal, row, has_sine, samples, scales, 8, out)
 }
 
-// Whether the call's answer and the state after it are the row's.
+// Whether the call's answer and the state after it are the row's. A row with a keying that is none names no call.
 fn is_called(row: &[u8], out: &mut [f64], shelf: &mut [u64]) -> bool {
+    if words::u64_at(row, KEYING) > 1 {
+        return false;
+    }
     let settings = settings_of(row);
-    let score = bytes_at(row, ROW, 112);
+    let score = bytes_at(row, ROW, 120);
     match words::u64_at(row, 0) {
         0 => is_outcome(row, render::render(settings, score, out, shelf)),
         1 => is_continued(row, settings, score, out),
@@ -58,9 +65,9 @@ fn is_called(row: &[u8], out: &mut [f64], shelf: &mut [u64]) -> bool {
 
 fn is_continued(row: &[u8], settings: Settings, score: &[u8], out: &mut [f64]) -> bool {
     let mut entry = [0u64; 13];
-    fields::put_words(row, 136, &mut entry);
+    fields::put_words(row, 144, &mut entry);
     let state = shelf::decode(&entry).state;
-    let position = words::u64_at(row, 128);
+    let position = words::u64_at(row, 136);
     is_outcome(
         row,
         render::continue_render(settings, score, state, position, out),
@@ -75,17 +82,17 @@ fn is_rerendered(
     out: &mut [f64],
     shelf: &mut [u64],
 ) -> bool {
-    let old_at = past(row, ROW, 112);
-    let first = past(row, old_at, 128);
+    let old_at = past(row, ROW, 120);
+    let first = past(row, old_at, 136);
     fields::put_floats(row, first, out);
     fields::put_words(
         row,
         std::num::wrapping_add_usize(first, out.len() << 3),
         shelf,
     );
-    let old = bytes_at(row, old_at, 128);
+    let old = bytes_at(row, old_at, 136);
     let answer = rerender::rerender(settings, old, score, out, shelf);
-    fields::says(answer, words::u64_at(row, 240))
+    fields::says(answer, words::u64_at(row, 248))
 }
 
 // The bytes of the score at byte `at`: as many as the word at `size_at` says, at most as many as are left.
@@ -117,6 +124,14 @@ fn settings_of(row: &[u8]) -> Settings {
             frequency: fields::float_at(row, 88),
             depth: fields::float_at(row, 96),
         },
+        keying: keying_of(row),
+    }
+}
+
+fn keying_of(row: &[u8]) -> Keying {
+    match words::u64_at(row, KEYING) {
+        0 => Keying::Struck,
+        _ => Keying::Joined,
     }
 }
 
@@ -124,5 +139,5 @@ fn is_outcome(row: &[u8], got: Rendered) -> bool {
     let answer = got.answer;
     let state = got.state;
     let entry = shelf::encode(state);
-    fields::says(answer, words::u64_at(row, 240)) & fields::are_words(row, 248, &entry)
+    fields::says(answer, words::u64_at(row, 248)) & fields::are_words(row, 256, &entry)
 }
