@@ -45,13 +45,13 @@ use Rattle.demands.proofs.Example.{edited}
 use Rattle.demands.proofs.Edits.{any-edits}
 
 -- ---- one record
-same-event : (g : Settings) (r off : Record) → IsNought r → off .kind ≡ Off → r .note ≡ off .note → eventOf g r ≡ eventOf g off
-same-event g r off h o n = nought-lifts g r h ∙ ap event.Lift n ∙ sym (off-lifts g off o)
+same-event : (r off : Record) → IsNought r → off .kind ≡ Off → r .note ≡ off .note → eventOf r ≡ eventOf off
+same-event r off h o n = nought-lifts r h ∙ ap event.Lift n ∙ sym (off-lifts off o)
 
-strike-velocities : (g : Settings) (s : List ℕ) → Taken s → (i : ℕ) → i < countOf s → (note velocity : ℕ) → eventOf g (recordAt s i) ≡ event.Strike note velocity → (1 ≤ velocity) × (velocity ≤ 127)
-strike-velocities g s a i l note velocity e =
-    let b : EventIn (event.Strike note velocity) = rw e at (accepted-events g s (a .records) (a .accepted) i l) in
-    (strike-from-1 g (recordAt s i) note velocity e, b .1)
+strike-velocities : (s : List ℕ) → Taken s → (i : ℕ) → i < countOf s → (note velocity : ℕ) → eventOf (recordAt s i) ≡ event.Strike note velocity → (1 ≤ velocity) × (velocity ≤ 127)
+strike-velocities s a i l note velocity e =
+    let b : EventIn (event.Strike note velocity) = rw e at (accepted-events s (a .records) (a .accepted) i l) in
+    (strike-from-1 (recordAt s i) note velocity e, b .1)
 
 voice-strikes : (s : VoiceState) (n : ℕ) → isVoice s ≡ true → n ≤ 127 → noteOnOf s n 0 ≡ record { answer = Done 0; voice = soundingOf (pressedOf (s .keys) n 0) n 0 }
 voice-strikes s n ok l = rw (ok, le-leb n 127 l) refl
@@ -98,7 +98,7 @@ velocity-nought =
     record {
       lifts = release-lifts;
       same-event = same-event;
-      same-state = λ g v r off h o n. ap (actOf g v) (same-event g r off h o n);
+      same-state = λ g v r off h o n. ap (actOf g v) (same-event r off h o n);
       others-strike = other-strikes;
       resets = reset-resets;
       strike-velocities = strike-velocities;

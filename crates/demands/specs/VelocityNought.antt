@@ -41,16 +41,16 @@ pub record Unmoved {R : Type 0} (before : Outcome R) (after : Outcome Answer) : 
 
 pub record VelocityNought : Type 0 where
   -- an off, and an on with velocity 0, lift the key of their note; what that calls is in `state`'s specs/Calls.antt
-  pub lifts : (g : Settings) (r : Record) → IsRelease r → eventOf g r ≡ event.Lift (r .note)
+  pub lifts : (r : Record) → IsRelease r → eventOf r ≡ event.Lift (r .note)
   -- so an on with velocity 0 and an off of that note, whatever the off's velocity, are the same event, and from every
   -- state leave the same state
-  pub same-event : (g : Settings) (r off : Record) → IsNought r → off .kind ≡ Off → r .note ≡ off .note → eventOf g r ≡ eventOf g off
-  pub same-state : (g : Settings) (v : State) (r off : Record) → IsNought r → off .kind ≡ Off → r .note ≡ off .note → actOf g v (eventOf g r) ≡ actOf g v (eventOf g off)
+  pub same-event : (r off : Record) → IsNought r → off .kind ≡ Off → r .note ≡ off .note → eventOf r ≡ eventOf off
+  pub same-state : (g : Settings) (v : State) (r off : Record) → IsNought r → off .kind ≡ Off → r .note ≡ off .note → actOf g v (eventOf r) ≡ actOf g v (eventOf off)
   -- an on with any other velocity strikes; a reset, whose velocity is 0 too, resets
-  pub others-strike : (g : Settings) (r : Record) → r .kind ≡ On → 1 ≤ r .velocity → eventOf g r ≡ event.Strike (r .note) (r .velocity)
-  pub resets : (g : Settings) (r : Record) → r .kind ≡ Reset → eventOf g r ≡ event.Reset
+  pub others-strike : (r : Record) → r .kind ≡ On → 1 ≤ r .velocity → eventOf r ≡ event.Strike (r .note) (r .velocity)
+  pub resets : (r : Record) → r .kind ≡ Reset → eventOf r ≡ event.Reset
   -- every strike of an accepted score has a velocity from 1 to 127
-  pub strike-velocities : (g : Settings) (s : List ℕ) → Taken s → (i : ℕ) → i < countOf s → (note velocity : ℕ) → eventOf g (recordAt s i) ≡ event.Strike note velocity → (1 ≤ velocity) × (velocity ≤ 127)
+  pub strike-velocities : (s : List ℕ) → Taken s → (i : ℕ) → i < countOf s → (note velocity : ℕ) → eventOf (recordAt s i) ≡ event.Strike note velocity → (1 ≤ velocity) × (velocity ≤ 127)
   -- the voice's own call with velocity 0: note n sounds, with velocity 0, and its key is pressed
   pub voice-strikes : (s : VoiceState) (n : ℕ) → isVoice s ≡ true → n ≤ 127 → noteOnOf s n 0 ≡ record { answer = Done 0; voice = soundingOf (pressedOf (s .keys) n 0) n 0 }
   -- the same states and samples are made, from every state and position

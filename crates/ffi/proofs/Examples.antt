@@ -1,4 +1,4 @@
--- The desk by worked examples: words, which of code, duty, phase and dt is judged, and which codes are settings.
+-- The desk by worked examples: words, which of code, duty, phase and dt is judged, and which numbers are settings.
 -- Computed. Assumes nothing.
 use mathlib.Core.Path.{_≡_, refl}
 use mathlib.Core.List.{[], _∷_, map}
@@ -8,6 +8,8 @@ use Rattle.answers.specs.declared.Refusal.the-variants.{Score, NewScore, Settin
 use Rattle.answers.specs.declared.ScoreFault.the-variants.{Kind, Order}
 use Rattle.floats.specs.Double.{zero64}
 use Rattle.ffi.specs.Packed.{packedOf}
+use Rattle.state.specs.declared.Keying.the-variants.{Struck, Joined}
+use Rattle.ffi.specs.declared.Manner.the-variants as manner
 use Rattle.ffi.specs.declared.Choice.the-variants.{Unknown}
 use Rattle.ffi.specs.Ffi.{asks, shapeOf, mannerOf, choiceOf, singleOf}
 
@@ -29,6 +31,11 @@ pub judged : (singleOf 9 nan zero64 zero64 .answer ∷ singleOf 4 zero64 zero64 
     ≡ Refused Setting ∷ Refused Setting ∷ Done 0 ∷ Refused Argument ∷ []
 unfolding shapeOf ofBits le lt eq
 judged = refl
+
+-- 0 is struck and 1 joined; 2, 256, 2^31 and 2^32 - 1 are unknown
+pub keyings : map mannerOf (0 ∷ 1 ∷ 2 ∷ 256 ∷ 2147483648 ∷ 4294967295 ∷ []) ≡ manner.Known Struck ∷ manner.Known Joined ∷ manner.Unknown ∷ manner.Unknown ∷ manner.Unknown ∷ manner.Unknown ∷ []
+unfolding mannerOf
+keyings = refl
 
 -- an LFO's code of 5 is unknown beside a waveform that is known, as a waveform's of 5 is beside an LFO; and so is 2 for
 -- joined beside two codes that are known

@@ -25,7 +25,7 @@ pub is-there : (s : List ℕ) (n i : ℕ) → isDueAt s i n ≡ true → i < cou
 is-there s n i t = ltb-true _ _ (both (ltb i (countOf s)) (eqb (positionAt s i) n) t .0)
 
 module _ (g : Settings) (s : List ℕ) (n i : ℕ) (v : State) where
-  pub act-on : (p : Place) → isDueAt s i n ≡ true → p ≡ placeOf (actOf g v (eventOf g (recordAt s i))) (i + 1) → actFrom g s n (countOf s - i) (placeOf v i) ≡ actFrom g s n (countOf s - p .next) p
+  pub act-on : (p : Place) → isDueAt s i n ≡ true → p ≡ placeOf (actOf g v (eventOf (recordAt s i))) (i + 1) → actFrom g s n (countOf s - i) (placeOf v i) ≡ actFrom g s n (countOf s - p .next) p
   unfolding actFrom
   act-on p t e = let h = is-there s n i t in let d : countOf s - i ≡ suc (countOf s - (i + 1)) = omega arith in rw (e, d, t, add-one i) refl
 

@@ -36,13 +36,13 @@ record Acting (g : Settings) (s : List ℕ) (n : ℕ) (v : State) (i : ℕ) (w :
   so-far : w ≡ actTo g s n i v
 
 module _ (g : Settings) (s : List ℕ) (o : Sorted s) (n : ℕ) (v : State) where
-  acting-on : (i : ℕ) (w : State) → i < countOf s → positionAt s i ≡ n → Acting g s n v i w → Acting g s n v (suc i) (actOf g w (eventOf g (recordAt s i)))
+  acting-on : (i : ℕ) (w : State) → i < countOf s → positionAt s i ≡ n → Acting g s n v i w → Acting g s n v (suc i) (actOf g w (eventOf (recordAt s i)))
   unfolding actTo
   acting-on i w h e x =
       record {
         lows = λ j l. ⊎-elim (λ q. rw q (omega arith)) (λ q. x .lows j q) (eq-or-lt-of-le (le-of-suc-le-suc l));
         highs = λ j a b. x .highs j (omega arith) b;
-        so-far = rw (eq-eqb (positionAt s i) n e) (ap (λ (u : State). actOf g u (eventOf g (recordAt s i))) (x .so-far));
+        so-far = rw (eq-eqb (positionAt s i) n e) (ap (λ (u : State). actOf g u (eventOf (recordAt s i))) (x .so-far));
       }
 
   acting-stop : (i : ℕ) (w : State) → i < countOf s → (positionAt s i ≡ n → ⊥) → Acting g s n v i w → Acts g s n v (placeOf w i)
@@ -64,10 +64,10 @@ module _ (g : Settings) (s : List ℕ) (o : Sorted s) (n : ℕ) (v : State) wher
   acts : (k i : ℕ) (w : State) → i + k ≡ countOf s → Acting g s n v i w → Acts g s n v (actFrom g s n k (placeOf w i))
   unfolding actFrom
   acts zero i w e x = let d : i ≡ countOf s = omega arith in rw d (acting-end w (rw d at x))
-  acts (suc k) i w e x = rw (lt-ltb i (countOf s) (omega arith)) (go (acts k (suc i) (actOf g w (eventOf g (recordAt s i))) (omega arith)) (eqb (positionAt s i) n) refl)
+  acts (suc k) i w e x = rw (lt-ltb i (countOf s) (omega arith)) (go (acts k (suc i) (actOf g w (eventOf (recordAt s i))) (omega arith)) (eqb (positionAt s i) n) refl)
     where
-      go : (Acting g s n v (suc i) (actOf g w (eventOf g (recordAt s i))) → Acts g s n v (actFrom g s n k (placeOf (actOf g w (eventOf g (recordAt s i))) (suc i)))) → (t : Bool) → eqb (positionAt s i) n ≡ t
-          → Acts g s n v (cond t (actFrom g s n k (placeOf (actOf g w (eventOf g (recordAt s i))) (suc i))) (placeOf w i))
+      go : (Acting g s n v (suc i) (actOf g w (eventOf (recordAt s i))) → Acts g s n v (actFrom g s n k (placeOf (actOf g w (eventOf (recordAt s i))) (suc i)))) → (t : Bool) → eqb (positionAt s i) n ≡ t
+          → Acts g s n v (cond t (actFrom g s n k (placeOf (actOf g w (eventOf (recordAt s i))) (suc i))) (placeOf w i))
       go ih true q = ih (acting-on i w (omega arith) (eqb-true (positionAt s i) n q) x)
       go ih false q = acting-stop i w (omega arith) (eqb-false (positionAt s i) n q) x
 

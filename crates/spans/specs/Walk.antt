@@ -29,7 +29,7 @@ isDueAt s i n = ltb i (countOf s) && eqb (positionAt s i) n
 
 -- the next record acts
 abbrev pub actNext : Settings → List ℕ → Place → Place
-actNext g s p = placeOf (actOf g (p .state) (eventOf g (recordAt s (p .next)))) (suc (p .next))
+actNext g s p = placeOf (actOf g (p .state) (eventOf (recordAt s (p .next)))) (suc (p .next))
 
 -- of the next k records the first ones act, as long as they are at n
 unfoldable pub actFrom : Settings → List ℕ → ℕ → ℕ → Place → Place

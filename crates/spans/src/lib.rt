@@ -155,7 +155,7 @@ fn begin(settings: Settings, score: &[u8], walker: Walker, position: u64, offset
     let mut at = walker;
     at.state = state;
     while is_due(at, offset) {
-        let event = state::event_of(settings, score::record_at(score, at.next));
+        let event = state::event_of(score::record_at(score, at.next));
         let state = state::act(settings, at.state, event);
         let next = at.next + 1;
         at = walker_at(score, Place { state, next }, position);

@@ -15,7 +15,7 @@ use Rattle.state.specs.Heart.{reducesAt, actTo, begun, afterSample, stat
 -- the steps keep R
 pub record Alongside (g h : Settings) (R : State → State → Type 0) : Type 0 where
   pub reduced : (v w : State) → R v w → R (reducedOf v) (reducedOf w)
-  pub acted : (v w : State) (r : Record) → R v w → R (actOf g v (eventOf g r)) (actOf h w (eventOf h r))
+  pub acted : (v w : State) (r : Record) → R v w → R (actOf g v (eventOf r)) (actOf h w (eventOf r))
   pub advanced : (v w : State) → R v w → R (advanceOf g v) (advanceOf h w)
 
 module _ (g h : Settings) (R : State → State → Type 0) (c : Alongside g h R) (s : List ℕ) where
@@ -25,7 +25,7 @@ module _ (g h : Settings) (R : State → State → Type 0) (c : Alongside g h R)
   acts-beside n (suc k) v w e = go (eqb (positionAt s k) n) (acts-beside n k v w e)
     where
       go : (b : Bool) → R (actTo g s n k v) (actTo h s n k w)
-          → R (cond b (actOf g (actTo g s n k v) (eventOf g (recordAt s k))) (actTo g s n k v)) (cond b (actOf h (actTo h s n k w) (eventOf h (recordAt s k))) (actTo h s n k w))
+          → R (cond b (actOf g (actTo g s n k v) (eventOf (recordAt s k))) (actTo g s n k v)) (cond b (actOf h (actTo h s n k w) (eventOf (recordAt s k))) (actTo h s n k w))
       go true r = c .acted (actTo g s n k v) (actTo h s n k w) (recordAt s k) r
       go false r = r
 

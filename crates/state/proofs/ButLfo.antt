@@ -44,9 +44,9 @@ act-unseen g v event.Reset p = refl
 
 module _ (g : Settings) (l : Lfo) where
   -- no event depends on the LFO's settings
-  act-apart : (v : State) (r : Record) → actOf g v (eventOf g r) ≡ actOf (withTremolo g l) v (eventOf (withTremolo g l) r)
+  act-apart : (v : State) (r : Record) → actOf g v (eventOf r) ≡ actOf (withTremolo g l) v (eventOf r)
   unfolding actOf
-  act-apart v r = go (eventOf g r)
+  act-apart v r = go (eventOf r)
     where
       go : (e : Event) → actOf g v e ≡ actOf (withTremolo g l) v e
       go (event.Strike note velocity) = refl
@@ -65,7 +65,7 @@ module _ (g : Settings) (l : Lfo) where
   alongside =
       record {
         reduced = λ v w e. unseen (λ (x : State). without (reducedOf x)) (λ x p. refl) v w e;
-        acted = λ v w r e. unseen (λ (x : State). without (actOf g x (eventOf g r))) (λ x p. act-unseen g x (eventOf g r) p) v w e ∙ ap without (act-apart w r);
+        acted = λ v w r e. unseen (λ (x : State). without (actOf g x (eventOf r))) (λ x p. act-unseen g x (eventOf r) p) v w e ∙ ap without (act-apart w r);
         advanced = λ v w e. sym (advance-apart v (v .lfo)) ∙ unseen (λ (x : State). without (advanceOf (withTremolo g l) x)) (λ x p. advance-apart x p ∙ sym (advance-apart x (x .lfo))) v w e;
       }
 

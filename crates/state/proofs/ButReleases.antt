@@ -24,22 +24,22 @@ use Rattle.state.specs.ButReleases.{IsNought, IsRelease, SameRelease, Sa
 use Rattle.state.proofs.Depends.{ActAlike, equal-alike, Shared, state-shared, samples-shared, entries-shared}
 
 -- ---- one record
-pub off-lifts : (g : Settings) (r : Record) → r .kind ≡ Off → eventOf g r ≡ event.Lift (r .note)
-off-lifts g r e = rw e refl
+pub off-lifts : (r : Record) → r .kind ≡ Off → eventOf r ≡ event.Lift (r .note)
+off-lifts r e = rw e refl
 
-pub nought-lifts : (g : Settings) (r : Record) → IsNought r → eventOf g r ≡ event.Lift (r .note)
-nought-lifts g r e = rw (e .0, e .1) refl
+pub nought-lifts : (r : Record) → IsNought r → eventOf r ≡ event.Lift (r .note)
+nought-lifts r e = rw (e .0, e .1) refl
 
-pub release-lifts : (g : Settings) (r : Record) → IsRelease r → eventOf g r ≡ event.Lift (r .note)
-release-lifts g r h = ⊎-elim (off-lifts g r) (nought-lifts g r) h
+pub release-lifts : (r : Record) → IsRelease r → eventOf r ≡ event.Lift (r .note)
+release-lifts r h = ⊎-elim (off-lifts r) (nought-lifts r) h
 
 -- an on with any other velocity strikes
-pub other-strikes : (g : Settings) (r : Record) → r .kind ≡ On → 1 ≤ r .velocity → eventOf g r ≡ event.Strike (r .note) (r .velocity)
-other-strikes g r e h = rw (e, ne-eqb (r .velocity) 0 (λ z. omega arith)) refl
+pub other-strikes : (r : Record) → r .kind ≡ On → 1 ≤ r .velocity → eventOf r ≡ event.Strike (r .note) (r .velocity)
+other-strikes r e h = rw (e, ne-eqb (r .velocity) 0 (λ z. omega arith)) refl
 
 -- a reset resets, whatever its velocity, which is 0 in an accepted score
-pub reset-resets : (g : Settings) (r : Record) → r .kind ≡ Reset → eventOf g r ≡ event.Reset
-reset-resets g r e = rw e refl
+pub reset-resets : (r : Record) → r .kind ≡ Reset → eventOf r ≡ event.Reset
+reset-resets r e = rw e refl
 
 -- no record strikes with velocity 0
 abbrev From1 : Event → Type 0
@@ -56,15 +56,15 @@ from-1 On note velocity = go (eqb velocity 0) refl
 from-1 Off note velocity = tt
 from-1 Reset note velocity = tt
 
-pub strike-from-1 : (g : Settings) (r : Record) (note velocity : ℕ) → eventOf g r ≡ event.Strike note velocity → 1 ≤ velocity
-strike-from-1 g r note velocity e = subst From1 e (from-1 (r .kind) (r .note) (r .velocity))
+pub strike-from-1 : (r : Record) (note velocity : ℕ) → eventOf r ≡ event.Strike note velocity → 1 ≤ velocity
+strike-from-1 r note velocity e = subst From1 e (from-1 (r .kind) (r .note) (r .velocity))
 
 -- ---- two scores
 same-release-alike : (r p : Record) → SameRelease r p → ActAlike r p
 same-release-alike r p h =
     record {
       position = h .position;
-      event = λ g. release-lifts g r (h .releases .0) ∙ ap event.Lift (h .note) ∙ sym (release-lifts g p (h .releases .1));
+      event = release-lifts r (h .releases .0) ∙ ap event.Lift (h .note) ∙ sym (release-lifts p (h .releases .1));
     }
 
 module _ (s t : List ℕ) (h : SameButReleases s t) where

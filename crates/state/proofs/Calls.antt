@@ -43,6 +43,7 @@ use Rattle.state.specs.declared.Event.{Event}
 use Rattle.state.specs.declared.Event.the-variants as event
 use Rattle.state.specs.State.{concert, freshOf, triggersOver, triggeredIf, afterNoteOff, actOf}
 use Rattle.state.specs.Calls.{Alike, voiceCall, calledIf, envelopeCall, phaseThen}
+use Rattle.state.proofs.Joined.{left-envelope}
 use Rattle.state.proofs.Limits.{is-true, Kept, EventIn}
 
 -- ---- what a call leaves that is done
@@ -114,12 +115,7 @@ module _ (g : Settings) (v : State) (w : VoiceState) (b : EnvelopeBlock) (a : Al
   pub released-decides : (note : ℕ) → voice.noteOffOf w note .answer ≡ Done 0 → actOf g v (event.Lift note) .envelope ≡ cond (isReleased (voice.noteOffOf w note .off)) (releasedOf (v .envelope)) (v .envelope)
   released-decides note d =
       let l = liftedOf (w .keys) note in
-      rw (lift-is note, off-done w note d) (go (l .keys) (l .off))
-    where
-      go : (keys : Keys) (off : NoteOff) → afterNoteOff v keys off .envelope ≡ cond (isReleased off) (releasedOf (v .envelope)) (v .envelope)
-      go keys Released = refl
-      go keys (FellBack note velocity) = refl
-      go keys NoChange = refl
+      rw (lift-is note, off-done w note d) (left-envelope v (l .keys) (l .off))
 
 -- the two phases
 pub phase-then : (g : Settings) (v : State) (e : Event) → (actOf g v e .phase ≡ phaseThen (v .phase) e) × (actOf g v e .lfo ≡ phaseThen (v .lfo) e)

@@ -1,33 +1,39 @@
--- What a key that is struck does to the envelope, struck and joined, and that the envelope of an active note is held:
--- after every step, under either setting and for any score, if it was so before. So a key that is joined to a note is
--- never lost in an envelope that is released or idle. Assumes nothing.
+-- What a key does to the envelope, struck and joined; that all else is the same under either keying; that the records
+-- at a sample act one after the other; and that the envelope of an active note is open after every step, under any
+-- settings and for any score, if it was so before. So no key is joined to an envelope that is released or idle. Assumes
+-- nothing.
 use mathlib.Core.Path.{_≡_, refl, sym, ap, _∙_}
 use mathlib.Core.Bool.{Bool, true, false, cond}
-use mathlib.Core.List.{List, [], _∷_}
-use Prim.Native.Nat.{ℕ, _+_}
+use mathlib.Core.List.{List, [], _∷_, _++_}
+use Prim.Native.Nat.{ℕ, zero, suc, _+_}
+use lib.Dec.{eqb}
 use lib.Ieee.{Float, le}
 use Rattle.floats.specs.Double.{_⊕_, zero64, one}
 use Rattle.voice.specs.Keys.{Pair, keysOf, others, heldOf, isSounding, lastOf, pressedOf, liftedOf}
 use Rattle.voice.specs.declared.keys.ActiveNote.{ActiveNote}
 use Rattle.voice.specs.declared.keys.ActiveNote.the-variants.{Silent, Note}
 use Rattle.voice.specs.declared.keys.AfterLift.{AfterLift}
+use Rattle.voice.specs.Voice.{isReleased}
+use Rattle.voice.specs.declared.keys.Keys.{Keys}
+use Rattle.voice.specs.declared.keys.NoteOff.{NoteOff}
 use Rattle.voice.specs.declared.keys.NoteOff.the-variants.{Released, FellBack, NoChange}
 use Rattle.voice.proofs.Actions.{by-cases}
 use Rattle.envelope.specs.Limits.{clampedOf, sampleTimeOf}
-use Rattle.envelope.specs.Stages.{attackLevel, decayLevel, releaseLevel, withStage, attackRule, decayRule, ruleOf, isMoving, grownOf, stepOf}
+use Rattle.envelope.specs.Stages.{attackLevel, decayLevel, releaseLevel, withStage, attackRule, decayRule, ruleOf, isMoving, grownOf, stepOf, releasedOf}
 use Rattle.envelope.specs.declared.Adsr.{Adsr}
 use Rattle.envelope.specs.declared.Envelope.{Envelope}
 use Rattle.envelope.specs.declared.EnvelopeStage.{EnvelopeStage}
 use Rattle.envelope.specs.declared.EnvelopeStage.the-variants.{Idle, Attack, Decay, Sustain, Release}
+use Rattle.score.specs.Record.{countOf, positionAt, recordAt}
 use Rattle.state.specs.declared.Keying.{Keying}
 use Rattle.state.specs.declared.Keying.the-variants.{Struck, Joined}
 use Rattle.state.specs.declared.Settings.{Settings}
 use Rattle.state.specs.declared.State.{State}
 use Rattle.state.specs.declared.Event.{Event}
 use Rattle.state.specs.declared.Event.the-variants as event
-use Rattle.state.specs.State.{withEnvelope, isSilent, triggersOver, triggeredIf, triggers, afterNoteOff, actOf, advanceOf}
-use Rattle.state.specs.Heart.{begun, stateFrom}
-use Rattle.state.specs.Joined.{alwaysTriggered, isHeld, HeldIfActive}
+use Rattle.state.specs.State.{withEnvelope, reducedOf, eventOf, isSilent, triggersOver, triggeredIf, afterNoteOff, actOf, dryOf, sampleOf, advanceOf}
+use Rattle.state.specs.Heart.{reducesAt, actTo, begun, stateFrom}
+use Rattle.state.specs.Joined.{alwaysTriggered, isOpen, OpenIfActive, withKeying, actAll, eventsTo}
 use Rattle.state.proofs.Lasting.{every-state, every-begun}
 
 -- ---- one key
@@ -44,7 +50,16 @@ module _ (g : Settings) (v : State) (note velocity : ℕ) where
   unfolding actOf
   joined-triggers e a = rw (e, a) refl
 
--- an off and a reset do not depend on the settings
+-- an off releases the envelope or leaves it; an off and a reset do not depend on the settings
+pub left-envelope : (v : State) (keys : Keys) (off : NoteOff) → afterNoteOff v keys off .envelope ≡ cond (isReleased off) (releasedOf (v .envelope)) (v .envelope)
+left-envelope v keys Released = refl
+left-envelope v keys (FellBack note velocity) = refl
+left-envelope v keys NoChange = refl
+
+pub lift-releases : (g : Settings) (v : State) (note : ℕ) → actOf g v (event.Lift note) .envelope ≡ cond (isReleased (liftedOf (v .keys) note .off)) (releasedOf (v .envelope)) (v .envelope)
+unfolding actOf
+lift-releases g v note = left-envelope v (liftedOf (v .keys) note .keys) (liftedOf (v .keys) note .off)
+
 pub lift-anyhow : (g h : Settings) (v : State) (note : ℕ) → actOf g v (event.Lift note) ≡ actOf h v (event.Lift note)
 unfolding actOf
 lift-anyhow g h v note = refl
@@ -53,7 +68,36 @@ pub reset-anyhow : (g h : Settings) (v : State) → actOf g v event.Reset ≡ ac
 unfolding actOf
 reset-anyhow g h v = refl
 
--- ---- an event keeps the envelope of an active note held
+-- ---- the keying changes nothing else
+module _ (g : Settings) (k : Keying) where
+  pub sample-anyhow : (v : State) → sampleOf (withKeying g k) v ≡ sampleOf g v
+  unfolding sampleOf dryOf
+  sample-anyhow v = refl
+
+  pub advance-anyhow : (v : State) → advanceOf (withKeying g k) v ≡ advanceOf g v
+  unfolding advanceOf
+  advance-anyhow v = refl
+
+-- ---- the records at a sample act one after the other
+all-append : (g : Settings) (v : State) (xs ys : List Event) → actAll g v (xs ++ ys) ≡ actAll g (actAll g v xs) ys
+unfolding actAll
+all-append g v [] ys = refl
+all-append g v (x ∷ xs) ys = all-append g (actOf g v x) xs ys
+
+acts-all : (g : Settings) (s : List ℕ) (n k : ℕ) (v : State) → actTo g s n k v ≡ actAll g v (eventsTo s n k)
+unfolding actTo actAll eventsTo
+acts-all g s n zero v = refl
+acts-all g s n (suc k) v = rw (acts-all g s n k v, all-append g v (eventsTo s n k) (cond (eqb (positionAt s k) n) (eventOf (recordAt s k) ∷ []) [])) (go (eqb (positionAt s k) n))
+  where
+    go : (t : Bool) → cond t (actOf g (actAll g v (eventsTo s n k)) (eventOf (recordAt s k))) (actAll g v (eventsTo s n k)) ≡ actAll g (actAll g v (eventsTo s n k)) (cond t (eventOf (recordAt s k) ∷ []) [])
+    go true = refl
+    go false = refl
+
+pub begins-all : (g : Settings) (s : List ℕ) (n : ℕ) (v : State) → begun g s n v ≡ actAll g (cond (reducesAt s n) (reducedOf v) v) (eventsTo s n (countOf s))
+unfolding begun
+begins-all g s n v = acts-all g s n (countOf s) (cond (reducesAt s n) (reducedOf v) v)
+
+-- ---- an event keeps the envelope of an active note open
 not-silent : (a : ActiveNote) → isSilent a ≡ false → (b : Bool) → ((n : ℕ) → a ≡ Note n → b ≡ true) → b ≡ true
 not-silent Silent e b f = let z : true ≡ false = e in cc
 not-silent (Note n) e b f = f n refl
@@ -62,68 +106,68 @@ sounds : (a : ActiveNote) (n : ℕ) → isSounding a n ≡ true → isSilent a �
 sounds Silent n e = let z : false ≡ true = e in cc
 sounds (Note m) n e = refl
 
-strike-held : (k : Keying) (v : State) → HeldIfActive v → isHeld (triggeredIf (triggersOver k (v .keys)) (v .envelope) .stage) ≡ true
-strike-held Struck v h = refl
-strike-held Joined v h = go (isSilent (v .keys .active)) refl
+strike-open : (k : Keying) (v : State) → OpenIfActive v → isOpen (triggeredIf (triggersOver k (v .keys)) (v .envelope) .stage) ≡ true
+strike-open Struck v h = refl
+strike-open Joined v h = go (isSilent (v .keys .active)) refl
   where
-    go : (t : Bool) → isSilent (v .keys .active) ≡ t → isHeld (triggeredIf t (v .envelope) .stage) ≡ true
+    go : (t : Bool) → isSilent (v .keys .active) ≡ t → isOpen (triggeredIf t (v .envelope) .stage) ≡ true
     go true e = refl
     go false e = not-silent (v .keys .active) e _ h
 
-lift-held : (v : State) (note : ℕ) → HeldIfActive v → HeldIfActive (afterNoteOff v (liftedOf (v .keys) note .keys) (liftedOf (v .keys) note .off))
-lift-held v note h = by-cases (v .keys) note (λ (l : AfterLift). HeldIfActive (afterNoteOff v (l .keys) (l .off))) same none back
+lift-open : (v : State) (note : ℕ) → OpenIfActive v → OpenIfActive (afterNoteOff v (liftedOf (v .keys) note .keys) (liftedOf (v .keys) note .off))
+lift-open v note h = by-cases (v .keys) note (λ (l : AfterLift). OpenIfActive (afterNoteOff v (l .keys) (l .off))) same none back
   where
-    same : isSounding (v .keys .active) note ≡ false → HeldIfActive (afterNoteOff v (keysOf (v .keys .active) (v .keys .gate) (others note (heldOf (v .keys)))) NoChange)
+    same : isSounding (v .keys .active) note ≡ false → OpenIfActive (afterNoteOff v (keysOf (v .keys .active) (v .keys .gate) (others note (heldOf (v .keys)))) NoChange)
     same e = h
 
-    none : isSounding (v .keys .active) note ≡ true → others note (heldOf (v .keys)) ≡ [] → HeldIfActive (afterNoteOff v (keysOf Silent false []) Released)
+    none : isSounding (v .keys .active) note ≡ true → others note (heldOf (v .keys)) ≡ [] → OpenIfActive (afterNoteOff v (keysOf Silent false []) Released)
     none e q n a = let z : Silent ≡ Note n = a in cc
 
     back : (p : Pair) (ps : List Pair) → isSounding (v .keys .active) note ≡ true → others note (heldOf (v .keys)) ≡ p ∷ ps
-        → HeldIfActive (afterNoteOff v (keysOf (Note (lastOf p ps .note)) (v .keys .gate) (p ∷ ps)) (FellBack (lastOf p ps .note) (lastOf p ps .velocity)))
+        → OpenIfActive (afterNoteOff v (keysOf (Note (lastOf p ps .note)) (v .keys .gate) (p ∷ ps)) (FellBack (lastOf p ps .note) (lastOf p ps .velocity)))
     back p ps e q n a = not-silent (v .keys .active) (sounds (v .keys .active) note e) _ h
 
-act-held : (g : Settings) (v : State) (e : Event) → HeldIfActive v → HeldIfActive (actOf g v e)
+act-open : (g : Settings) (v : State) (e : Event) → OpenIfActive v → OpenIfActive (actOf g v e)
 unfolding actOf
-act-held g v (event.Strike note velocity) h n a = strike-held (g .keying) v h
-act-held g v (event.Lift note) h n a = lift-held v note h n a
-act-held g v event.Reset h n a = let z : Silent ≡ Note n = a in cc
+act-open g v (event.Strike note velocity) h n a = strike-open (g .keying) v h
+act-open g v (event.Lift note) h n a = lift-open v note h n a
+act-open g v event.Reset h n a = let z : Silent ≡ Note n = a in cc
 
--- ---- a sample does
-step-held : (k : Adsr) (t : Float) (e : Envelope) → isHeld (e .stage) ≡ true → isHeld (stepOf k t e .stage) ≡ true
+-- ---- a sample keeps it open
+step-open : (k : Adsr) (t : Float) (e : Envelope) → isOpen (e .stage) ≡ true → isOpen (stepOf k t e .stage) ≡ true
 unfolding stepOf
-step-held k t e h = grown (ruleOf (e .stage) k e) (ruled (e .stage) h)
+step-open k t e h = grown (ruleOf (e .stage) k e) (ruled (e .stage) h)
   where
-    grown : (e : Envelope) → isHeld (e .stage) ≡ true → isHeld (grownOf t e .stage) ≡ true
+    grown : (e : Envelope) → isOpen (e .stage) ≡ true → isOpen (grownOf t e .stage) ≡ true
     grown e h = go (isMoving (e .stage))
       where
-        go : (m : Bool) → isHeld (cond m (withStage e (e .stage) (e .level) (e .«stage_time» ⊕ t)) e .stage) ≡ true
+        go : (m : Bool) → isOpen (cond m (withStage e (e .stage) (e .level) (e .«stage_time» ⊕ t)) e .stage) ≡ true
         go true = h
         go false = h
 
-    rising : (b : Bool) (x : Float) → isHeld (cond b (withStage e Decay one zero64) (withStage e Attack x (e .«stage_time»)) .stage) ≡ true
+    rising : (b : Bool) (x : Float) → isOpen (cond b (withStage e Decay one zero64) (withStage e Attack x (e .«stage_time»)) .stage) ≡ true
     rising true x = refl
     rising false x = refl
 
-    falling : (b : Bool) (x : Float) → isHeld (cond b (withStage e Sustain (k .sustain) zero64) (withStage e Decay x (e .«stage_time»)) .stage) ≡ true
+    falling : (b : Bool) (x : Float) → isOpen (cond b (withStage e Sustain (k .sustain) zero64) (withStage e Decay x (e .«stage_time»)) .stage) ≡ true
     falling true x = refl
     falling false x = refl
 
-    ruled : (s : EnvelopeStage) → isHeld s ≡ true → isHeld (ruleOf s k e .stage) ≡ true
+    ruled : (s : EnvelopeStage) → isOpen s ≡ true → isOpen (ruleOf s k e .stage) ≡ true
     ruled Idle h = h
     ruled Attack h = rising (le one (attackLevel (k .attack) e)) (attackLevel (k .attack) e)
     ruled Decay h = falling (le (decayLevel (k .decay) (k .sustain) e) (k .sustain)) (decayLevel (k .decay) (k .sustain) e)
     ruled Sustain h = refl
     ruled Release h = let z : false ≡ true = h in cc
 
-advance-held : (g : Settings) (v : State) → HeldIfActive v → HeldIfActive (advanceOf g v)
+advance-open : (g : Settings) (v : State) → OpenIfActive v → OpenIfActive (advanceOf g v)
 unfolding advanceOf
-advance-held g v h n a = step-held (clampedOf (g .adsr)) (sampleTimeOf (g .rate)) (v .envelope) (h n a)
+advance-open g v h n a = step-open (clampedOf (g .adsr)) (sampleTimeOf (g .rate)) (v .envelope) (h n a)
 
 -- ---- any number of samples
-module _ (g : Settings) (s : List ℕ) (n : ℕ) (v : State) (h : HeldIfActive v) where
-  pub state-held : (k : ℕ) → HeldIfActive (stateFrom g s n v k)
-  state-held = every-state g s HeldIfActive (λ u q. q) (act-held g) (advance-held g) n v h
+module _ (g : Settings) (s : List ℕ) (n : ℕ) (v : State) (h : OpenIfActive v) where
+  pub state-open : (k : ℕ) → OpenIfActive (stateFrom g s n v k)
+  state-open = every-state g s OpenIfActive (λ u q. q) (act-open g) (advance-open g) n v h
 
-  pub begun-held : (k : ℕ) → HeldIfActive (begun g s (n + k) (stateFrom g s n v k))
-  begun-held = every-begun g s HeldIfActive (λ u q. q) (act-held g) (advance-held g) n v h
+  pub begun-open : (k : ℕ) → OpenIfActive (begun g s (n + k) (stateFrom g s n v k))
+  begun-open = every-begun g s OpenIfActive (λ u q. q) (act-open g) (advance-open g) n v h

@@ -17,7 +17,7 @@ pub mod ButLfo
 pub mod Acted
 -- a property that the steps keep is true at every sample
 pub mod Lasting
--- what a key does to the envelope, struck and joined, and that an active note's envelope is held
+-- what a key does to the envelope, struck and joined, and that an active note's envelope is open
 pub mod Joined
 -- the floats of a state are values of an f64 after every step
 pub mod Fits

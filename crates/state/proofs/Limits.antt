@@ -225,11 +225,11 @@ most-in b = go (eqb b 3)
     go false = omega arith
 
 -- every record of an accepted score is such an event
-abbrev pub EventsIn : Settings → List ℕ → Type 0
-EventsIn g s = (i : ℕ) → i < countOf s → EventIn (eventOf g (recordAt s i))
+abbrev pub EventsIn : List ℕ → Type 0
+EventsIn s = (i : ℕ) → i < countOf s → EventIn (eventOf (recordAt s i))
 
-pub accepted-events : (g : Settings) (s : List ℕ) (m : ℕ) → verdictOf s ≡ Accepted m → EventsIn g s
-accepted-events g s m a i h =
+pub accepted-events : (s : List ℕ) (m : ℕ) → verdictOf s ≡ Accepted m → EventsIn s
+accepted-events s m a i h =
     let all = accepted-all s m a in
     let size : length s ≡ m * 10 = all .size in
     let r = all .fine i (omega arith) .right in

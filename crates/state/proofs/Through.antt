@@ -95,7 +95,7 @@ module _ (P Q : ℕ → Float → Type 0) (c : Carried P Q) (g : Settings) (ok :
       record {
         reduced = λ i v k. reduced-keeps (P i) (Q i) v (c .reduced i) k;
         left = λ i v e k. weaken (P i) (Q i) v (λ x. c .left i x e) k;
-        acted = λ i j v h k. act-keeps g (Q i) (c .zeroed i) v k (eventOf g (recordAt s j)) (accepted-events g s m a j h);
+        acted = λ i j v h k. act-keeps g (Q i) (c .zeroed i) v k (eventOf (recordAt s j)) (accepted-events s m a j h);
         advanced = λ i v k. advance-keeps g ok w (Q i) (P (suc i)) v (c .grown i) k;
       }
 

@@ -2,8 +2,8 @@
 -- envelope's where it returned true. Reset: voice, envelope and phase to their fresh state."
 -- The calls are those of `VoiceState` and `EnvelopeBlock`, as their crates define them; `calls-act` in
 -- proofs/Calls.antt proves that an event does what they do. The voice's `note_off` says one of three (02, R-2), and
--- released is where the original's returned true. Under Joined an on skips the envelope's `note_on` where the voice has
--- an active note before its own (02, R-9: "Demand 2's oracle skips the trigger in those cases").
+-- released is where the original's returned true. Under Joined an on skips the envelope's `note_on` if the voice had an
+-- active note before the voice's `note_on` (02, R-9: "Demand 2's oracle skips the trigger in those cases").
 -- Frequency and velocity are f32 in a voice and f64 in a state. Every f32 is also an f64, so they are compared as
 -- numbers. Definitions only.
 use mathlib.Core.Bool.{Bool, cond}
@@ -37,11 +37,11 @@ voiceCall w (event.Strike note velocity) = voice.noteOnOf w note velocity
 voiceCall w (event.Lift note) = let off = voice.noteOffOf w note in record { answer = off .answer; voice = off .voice }
 voiceCall w event.Reset = voice.resetOf w
 
--- the envelope is called, or it is not and stays
+-- what a call of the envelope gives; or, where the call is skipped, Done 0 and the block as it came
 abbrev pub calledIf : Bool → EnvelopeBlock → Processed → Processed
 calledIf called b after = cond called after (record { answer = Done 0; block = b })
 
--- the envelope's note_on unless it is skipped, and its note_off if the voice's says released
+-- the envelope's note_on unless it is skipped, and its note_off if the voice's note_off says released
 abbrev pub envelopeCall : Settings → VoiceState → EnvelopeBlock → Event → Processed
 envelopeCall g w b (event.Strike note velocity) = calledIf (triggersOver (g .keying) (w .keys)) b (envelope.noteOnOf b)
 envelopeCall g w b (event.Lift note) = calledIf (voice.isReleased (voice.noteOffOf w note .off)) b (envelope.noteOffOf b)

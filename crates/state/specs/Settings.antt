@@ -1,5 +1,5 @@
 -- The settings that a render accepts. 01, number 6: "rate, waveform's duty or an ADSR setting outside the domain"; 02,
--- R-7: "6 covers the new settings". One test for all of them. Definitions only.
+-- R-7: "6 covers the new settings". One test for all of them. Either keying is accepted (02, R-9). Definitions only.
 use mathlib.Core.Bool.{Bool, _&&_}
 use Rattle.domain.specs.Domain.{isRate}
 use Rattle.envelope.specs.Limits.{isAdsr}

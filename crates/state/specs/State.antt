@@ -9,7 +9,7 @@
 -- 02, R-9: "A setting chooses joined or struck; struck is today's rule. Joined triggers the envelope only if no note
 -- was active just before. Note-off is as before"; "the active note decides, not the stack".
 -- 02, R-13, takes the branch for a negative remainder out of the voice's reduction; the block calls keep it.
--- A reset does not set the number of records acted to 0: it is counted as one more. Definitions only.
+-- A reset does not set the number of records acted to 0: the reset is counted as one more. Definitions only.
 use mathlib.Core.Bool.{Bool, true, false, cond}
 use Prim.Native.Nat.{ℕ, _+_}
 use lib.Dec.{ltb, eqb}
@@ -79,23 +79,22 @@ reducedOf v = withPhases v (remainderOf (v .phase .0)) (remainderOf (v .lfo .0))
 
 -- ---- act
 -- what a record does: an on strikes a key (note, velocity), or lifts it where its velocity is 0 (02, R-4); an off lifts
--- a key (note); a reset resets. A lift releases the envelope only where the voice's note_off says released. No event
--- depends on the settings: whether a strike triggers the envelope is said below
+-- a key (note); a reset resets. A lift releases the envelope only where the voice's note_off says released
 abbrev pub eventFor : Kind → ℕ → ℕ → Event
 eventFor On note velocity = cond (eqb velocity 0) (event.Lift note) (event.Strike note velocity)
 eventFor Off note velocity = event.Lift note
 eventFor Reset note velocity = event.Reset
 
-abbrev pub eventOf : Settings → Record → Event
-eventOf g r = eventFor (r .kind) (r .note) (r .velocity)
+abbrev pub eventOf : Record → Event
+eventOf r = eventFor (r .kind) (r .note) (r .velocity)
 
--- no note
+-- no note is active
 abbrev pub isSilent : ActiveNote → Bool
 isSilent Silent = true
 isSilent (Note n) = false
 
--- whether a key that is struck triggers the envelope, over the keys just before (02, R-9): under Struck always, under
--- Joined only if no note was active. Gate, held keys and stage do not matter
+-- whether a key that goes down triggers the envelope, where `keys` are those just before (02, R-9): under Struck
+-- always, under Joined only if no note was active. The gate, the held keys and the stage do not decide
 abbrev pub triggersOver : Keying → Keys → Bool
 triggersOver Struck keys = true
 triggersOver Joined keys = isSilent (keys .active)
@@ -103,11 +102,12 @@ triggersOver Joined keys = isSilent (keys .active)
 abbrev pub triggers : Settings → State → Bool
 triggers g v = triggersOver (g .keying) (v .keys)
 
--- the envelope that is not triggered runs on
+-- the envelope is triggered, or stays as it is
 abbrev pub triggeredIf : Bool → Envelope → Envelope
 triggeredIf t e = cond t (triggeredOf e) e
 
--- the key is struck: its note sounds with this velocity
+-- a key goes down, under either keying: it is pressed, its note sounds with this velocity, and the envelope is
+-- triggered where `triggers` says so
 abbrev pub struckOf : Settings → State → ℕ → ℕ → State
 struckOf g v note velocity =
     withEnvelope (withNote (actedWith v (pressedOf (v .keys) note velocity)) note velocity) (triggeredIf (triggers g v) (v .envelope))

@@ -96,9 +96,8 @@ pub fn reduce(state: State) -> State
 }
 
 // An on strikes the key of its note, but with velocity 0 it lifts that key, as an off does (02, R-4); a reset resets.
-// No setting changes that.
-pub fn event_of(settings: Settings, given: Record) -> Event
-    ensures { λ r. ⌜ r ≡ eventOf settings given ⌝ }
+pub fn event_of(given: Record) -> Event
+    ensures { λ r. ⌜ r ≡ eventOf given ⌝ }
 {
     let kind = given.kind;
     match kind {

@@ -12,7 +12,7 @@ enum-told c = search needs
 returns : tie.Need-returns
 returns c =
     let a = c .before .before .before .before .args in
-    sym (nought-lifts (a .settings) (a .given) (c .before .before .enum-told .given .1, omega (arith, c .if1 .taken)))
+    sym (nought-lifts (a .given) (c .before .before .enum-told .given .1, omega (arith, c .if1 .taken)))
 
 enum-told-2 : tie.Need-enum-told-2
 enum-told-2 c = search needs
@@ -23,12 +23,12 @@ enum-told-3 c = search needs
 returns-2 : tie.Need-returns-2
 returns-2 c =
     let a = c .before .before .before .before .args in
-    sym (other-strikes (a .settings) (a .given) (c .before .before .enum-told .given .1) (omega (arith, c .if1 .left)))
+    sym (other-strikes (a .given) (c .before .before .enum-told .given .1) (omega (arith, c .if1 .left)))
 
 returns-3 : tie.Need-returns-3
 returns-3 c =
     let a = c .before .before .args in
-    sym (off-lifts (a .settings) (a .given) (c .enum-told2 .given .1))
+    sym (off-lifts (a .given) (c .enum-told2 .given .1))
 
 returns-4 : tie.Need-returns-4
 returns-4 c = search needs
