@@ -2,14 +2,14 @@
 -- at a sample act one after the other; and that the envelope of an active note is open after every step, under any
 -- settings and for any score, if it was so before. So no key is joined to an envelope that is released or idle. Assumes
 -- nothing.
-use mathlib.Core.Path.{_≡_, refl, sym, ap, _∙_}
+use mathlib.Core.Path.{_≡_, refl}
 use mathlib.Core.Bool.{Bool, true, false, cond}
 use mathlib.Core.List.{List, [], _∷_, _++_}
 use Prim.Native.Nat.{ℕ, zero, suc, _+_}
 use lib.Dec.{eqb}
 use lib.Ieee.{Float, le}
 use Rattle.floats.specs.Double.{_⊕_, zero64, one}
-use Rattle.voice.specs.Keys.{Pair, keysOf, others, heldOf, isSounding, lastOf, pressedOf, liftedOf}
+use Rattle.voice.specs.Keys.{Pair, keysOf, others, heldOf, isSounding, lastOf, liftedOf}
 use Rattle.voice.specs.declared.keys.ActiveNote.{ActiveNote}
 use Rattle.voice.specs.declared.keys.ActiveNote.the-variants.{Silent, Note}
 use Rattle.voice.specs.declared.keys.AfterLift.{AfterLift}
@@ -19,7 +19,7 @@ use Rattle.voice.specs.declared.keys.NoteOff.{NoteOff}
 use Rattle.voice.specs.declared.keys.NoteOff.the-variants.{Released, FellBack, NoChange}
 use Rattle.voice.proofs.Actions.{by-cases}
 use Rattle.envelope.specs.Limits.{clampedOf, sampleTimeOf}
-use Rattle.envelope.specs.Stages.{attackLevel, decayLevel, releaseLevel, withStage, attackRule, decayRule, ruleOf, isMoving, grownOf, stepOf, releasedOf}
+use Rattle.envelope.specs.Stages.{attackLevel, decayLevel, withStage, ruleOf, isMoving, grownOf, stepOf, releasedOf}
 use Rattle.envelope.specs.declared.Adsr.{Adsr}
 use Rattle.envelope.specs.declared.Envelope.{Envelope}
 use Rattle.envelope.specs.declared.EnvelopeStage.{EnvelopeStage}
