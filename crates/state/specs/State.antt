@@ -53,9 +53,9 @@ abbrev pub freshOf : ℕ → State
 freshOf acted = record { phase = radians zero64; envelope = envelope.freshOf; frequency = concert; velocity = zero64; keys = freshKeys; acted = acted; lfo = radians zero64 }
 
 -- ---- the state with some fields changed. Who adds a field to `State` adds it to these definitions, to `freshOf`, to
--- `withActed` of ButActed.antt, to `withLfoPhase` of ButLfo.antt, to `withKeys` and
--- `alwaysTriggered` of Joined.antt and to `stateOf` of the crate `shelf`, which name all fields; and, where it has
--- limits and words, to `inLimits` of Limits.antt and to shelf's `entryOf` and `entryWords`
+-- `withActed` of ButActed.antt, to `withLfoPhase` of ButLfo.antt, to `withKeys` and `alwaysTriggered` of Joined.antt and
+-- to `stateOf` of the crate `shelf`, which name all fields; and, where it has limits and words, to `inLimits` of
+-- Limits.antt and to shelf's `entryOf` and `entryWords`
 
 -- the phases of the oscillator and of the LFO
 abbrev pub withPhases : State → Float → Float → State
