@@ -17,12 +17,8 @@ static const char **place_of_value(const struct arguments *takes, const char *na
     return takes->settings ? setting_text(takes->settings, name) : NULL;
 }
 
-/* Whether the verb has the option, and the option a value. */
-static bool takes_value(const struct arguments *takes, const char *name) {
-    return place_of_value(takes, name) && !stands_alone(name);
-}
-
-/* Takes the option at *given, whose value follows a '=' or is the next word; *given is then at its last word. */
+/* Takes the option at *given, whose value follows a '=' or is the next word; one that stands alone has its own name for
+   its value. *given is then at its last word. */
 static bool take_option(char ***given, const struct arguments *takes, struct why *why) {
     const char *word = **given, *equals = strchr(word, '=');
     size_t len = equals ? (size_t)(equals - word) : strlen(word);
@@ -31,7 +27,7 @@ static bool take_option(char ***given, const struct arguments *takes, struct why
     const char **value = place_of_value(takes, name);
     if (!value) return misuse(why, "unknown option %s", word);
     if (*value) return misuse(why, "%s is given twice", name);
-    if (!takes_value(takes, name)) {
+    if (stands_alone(name)) {
         if (equals) return misuse(why, "%s takes no value", name);
         *value = word;
     } else if (equals) {
@@ -44,11 +40,12 @@ static bool take_option(char ***given, const struct arguments *takes, struct why
     return true;
 }
 
-/* Whether a word asks for help in the place of an option or an operand; the word after an option is its value. */
+/* Whether a word asks for help in the place of an option or an operand; the word after an option that does not stand
+   alone is its value. */
 static bool asks_for_help(char **given, const struct arguments *takes) {
     for (; *given && strcmp(*given, "--") != 0; given++) {
         if (is_help(*given)) return true;
-        if (takes_value(takes, *given) && given[1]) given++;
+        if (place_of_value(takes, *given) && !stands_alone(*given) && given[1]) given++;
     }
     return false;
 }

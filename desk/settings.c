@@ -151,7 +151,7 @@ static const char *wave_list(char room[WAVE_LIST_ROOM]) {
     return room;
 }
 
-/* The name of a code; NULL where the field is none, or where the code has no name. */
+/* The name of a code; NULL where the field is no code, or where the code has no name. */
 static const char *code_name(const struct setting *row, double code) {
     if (row->kind == WAVE) return wave_name((uint32_t)code);
     if (row->kind != KEYING) return NULL;

@@ -154,7 +154,8 @@ uint64_t gav_sample_says(uint32_t code, double phase, double dt, double duty);
  * Struck, every key that is pressed triggers the envelope. Joined, a key that is pressed while a note sounds changes
  * pitch and velocity at once, so that the loudness may step, and leaves the envelope running; it triggers the envelope
  * only where no note sounds just before its record acts, which is after every earlier record, those at its position
- * too. The held keys and the envelope's stage do not matter. Letting a key go is the same in both.
+ * too; in the tail of a release none does. The held keys and the envelope's stage do not matter. Letting a key go is
+ * the same in both.
  * joined: GAV_STRUCK or GAV_JOINED, 0 or 1; above is 6 */
 struct gav_settings {
     uint32_t rate, code;

@@ -12,7 +12,7 @@ impl Chance {
     pub fn beside(&self) -> Self {
         Self(!self.0)
     }
-    /// Others again, as are those beside them.
+    /// Others again; `beside` of these is another than `beside` of those.
     pub fn apart(&self) -> Self {
         Self(self.0 ^ 1 << 48)
     }

@@ -14,7 +14,8 @@ use Rattle.state.specs.declared.State.{State}
 use Rattle.state.specs.State.{freshOf, actOf}
 use Rattle.state.specs.Heart.{begun, stateFrom}
 use Rattle.state.specs.Joined.{OpenIfActive, withKeying, withKeys, actAll}
-use Rattle.state.proofs.Joined.{struck-triggers, joined-runs-on, joined-triggers, lift-releases, lift-anyhow, reset-anyhow, sample-anyhow, advance-anyhow, begins-all, state-open, begun-open}
+use Rattle.state.proofs.Calls.{lift-releases}
+use Rattle.state.proofs.Joined.{struck-triggers, joined-runs-on, joined-triggers, lift-anyhow, reset-anyhow, sample-anyhow, advance-anyhow, begins-all, act-open, state-open, begun-open}
 use Rattle.demands.specs.JoinedNotes.{JoinedExamples, JoinedNotes}
 
 -- no note is active in the fresh state
@@ -26,7 +27,7 @@ open-after g s k = rw (zero-add k) at (begun-open g s 0 (freshOf 0) fresh-open k
 
 examples : (g : Settings) (v : State) (e : Envelope) → JoinedExamples (withKeying g Joined) (withKeys v freshKeys) e
 unfolding actOf actAll pairs pressedOf others withoutOf lastOf liftedOf releasedOf
-examples g v e = record { first = refl; seventeenth = refl; falls-back = refl; none-held = refl; joins-with-none-held = refl; off-then-on = refl; on-then-off = refl; the-same-again = refl; reset-then-on = refl }
+examples g v e = record { first = refl; second = refl; seventeenth = refl; falls-back = refl; none-held = refl; joins-with-none-held = refl; off-then-on = refl; on-then-off = refl; the-same-again = refl; reset-then-on = refl }
 
 pub joined-notes : JoinedNotes
 joined-notes =
@@ -43,6 +44,7 @@ joined-notes =
       begins = begins-all;
       open-before = λ g s k. state-open g s 0 (freshOf 0) fresh-open k;
       open-after = open-after;
+      open-kept = act-open;
       open-from = λ g s n v h k. (state-open g s n v h k, begun-open g s n v h k);
       examples = examples;
     }

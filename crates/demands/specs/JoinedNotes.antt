@@ -62,6 +62,8 @@ hears active held e = record { active = active; held = held; envelope = e }
 pub record JoinedExamples (g : Settings) (v : State) (e : Envelope) : Type 0 where
   -- a first key
   pub first : heardAfter g v e (event.Strike 60 100 ∷ []) ≡ hears (Note 60) 1 (triggeredOf e)
+  -- a second key at the same sample
+  pub second : heardAfter g v e (event.Strike 60 100 ∷ event.Strike 62 100 ∷ []) ≡ hears (Note 62) 2 (triggeredOf e)
   -- (k) after 40 to 55 on, 60 joins, and is not held; 60 off: 55 sounds
   pub seventeenth : heardAfter g (actAll g v (strikes 40 16)) e (event.Strike 60 100 ∷ []) ≡ hears (Note 60) 16 e
   pub falls-back : heardAfter g (actAll g v seventeen) e (event.Lift 60 ∷ []) ≡ hears (Note 55) 16 e
@@ -101,8 +103,11 @@ pub record JoinedNotes : Type 0 where
   -- setting of 0 that envelope may still be silent
   pub open-before : (g : Settings) (s : List ℕ) (k : ℕ) → OpenIfActive (stateFrom g s 0 (freshOf 0) k)
   pub open-after : (g : Settings) (s : List ℕ) (k : ℕ) → OpenIfActive (begun g s k (stateFrom g s 0 (freshOf 0) k))
+  -- every event keeps it so, between the records at a sample too
+  pub open-kept : (g : Settings) (v : State) (e : Event) → OpenIfActive v → OpenIfActive (actOf g v e)
   -- the same from every state v with `OpenIfActive v`, for instance an entry that a render left, at any position n. A
-  -- state that a host has made up may have a note active and the stage Idle: a joined key then stays silent
+  -- state that a host has made up may have a note active in Idle or Release: there a joined key stays silent, or goes
+  -- on falling
   pub open-from : (g : Settings) (s : List ℕ) (n : ℕ) (v : State) → OpenIfActive v → (k : ℕ) → OpenIfActive (stateFrom g s n v k) × OpenIfActive (begun g s (n + k) (stateFrom g s n v k))
   -- 01's marks, and keys one after the other
   pub examples : (g : Settings) (v : State) (e : Envelope) → JoinedExamples (withKeying g Joined) (withKeys v freshKeys) e

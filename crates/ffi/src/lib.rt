@@ -111,7 +111,7 @@ pub extern "C" fn gav_render(
 ) -> u64
     ensures { λ r. ⌜ leaves r (now (out .exit)) (now (shelf .exit)) ≡ renderFor (choiceOf (asks rate code duty attack decay sustain release «lfo_code» «lfo_duty» «lfo_frequency» «lfo_depth» joined)) (now (score .entry)) (now (out .entry)) (now (shelf .entry)) ⌝ }
 {
-    let asked = Asked {
+    let choice = choice_of(Asked {
         rate,
         code,
         duty,
@@ -124,8 +124,7 @@ pub extern "C" fn gav_render(
         lfo_frequency,
         lfo_depth,
         joined,
-    };
-    let choice = choice_of(asked);
+    });
     let Choice::Known(settings) = choice else {
         return packed(Answer::Refused(Refusal::Setting));
     };
@@ -157,7 +156,7 @@ pub extern "C" fn gav_rerender(
 ) -> u64
     ensures { λ r. ⌜ leaves r (now (out .exit)) (now (shelf .exit)) ≡ rerenderFor (choiceOf (asks rate code duty attack decay sustain release «lfo_code» «lfo_duty» «lfo_frequency» «lfo_depth» joined)) (now (old .entry)) (now (new .entry)) (now (out .entry)) (now (shelf .entry)) ⌝ }
 {
-    let asked = Asked {
+    let choice = choice_of(Asked {
         rate,
         code,
         duty,
@@ -170,8 +169,7 @@ pub extern "C" fn gav_rerender(
         lfo_frequency,
         lfo_depth,
         joined,
-    };
-    let choice = choice_of(asked);
+    });
     let Choice::Known(settings) = choice else {
         return packed(Answer::Refused(Refusal::Setting));
     };
@@ -201,7 +199,7 @@ pub extern "C" fn gav_continue(
 ) -> u64
     ensures { λ r. ⌜ continues r (now (part .exit)) (now (state .exit)) ≡ continueFor (choiceOf (asks rate code duty attack decay sustain release «lfo_code» «lfo_duty» «lfo_frequency» «lfo_depth» joined)) (now (score .entry)) (now (state .entry)) position (now (part .entry)) ⌝ }
 {
-    let asked = Asked {
+    let choice = choice_of(Asked {
         rate,
         code,
         duty,
@@ -214,8 +212,7 @@ pub extern "C" fn gav_continue(
         lfo_frequency,
         lfo_depth,
         joined,
-    };
-    let choice = choice_of(asked);
+    });
     let Choice::Known(settings) = choice else {
         return packed(Answer::Refused(Refusal::Setting));
     };

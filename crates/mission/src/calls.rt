@@ -61,41 +61,8 @@ fn call(now: Now, letter: u8, old: &[u8], new: &[u8], out: &mut [f64], shelf: &m
     let s = settings_of(now.settings);
     match letter {
         b'C' => ffi::gav_check_score(new),
-        b'R' => ffi::gav_render(
-            8000,
-            s.code,
-            0.5,
-            0.01,
-            s.decay,
-            s.sustain,
-            5.0,
-            3,
-            0.5,
-            5.0,
-            s.depth,
-            s.joined,
-            new,
-            out,
-            shelf,
-        ),
-        b'E' => ffi::gav_rerender(
-            8000,
-            s.code,
-            0.5,
-            0.01,
-            s.decay,
-            s.sustain,
-            5.0,
-            3,
-            0.5,
-            5.0,
-            s.depth,
-            s.joined,
-            old,
-            new,
-            out,
-            shelf,
-        ),
+        b'R' => rendered(s, new, out, shelf),
+        b'E' => rerendered(s, old, new, out, shelf),
         b'K' => {
             let mut state = at_rest(now.last);
             continued(s, new, &mut state, now.first, out)
@@ -107,6 +74,47 @@ fn call(now: Now, letter: u8, old: &[u8], new: &[u8], out: &mut [f64], shelf: &m
         }
         _ => 0,
     }
+}
+
+fn rendered(s: Settings, score: &[u8], out: &mut [f64], shelf: &mut [u64]) -> u64 {
+    ffi::gav_render(
+        8000,
+        s.code,
+        0.5,
+        0.01,
+        s.decay,
+        s.sustain,
+        5.0,
+        3,
+        0.5,
+        5.0,
+        s.depth,
+        s.joined,
+        score,
+        out,
+        shelf,
+    )
+}
+
+fn rerendered(s: Settings, old: &[u8], new: &[u8], out: &mut [f64], shelf: &mut [u64]) -> u64 {
+    ffi::gav_rerender(
+        8000,
+        s.code,
+        0.5,
+        0.01,
+        s.decay,
+        s.sustain,
+        5.0,
+        3,
+        0.5,
+        5.0,
+        s.depth,
+        s.joined,
+        old,
+        new,
+        out,
+        shelf,
+    )
 }
 
 fn continued(s: Settings, score: &[u8], state: &mut [u64], position: u64, part: &mut [f64]) -> u64 {

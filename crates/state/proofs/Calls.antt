@@ -5,7 +5,7 @@
 -- On a state within its limits, whatever its phases, and with note and velocity up to 127 both calls are done; and a
 -- fresh state has the fields of a new voice and a new block. Assumes nothing.
 use mathlib.Core.Path.{_≡_, refl, sym, ap, _∙_}
-use mathlib.Core.Bool.{Bool, true, false, cond, _&&_}
+use mathlib.Core.Bool.{Bool, true, false, not, cond, _&&_}
 use mathlib.Core.List.{List}
 use Prim.Native.Nat.{ℕ}
 use lib.Ieee.{Float, binary32, binary64, ofBits}
@@ -37,13 +37,14 @@ use Rattle.envelope.specs.Calls as envelope
 use Rattle.envelope.specs.declared.Envelope.{Envelope}
 use Rattle.envelope.specs.declared.EnvelopeBlock.{EnvelopeBlock}
 use Rattle.envelope.specs.declared.Processed.{Processed}
+use Rattle.state.specs.declared.Keying.{Keying}
+use Rattle.state.specs.declared.Keying.the-variants.{Struck, Joined}
 use Rattle.state.specs.declared.Settings.{Settings}
 use Rattle.state.specs.declared.State.{State}
 use Rattle.state.specs.declared.Event.{Event}
 use Rattle.state.specs.declared.Event.the-variants as event
 use Rattle.state.specs.State.{concert, freshOf, triggersOver, triggeredIf, afterNoteOff, actOf}
-use Rattle.state.specs.Calls.{Alike, voiceCall, calledIf, envelopeCall, phaseThen}
-use Rattle.state.proofs.Joined.{left-envelope}
+use Rattle.state.specs.Calls.{Alike, voiceCall, skipsOn, calledIf, envelopeCall, phaseThen}
 use Rattle.state.proofs.Limits.{is-true, Kept, EventIn}
 
 -- ---- what a call leaves that is done
@@ -68,6 +69,16 @@ same-zero = zeroOf-is binary64 ∙ sym (zeroOf-is binary32)
 same-one : one ≡ oneOf binary32
 same-one = oneOf-is binary64 ∙ sym (oneOf-is binary32)
 
+-- ---- a key is lifted: the envelope is released, or stays
+left-envelope : (v : State) (keys : Keys) (off : NoteOff) → afterNoteOff v keys off .envelope ≡ cond (isReleased off) (releasedOf (v .envelope)) (v .envelope)
+left-envelope v keys Released = refl
+left-envelope v keys (FellBack note velocity) = refl
+left-envelope v keys NoChange = refl
+
+pub lift-releases : (g : Settings) (v : State) (note : ℕ) → actOf g v (event.Lift note) .envelope ≡ cond (isReleased (liftedOf (v .keys) note .off)) (releasedOf (v .envelope)) (v .envelope)
+unfolding actOf
+lift-releases g v note = left-envelope v (liftedOf (v .keys) note .keys) (liftedOf (v .keys) note .off)
+
 -- ---- the events
 module _ (g : Settings) (v : State) (w : VoiceState) (b : EnvelopeBlock) (a : Alike v w b) where
   -- a key is lifted, and `keys` are left: block c is b, released if the voice is
@@ -75,6 +86,11 @@ module _ (g : Settings) (v : State) (w : VoiceState) (b : EnvelopeBlock) (a : Al
   left-alike keys Released c e = record { keys = refl; frequency = a .frequency; velocity = a .velocity; envelope = ap releasedOf (a .envelope) ∙ sym e }
   left-alike keys (FellBack note velocity) c e = record { keys = refl; frequency = refl; velocity = refl; envelope = a .envelope ∙ sym e }
   left-alike keys NoChange c e = record { keys = refl; frequency = a .frequency; velocity = a .velocity; envelope = a .envelope ∙ sym e }
+
+  -- the trigger is skipped where the voice's own rule has none
+  skip-is : (k : Keying) → triggersOver k (w .keys) ≡ not (skipsOn k w)
+  skip-is Struck = refl
+  skip-is Joined = refl
 
   on-block : (t : Bool) → calledIf t b (envelope.noteOnOf b) .answer ≡ Done 0 → calledIf t b (envelope.noteOnOf b) .block .envelope ≡ triggeredIf t (b .envelope)
   on-block true d = block-left b (triggeredOf (b .envelope)) d
@@ -106,7 +122,7 @@ module _ (g : Settings) (v : State) (w : VoiceState) (b : EnvelopeBlock) (a : Al
         keys = rw (a .keys, left) refl;
         frequency = rw left refl;
         velocity = rw left refl;
-        envelope = rw (a .keys, a .envelope, on-block (triggersOver (g .keying) (w .keys)) f) refl;
+        envelope = rw (a .keys, a .envelope, skip-is (g .keying), on-block (not (skipsOn (g .keying) w)) f) refl;
       }
   calls-act (event.Lift note) d f = lift-alike note d f
   calls-act event.Reset d f = let left = voice-left (unless (isVoice w) Argument) w voice.newOf d in record { keys = rw left refl; frequency = rw left same-pitch; velocity = rw left same-zero; envelope = rw (block-left b stages.freshOf f) refl }
@@ -147,7 +163,7 @@ module _ (g : Settings) (P : Float → Type 0) (v : State) (k : Kept P v) (w : V
   block-in = is-true (isEnvelope (b .envelope)) (rw (a .envelope) at (k .envelope-in))
 
   pub calls-done : (e : Event) → EventIn e → (voiceCall w e .answer ≡ Done 0) × (envelopeCall g w b e .answer ≡ Done 0)
-  calls-done (event.Strike note velocity) h = (rw (voice-in, le-leb note 127 (h .0), le-leb velocity 127 (h .1)) refl, go (triggersOver (g .keying) (w .keys)))
+  calls-done (event.Strike note velocity) h = (rw (voice-in, le-leb note 127 (h .0), le-leb velocity 127 (h .1)) refl, go (not (skipsOn (g .keying) w)))
     where
       go : (t : Bool) → calledIf t b (envelope.noteOnOf b) .answer ≡ Done 0
       go true = rw block-in refl

@@ -62,13 +62,13 @@ lifted-fits v k Released f = record { phase-fits = f .phase-fits; frequency-fits
 lifted-fits v k (FellBack n l) f = record { phase-fits = f .phase-fits; frequency-fits = pitch-fits n; velocity-fits = loudness-fits l; envelope-held = f .envelope-held; lfo-fits = f .lfo-fits }
 lifted-fits v k NoChange f = record { phase-fits = f .phase-fits; frequency-fits = f .frequency-fits; velocity-fits = f .velocity-fits; envelope-held = f .envelope-held; lfo-fits = f .lfo-fits }
 
-struck-holds : (t : Bool) (e : Envelope) → Held e → Held (triggeredIf t e)
-struck-holds true e h = triggered-holds e h
-struck-holds false e h = h
+triggered-if-holds : (t : Bool) (e : Envelope) → Held e → Held (triggeredIf t e)
+triggered-if-holds true e h = triggered-holds e h
+triggered-if-holds false e h = h
 
 act-fits : (g : Settings) (v : State) (e : Event) → Fitting v → Fitting (actOf g v e)
 unfolding actOf
-act-fits g v (event.Strike n l) f = record { phase-fits = f .phase-fits; frequency-fits = pitch-fits n; velocity-fits = loudness-fits l; envelope-held = struck-holds (triggers g v) (v .envelope) (f .envelope-held); lfo-fits = f .lfo-fits }
+act-fits g v (event.Strike n l) f = record { phase-fits = f .phase-fits; frequency-fits = pitch-fits n; velocity-fits = loudness-fits l; envelope-held = triggered-if-holds (triggers g v) (v .envelope) (f .envelope-held); lfo-fits = f .lfo-fits }
 act-fits g v (event.Lift n) f = let l = liftedOf (v .keys) n in lifted-fits v (l .keys) (l .off) f
 act-fits g v event.Reset f = fresh-fits _
 

@@ -3,7 +3,7 @@
 -- settings and for any score, if it was so before. So no key is joined to an envelope that is released or idle. Assumes
 -- nothing.
 use mathlib.Core.Path.{_≡_, refl}
-use mathlib.Core.Bool.{Bool, true, false, cond}
+use mathlib.Core.Bool.{Bool, true, false, not, cond}
 use mathlib.Core.List.{List, [], _∷_, _++_}
 use Prim.Native.Nat.{ℕ, zero, suc, _+_}
 use lib.Dec.{eqb}
@@ -13,13 +13,11 @@ use Rattle.voice.specs.Keys.{Pair, keysOf, others, heldOf, isSounding, lastOf, 
 use Rattle.voice.specs.declared.keys.ActiveNote.{ActiveNote}
 use Rattle.voice.specs.declared.keys.ActiveNote.the-variants.{Silent, Note}
 use Rattle.voice.specs.declared.keys.AfterLift.{AfterLift}
-use Rattle.voice.specs.Voice.{isReleased}
-use Rattle.voice.specs.declared.keys.Keys.{Keys}
-use Rattle.voice.specs.declared.keys.NoteOff.{NoteOff}
+use Rattle.voice.specs.Voice.{isNote}
 use Rattle.voice.specs.declared.keys.NoteOff.the-variants.{Released, FellBack, NoChange}
 use Rattle.voice.proofs.Actions.{by-cases}
 use Rattle.envelope.specs.Limits.{clampedOf, sampleTimeOf}
-use Rattle.envelope.specs.Stages.{attackLevel, decayLevel, withStage, ruleOf, isMoving, grownOf, stepOf, releasedOf}
+use Rattle.envelope.specs.Stages.{attackLevel, decayLevel, withStage, ruleOf, isMoving, grownOf, stepOf}
 use Rattle.envelope.specs.declared.Adsr.{Adsr}
 use Rattle.envelope.specs.declared.Envelope.{Envelope}
 use Rattle.envelope.specs.declared.EnvelopeStage.{EnvelopeStage}
@@ -31,7 +29,7 @@ use Rattle.state.specs.declared.Settings.{Settings}
 use Rattle.state.specs.declared.State.{State}
 use Rattle.state.specs.declared.Event.{Event}
 use Rattle.state.specs.declared.Event.the-variants as event
-use Rattle.state.specs.State.{withEnvelope, reducedOf, eventOf, isSilent, triggersOver, triggeredIf, afterNoteOff, actOf, dryOf, sampleOf, advanceOf}
+use Rattle.state.specs.State.{withEnvelope, reducedOf, eventOf, triggersOver, triggeredIf, afterNoteOff, actOf, dryOf, sampleOf, advanceOf}
 use Rattle.state.specs.Heart.{reducesAt, actTo, begun, stateFrom}
 use Rattle.state.specs.Joined.{alwaysTriggered, isOpen, OpenIfActive, withKeying, actAll, eventsTo}
 use Rattle.state.proofs.Lasting.{every-state, every-begun}
@@ -50,16 +48,7 @@ module _ (g : Settings) (v : State) (note velocity : ℕ) where
   unfolding actOf
   joined-triggers e a = rw (e, a) refl
 
--- an off releases the envelope or leaves it; an off and a reset do not depend on the settings
-pub left-envelope : (v : State) (keys : Keys) (off : NoteOff) → afterNoteOff v keys off .envelope ≡ cond (isReleased off) (releasedOf (v .envelope)) (v .envelope)
-left-envelope v keys Released = refl
-left-envelope v keys (FellBack note velocity) = refl
-left-envelope v keys NoChange = refl
-
-pub lift-releases : (g : Settings) (v : State) (note : ℕ) → actOf g v (event.Lift note) .envelope ≡ cond (isReleased (liftedOf (v .keys) note .off)) (releasedOf (v .envelope)) (v .envelope)
-unfolding actOf
-lift-releases g v note = left-envelope v (liftedOf (v .keys) note .keys) (liftedOf (v .keys) note .off)
-
+-- an off and a reset do not depend on the settings
 pub lift-anyhow : (g h : Settings) (v : State) (note : ℕ) → actOf g v (event.Lift note) ≡ actOf h v (event.Lift note)
 unfolding actOf
 lift-anyhow g h v note = refl
@@ -98,21 +87,21 @@ unfolding begun
 begins-all g s n v = acts-all g s n (countOf s) (cond (reducesAt s n) (reducedOf v) v)
 
 -- ---- an event keeps the envelope of an active note open
-not-silent : (a : ActiveNote) → isSilent a ≡ false → (b : Bool) → ((n : ℕ) → a ≡ Note n → b ≡ true) → b ≡ true
-not-silent Silent e b f = let z : true ≡ false = e in cc
-not-silent (Note n) e b f = f n refl
+if-note : (a : ActiveNote) → isNote a ≡ true → (b : Bool) → ((n : ℕ) → a ≡ Note n → b ≡ true) → b ≡ true
+if-note Silent e b f = let z : false ≡ true = e in cc
+if-note (Note n) e b f = f n refl
 
-sounds : (a : ActiveNote) (n : ℕ) → isSounding a n ≡ true → isSilent a ≡ false
+sounds : (a : ActiveNote) (n : ℕ) → isSounding a n ≡ true → isNote a ≡ true
 sounds Silent n e = let z : false ≡ true = e in cc
 sounds (Note m) n e = refl
 
 strike-open : (k : Keying) (v : State) → OpenIfActive v → isOpen (triggeredIf (triggersOver k (v .keys)) (v .envelope) .stage) ≡ true
 strike-open Struck v h = refl
-strike-open Joined v h = go (isSilent (v .keys .active)) refl
+strike-open Joined v h = go (isNote (v .keys .active)) refl
   where
-    go : (t : Bool) → isSilent (v .keys .active) ≡ t → isOpen (triggeredIf t (v .envelope) .stage) ≡ true
-    go true e = refl
-    go false e = not-silent (v .keys .active) e _ h
+    go : (t : Bool) → isNote (v .keys .active) ≡ t → isOpen (triggeredIf (not t) (v .envelope) .stage) ≡ true
+    go true e = if-note (v .keys .active) e _ h
+    go false e = refl
 
 lift-open : (v : State) (note : ℕ) → OpenIfActive v → OpenIfActive (afterNoteOff v (liftedOf (v .keys) note .keys) (liftedOf (v .keys) note .off))
 lift-open v note h = by-cases (v .keys) note (λ (l : AfterLift). OpenIfActive (afterNoteOff v (l .keys) (l .off))) same none back
@@ -125,9 +114,9 @@ lift-open v note h = by-cases (v .keys) note (λ (l : AfterLift). OpenIfActive (
 
     back : (p : Pair) (ps : List Pair) → isSounding (v .keys .active) note ≡ true → others note (heldOf (v .keys)) ≡ p ∷ ps
         → OpenIfActive (afterNoteOff v (keysOf (Note (lastOf p ps .note)) (v .keys .gate) (p ∷ ps)) (FellBack (lastOf p ps .note) (lastOf p ps .velocity)))
-    back p ps e q n a = not-silent (v .keys .active) (sounds (v .keys .active) note e) _ h
+    back p ps e q n a = if-note (v .keys .active) (sounds (v .keys .active) note e) _ h
 
-act-open : (g : Settings) (v : State) (e : Event) → OpenIfActive v → OpenIfActive (actOf g v e)
+pub act-open : (g : Settings) (v : State) (e : Event) → OpenIfActive v → OpenIfActive (actOf g v e)
 unfolding actOf
 act-open g v (event.Strike note velocity) h n a = strike-open (g .keying) v h
 act-open g v (event.Lift note) h n a = lift-open v note h n a

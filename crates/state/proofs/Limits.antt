@@ -242,16 +242,16 @@ module _ (g : Settings) (P : Float → Type 0) (p : P zero64) (v : State) (k : K
   lift-keeps l (FellBack n w) h b = record { phase-in = k .phase-in; envelope-in = k .envelope-in; pitch-in = pitch-in-limits n (b .0); velocity-in = loudness-in w (b .1); keys-in = h; lfo-in = k .lfo-in }
   lift-keeps l NoChange h b = record { phase-in = k .phase-in; envelope-in = k .envelope-in; pitch-in = k .pitch-in; velocity-in = k .velocity-in; keys-in = h; lfo-in = k .lfo-in }
 
-  struck-keeps : (t : Bool) → T (isEnvelope (triggeredIf t (v .envelope)))
-  struck-keeps true = triggered-keeps (v .envelope) (k .envelope-in)
-  struck-keeps false = k .envelope-in
+  triggered-if-keeps : (t : Bool) → T (isEnvelope (triggeredIf t (v .envelope)))
+  triggered-if-keeps true = triggered-keeps (v .envelope) (k .envelope-in)
+  triggered-if-keeps false = k .envelope-in
 
   pub act-keeps : (e : Event) → EventIn e → Kept P (actOf g v e)
   unfolding actOf
   act-keeps (event.Strike n w) h =
       record {
         phase-in = k .phase-in;
-        envelope-in = struck-keeps (triggers g v);
+        envelope-in = triggered-if-keeps (triggers g v);
         pitch-in = pitch-in-limits n (h .0);
         velocity-in = loudness-in w (h .1);
         keys-in = pressed-keeps (v .keys) n w (k .keys-in) (h .0) (h .1);

@@ -6,7 +6,7 @@
 -- active note before the voice's `note_on` (02, R-9: "Demand 2's oracle skips the trigger in those cases").
 -- Frequency and velocity are f32 in a voice and f64 in a state. Every f32 is also an f64, so they are compared as
 -- numbers. Definitions only.
-use mathlib.Core.Bool.{Bool, cond}
+use mathlib.Core.Bool.{Bool, false, not, cond}
 use mathlib.Core.Path.{_≡_}
 use Rattle.floats.specs.Double.{zero64}
 use Rattle.answers.specs.declared.Answer.the-variants.{Done}
@@ -18,11 +18,12 @@ use Rattle.envelope.specs.declared.EnvelopeBlock.{EnvelopeBlock}
 use Rattle.envelope.specs.declared.Processed.{Processed}
 use Rattle.waveform.specs.Waveform.{radians}
 use Rattle.waveform.specs.declared.Radians.{Radians}
+use Rattle.state.specs.declared.Keying.{Keying}
+use Rattle.state.specs.declared.Keying.the-variants.{Struck, Joined}
 use Rattle.state.specs.declared.Settings.{Settings}
 use Rattle.state.specs.declared.State.{State}
 use Rattle.state.specs.declared.Event.{Event}
 use Rattle.state.specs.declared.Event.the-variants as event
-use Rattle.state.specs.State.{triggersOver}
 
 -- the voice w and the envelope block b have the fields of the state v
 pub record Alike (v : State) (w : VoiceState) (b : EnvelopeBlock) : Type 0 where
@@ -37,13 +38,18 @@ voiceCall w (event.Strike note velocity) = voice.noteOnOf w note velocity
 voiceCall w (event.Lift note) = let off = voice.noteOffOf w note in record { answer = off .answer; voice = off .voice }
 voiceCall w event.Reset = voice.resetOf w
 
+-- the envelope's note_on is skipped: under Joined, where the voice that came has an active note
+abbrev pub skipsOn : Keying → VoiceState → Bool
+skipsOn Struck w = false
+skipsOn Joined w = voice.isNote (w .keys .active)
+
 -- what a call of the envelope gives; or, where the call is skipped, Done 0 and the block as it came
 abbrev pub calledIf : Bool → EnvelopeBlock → Processed → Processed
 calledIf called b after = cond called after (record { answer = Done 0; block = b })
 
 -- the envelope's note_on unless it is skipped, and its note_off if the voice's note_off says released
 abbrev pub envelopeCall : Settings → VoiceState → EnvelopeBlock → Event → Processed
-envelopeCall g w b (event.Strike note velocity) = calledIf (triggersOver (g .keying) (w .keys)) b (envelope.noteOnOf b)
+envelopeCall g w b (event.Strike note velocity) = calledIf (not (skipsOn (g .keying) w)) b (envelope.noteOnOf b)
 envelopeCall g w b (event.Lift note) = calledIf (voice.isReleased (voice.noteOffOf w note .off)) b (envelope.noteOffOf b)
 envelopeCall g w b event.Reset = envelope.resetOf b
 

@@ -10,16 +10,14 @@
 -- was active just before. Note-off is as before"; "the active note decides, not the stack".
 -- 02, R-13, takes the branch for a negative remainder out of the voice's reduction; the block calls keep it.
 -- A reset does not set the number of records acted to 0: the reset is counted as one more. Definitions only.
-use mathlib.Core.Bool.{Bool, true, false, cond}
+use mathlib.Core.Bool.{Bool, true, not, cond}
 use Prim.Native.Nat.{ℕ, _+_}
 use lib.Dec.{ltb, eqb}
 use lib.Ieee.{Float, binary64, ofBits}
 use Rattle.floats.specs.Double.{_⊕_, _⊗_, zero64}
 use Rattle.pitch.specs.Pitch.{frequencyOf}
 use Rattle.voice.specs.Keys.{freshKeys, pressedOf, liftedOf}
-use Rattle.voice.specs.Voice.{velocityOf}
-use Rattle.voice.specs.declared.keys.ActiveNote.{ActiveNote}
-use Rattle.voice.specs.declared.keys.ActiveNote.the-variants.{Silent, Note}
+use Rattle.voice.specs.Voice.{velocityOf, isNote}
 use Rattle.voice.specs.declared.keys.Keys.{Keys}
 use Rattle.voice.specs.declared.keys.NoteOff.{NoteOff}
 use Rattle.voice.specs.declared.keys.NoteOff.the-variants.{Released, FellBack, NoChange}
@@ -53,8 +51,8 @@ abbrev pub freshOf : ℕ → State
 freshOf acted = record { phase = radians zero64; envelope = envelope.freshOf; frequency = concert; velocity = zero64; keys = freshKeys; acted = acted; lfo = radians zero64 }
 
 -- ---- the state with some fields changed. Who adds a field to `State` adds it to these definitions, to `freshOf`, to
--- `withActed` of ButActed.antt, to `withLfoPhase` of ButLfo.antt, to `withKeys` and `alwaysTriggered` of Joined.antt and
--- to `stateOf` of the crate `shelf`, which name all fields; and, where it has limits and words, to `inLimits` of
+-- `withActed` of ButActed.antt, to `withLfoPhase` of ButLfo.antt, to `withKeys` and `alwaysTriggered` of Joined.antt,
+-- and to `stateOf` of the crate `shelf`, which name all fields; and, where it has limits and words, to `inLimits` of
 -- Limits.antt and to shelf's `entryOf` and `entryWords`
 
 -- the phases of the oscillator and of the LFO
@@ -88,16 +86,11 @@ eventFor Reset note velocity = event.Reset
 abbrev pub eventOf : Record → Event
 eventOf r = eventFor (r .kind) (r .note) (r .velocity)
 
--- no note is active
-abbrev pub isSilent : ActiveNote → Bool
-isSilent Silent = true
-isSilent (Note n) = false
-
 -- whether a key that goes down triggers the envelope, where `keys` are those just before (02, R-9): under Struck
 -- always, under Joined only if no note was active. The gate, the held keys and the stage do not decide
 abbrev pub triggersOver : Keying → Keys → Bool
 triggersOver Struck keys = true
-triggersOver Joined keys = isSilent (keys .active)
+triggersOver Joined keys = not (isNote (keys .active))
 
 abbrev pub triggers : Settings → State → Bool
 triggers g v = triggersOver (g .keying) (v .keys)

@@ -5,20 +5,19 @@ ghost use mathlib.Core.Path.{_≡_};
 ghost use Rattle.voice.specs.Keys.{liftedOf};
 ghost use Rattle.state.specs.Limits.{inLimits, isState};
 ghost use Rattle.state.specs.Settings.{settingsOk};
-ghost use Rattle.state.specs.State.{counted, freshOf, withNote, actedWith, reducedOf, eventOf, actOf, isSilent, triggers, triggeredIf, struckOf, afterNoteOff, nextEnvelopeOf, dryOf, sampleOf, advanceOf};
+ghost use Rattle.state.specs.State.{counted, freshOf, withNote, actedWith, reducedOf, eventOf, actOf, triggers, triggeredIf, struckOf, afterNoteOff, nextEnvelopeOf, dryOf, sampleOf, advanceOf};
 use envelope::Adsr;
 use envelope::Envelope;
 use score::Kind;
 use score::Record;
 use tremolo::Lfo;
 use voice::keys;
-use voice::keys::ActiveNote;
 use voice::keys::Keys;
 use voice::keys::NoteOff;
 use waveform::Radians;
 use waveform::Waveform;
 
-// Whether every key that is struck triggers the envelope, or only one that is struck while no note sounds (02, R-9).
+// Whether every key that goes down triggers the envelope, or only one that goes down while no note sounds (02, R-9).
 pub enum Keying {
     Struck,
     Joined,
@@ -202,25 +201,14 @@ fn strike(settings: Settings, state: State, note: u8, velocity: u8) -> State
     next
 }
 
-// Whether a key that is struck now triggers the envelope: joined to a note that sounds, it does not.
+// Whether a key that goes down now triggers the envelope: joined to a note that sounds, it does not.
 fn triggers(settings: Settings, state: State) -> bool
     ensures { λ r. ⌜ r ≡ triggers settings state ⌝ }
 {
     let keying = settings.keying;
     match keying {
         Keying::Struck => true,
-        Keying::Joined => is_silent(state.keys),
-    }
-}
-
-// Whether no note sounds.
-fn is_silent(keys: Keys) -> bool
-    ensures { λ r. ⌜ r ≡ isSilent (keys .active) ⌝ }
-{
-    let active = keys.active;
-    match active {
-        ActiveNote::Silent => true,
-        ActiveNote::Note(_) => false,
+        Keying::Joined => !voice::is_note(state.keys),
     }
 }
 

@@ -6,7 +6,7 @@ use Prim.Native.Nat.{ℕ}
 use lib.ListN.{length}
 use lib.Ieee.{Float}
 use Rattle.voice.specs.Keys.{heldOf, freshKeys, pressedOf, liftedOf, isKeys}
-use Rattle.voice.specs.Voice.{velocityOf, newOf, noteOnOf, noteOffOf, resetOf, isActiveOf, heldNoteCountOf}
+use Rattle.voice.specs.Voice.{velocityOf, newOf, noteOnOf, noteOffOf, resetOf, isNote, isActiveOf, heldNoteCountOf}
 use Rattle.voice.specs.declared.keys.Keys.{Keys}
 use Rattle.voice.specs.declared.keys.AfterLift.{AfterLift}
 use Rattle.voice.specs.declared.VoiceState.{VoiceState}
@@ -49,6 +49,9 @@ is-active-unique s r t p q = p ∙ sym q
 
 pub held-note-count-unique : (s : VoiceState) (r t : HeldNotes) → r ≡ heldNoteCountOf s → t ≡ heldNoteCountOf s → r ≡ t
 held-note-count-unique s r t p q = p ∙ sym q
+
+pub is-note-unique : (k : Keys) (r t : Bool) → r ≡ isNote (k .active) → t ≡ isNote (k .active) → r ≡ t
+is-note-unique k r t p q = p ∙ sym q
 
 -- `velocity_of` and `velocity_of_f64`
 pub velocity-of-unique : (v : ℕ) (r t : Float) → r ≡ velocityOf v → t ≡ velocityOf v → r ≡ t

@@ -84,6 +84,7 @@ offSays NoChange = record { released = false; note = 255 }
 abbrev pub isReleased : NoteOff → Bool
 isReleased off = offSays off .released
 
+-- a note sounds
 abbrev pub isNote : ActiveNote → Bool
 isNote Silent = false
 isNote (Note n) = true

@@ -141,7 +141,8 @@ fn is_voice(voice: VoiceState) -> bool
     keys::is_keys(keys) & loud & pitched
 }
 
-fn is_note(keys: Keys) -> bool
+// Whether a note sounds.
+pub fn is_note(keys: Keys) -> bool
     ensures { λ r. ⌜ r ≡ isNote (keys .active) ⌝ }
 {
     let active = keys.active;

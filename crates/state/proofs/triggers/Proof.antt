@@ -10,14 +10,14 @@ enum-told c = search needs
 enum-told-2 : tie.Need-enum-told-2
 enum-told-2 c = search needs
 
-is-silent-requires : tie.Need-is-silent-requires
-is-silent-requires c κs = search needs
+is-note-requires : tie.Need-is-note-requires
+is-note-requires c κs = search needs
 
 returns : tie.Need-returns
 returns c = rw (c .enum-told .given .1) refl
 
 returns-2 : tie.Need-returns-2
-returns-2 c = rw (c .before .enum-told2 .given .1) (c .is-silent .ensures)
+returns-2 c = rw (c .before .enum-told2 .given .1, c .is-note .ensures) refl
 
 pub triggers-spec : {M : Type 1} → statement M
-triggers-spec = tie.close (tie.spec enum-told enum-told-2 is-silent-requires returns returns-2)
+triggers-spec = tie.close (tie.spec enum-told enum-told-2 is-note-requires returns returns-2)
