@@ -106,8 +106,8 @@ pub record JoinedNotes : Type 0 where
   -- every event keeps it so, between the records at a sample too
   pub open-kept : (g : Settings) (v : State) (e : Event) → OpenIfActive v → OpenIfActive (actOf g v e)
   -- the same from every state v with `OpenIfActive v`, for instance an entry that a render left, at any position n. A
-  -- state that a host has made up may have a note active in Idle or Release: there a joined key stays silent, or goes
-  -- on falling
+  -- state that a host has made up may have a note active in Idle or Release: there a joined key stays silent, or its
+  -- level goes on falling
   pub open-from : (g : Settings) (s : List ℕ) (n : ℕ) (v : State) → OpenIfActive v → (k : ℕ) → OpenIfActive (stateFrom g s n v k) × OpenIfActive (begun g s (n + k) (stateFrom g s n v k))
   -- 01's marks, and keys one after the other
   pub examples : (g : Settings) (v : State) (e : Envelope) → JoinedExamples (withKeying g Joined) (withKeys v freshKeys) e

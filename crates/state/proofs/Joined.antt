@@ -10,10 +10,10 @@ use lib.Dec.{eqb}
 use lib.Ieee.{Float, le}
 use Rattle.floats.specs.Double.{_⊕_, zero64, one}
 use Rattle.voice.specs.Keys.{Pair, keysOf, others, heldOf, isSounding, lastOf, liftedOf}
+use Rattle.voice.specs.Voice.{isNote}
 use Rattle.voice.specs.declared.keys.ActiveNote.{ActiveNote}
 use Rattle.voice.specs.declared.keys.ActiveNote.the-variants.{Silent, Note}
 use Rattle.voice.specs.declared.keys.AfterLift.{AfterLift}
-use Rattle.voice.specs.Voice.{isNote}
 use Rattle.voice.specs.declared.keys.NoteOff.the-variants.{Released, FellBack, NoChange}
 use Rattle.voice.proofs.Actions.{by-cases}
 use Rattle.envelope.specs.Limits.{clampedOf, sampleTimeOf}
@@ -122,7 +122,7 @@ act-open g v (event.Strike note velocity) h n a = strike-open (g .keying) v h
 act-open g v (event.Lift note) h n a = lift-open v note h n a
 act-open g v event.Reset h n a = let z : Silent ≡ Note n = a in cc
 
--- ---- a sample keeps it open
+-- ---- a sample keeps an open envelope open
 step-open : (k : Adsr) (t : Float) (e : Envelope) → isOpen (e .stage) ≡ true → isOpen (stepOf k t e .stage) ≡ true
 unfolding stepOf
 step-open k t e h = grown (ruleOf (e .stage) k e) (ruled (e .stage) h)

@@ -47,8 +47,8 @@ isOpen Release = false
 abbrev pub OpenIfActive : State → Type 0
 OpenIfActive v = (n : ℕ) → v .keys .active ≡ Note n → isOpen (v .envelope .stage) ≡ true
 
--- g with another keying, v with other keys. Who adds a field to `Settings` adds it here and to `withTremolo` of
--- ButLfo.antt, which name all fields
+-- g with another keying, v with other keys. Who adds a field to `Settings` adds it here, to `withTremolo` of
+-- ButLfo.antt and to `settingsOf` of the crate `ffi`, which name all fields
 abbrev pub withKeying : Settings → Keying → Settings
 withKeying g k = record { rate = g .rate; waveform = g .waveform; adsr = g .adsr; lfo = g .lfo; keying = k }
 
