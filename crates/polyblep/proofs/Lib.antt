@@ -9,3 +9,5 @@ pub mod Finite
 pub mod Third
 -- two outcomes of a public function are equal
 pub mod Unique
+-- the rounded corner, without rounding
+pub mod Exactly

@@ -1,8 +1,9 @@
 // polyblep.rs of the original, in f64: corrections for the steps (`poly_blep`) and the corners (`poly_blamp`) of a
 // naive waveform, and four corrected waveforms. The calls of 01 judge their arguments; the functions under them take
-// any number, and a waveform's inner loop uses these. Left out: the simd lanes.
+// any number, and a waveform's inner loop uses these. Left out: the simd lanes. Ours is the rounded triangle, whose
+// correction has the constant of integration that the original's lacks.
 ghost use mathlib.Core.Path.{_≡_};
-ghost use Rattle.polyblep.specs.Polyblep.{sideOf, blepOf, blampOf, fractOf, naivePulseOf, naiveSawOf, riseOf, fallOf, naiveTriangleOf, sawOf, squareOf, pulseOf, triangleOf};
+ghost use Rattle.polyblep.specs.Polyblep.{sideOf, kneeAfter, kneeBefore, blepOf, blampOf, roundedBlampOf, fractOf, naivePulseOf, naiveSawOf, riseOf, fallOf, naiveTriangleOf, sawOf, squareOf, pulseOf, triangleOf, roundedOf};
 ghost use Rattle.polyblep.specs.Calls.{polyBlepOf, polyBlampOf, polyblepSawOf, polyblepSquareOf, polyblepPulseOf, polyblampTriangleOf};
 use answers::Refusal;
 use answers::Value;
@@ -90,18 +91,39 @@ pub fn blamp(t: f64, dt: f64) -> f64
     ensures { λ r. ⌜ r ≡ blampOf t dt ⌝ }
 {
     match side_of(t, dt) {
-        Side::After(x) => {
-            let x2 = x * x;
-            let x3 = x2 * x;
-            (x2 - x3 * THIRD - x) * dt
-        }
-        Side::Before(x) => {
-            let x2 = x * x;
-            let x3 = x2 * x;
-            (x3 * THIRD + x2 + x) * dt
-        }
+        Side::After(x) => knee_after(x) * dt,
+        Side::Before(x) => knee_before(x) * dt,
         Side::Away => 0.0,
     }
+}
+
+// `blamp` with the constant of integration: without rounding, a third of dt at the corner and 0 one sample away.
+pub fn rounded_blamp(t: f64, dt: f64) -> f64
+    ensures { λ r. ⌜ r ≡ roundedBlampOf t dt ⌝ }
+{
+    match side_of(t, dt) {
+        Side::After(x) => (knee_after(x) + THIRD) * dt,
+        Side::Before(x) => (knee_before(x) + THIRD) * dt,
+        Side::Away => 0.0,
+    }
+}
+
+// The bracket of a corner's correction, x samples after the corner.
+pub fn knee_after(x: f64) -> f64
+    ensures { λ r. ⌜ r ≡ kneeAfter x ⌝ }
+{
+    let x2 = x * x;
+    let x3 = x2 * x;
+    x2 - x3 * THIRD - x
+}
+
+// Before the corner, where x is at most 0.
+pub fn knee_before(x: f64) -> f64
+    ensures { λ r. ⌜ r ≡ kneeBefore x ⌝ }
+{
+    let x2 = x * x;
+    let x3 = x2 * x;
+    x3 * THIRD + x2 + x
 }
 
 pub fn saw(phase: f64, dt: f64) -> f64
@@ -132,6 +154,15 @@ pub fn triangle(phase: f64, dt: f64) -> f64
     let low = blamp(phase, dt);
     let high = blamp(fract(phase + 0.5), dt);
     naive_triangle(phase) + 8.0 * low - 8.0 * high
+}
+
+// The rounded triangle: half the triangle's factor, which is what a change of slope of 8 asks for.
+pub fn rounded(phase: f64, dt: f64) -> f64
+    ensures { λ r. ⌜ r ≡ roundedOf phase dt ⌝ }
+{
+    let low = rounded_blamp(phase, dt);
+    let high = rounded_blamp(fract(phase + 0.5), dt);
+    naive_triangle(phase) + 4.0 * low - 4.0 * high
 }
 
 // The side of the step at phase 0, which is also the step at phase 1, with the distance from it in samples.
