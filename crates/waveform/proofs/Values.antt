@@ -17,14 +17,14 @@ use Rattle.floats.proofs.Monotone.{add-mono}
 use Rattle.floats.proofs.Ranges.{add-ge0}
 use Rattle.floats.proofs.OneWay.{times-one}
 use Rattle.floats.proofs.Bounded.{Size, size-finite, size-mul, size-widen}
-use Rattle.polyblep.specs.Polyblep.{sawOf, squareOf, pulseOf, triangleOf}
-use Rattle.polyblep.proofs.Finite.{Domain, saw-size, square-size, pulse-size, triangle-size}
+use Rattle.polyblep.specs.Polyblep.{sawOf, squareOf, pulseOf, triangleOf, roundedOf}
+use Rattle.polyblep.proofs.Finite.{Domain, saw-size, square-size, pulse-size, triangle-size, rounded-size}
 pub use Rattle.polyblep.proofs.Finite.{ceiling, unit-size}
 use Rattle.sine.specs.Table.{quarter}
 use Rattle.sine.specs.Sine.{steps, scale, wholePart, float, betweenOf, pointOf, readingIn, readingOf}
 use Rattle.sine.proofs.Bounds.{reading-sized}
 use Rattle.waveform.specs.declared.Waveform.{Waveform}
-use Rattle.waveform.specs.declared.Waveform.the-variants.{Sine, Square, Sawtooth, Triangle, Pulse}
+use Rattle.waveform.specs.declared.Waveform.the-variants.{Sine, Square, Sawtooth, Triangle, Pulse, RoundedTriangle}
 use Rattle.waveform.specs.Waveform.{invTau, isWaveform, valueOf, normalOf}
 use Rattle.waveform.specs.Filled.{phaseFrom, valueAt, samplesFrom}
 use Rattle.waveform.proofs.Normal.{normal-in}
@@ -42,12 +42,13 @@ unfolding readingIn
 reading-fits u = cond-fits binary64 (within zero64 one u) (pointOf quarter (u ⊗ steps)) zero64 (point-fits (u ⊗ steps)) (unfold ofBits in unfold fits in tt)
 
 pub value-fits : (w : Waveform) (phase dt : Float) → T (fits binary64 (valueOf w phase dt))
-unfolding valueOf squareOf sawOf triangleOf pulseOf
+unfolding valueOf squareOf sawOf triangleOf pulseOf roundedOf
 value-fits Sine phase dt = reading-fits phase
 value-fits Square phase dt = sub-fits binary64 _ _
 value-fits Sawtooth phase dt = sub-fits binary64 _ _
 value-fits Triangle phase dt = sub-fits binary64 _ _
 value-fits (Pulse duty) phase dt = sub-fits binary64 _ _
+value-fits RoundedTriangle phase dt = sub-fits binary64 _ _
 
 -- ---- sizes
 -- in the domain of one sample the value is at most 512 in size
@@ -58,6 +59,7 @@ value-size Square phase dt s h = square-size phase dt h
 value-size Sawtooth phase dt s h = saw-size phase dt h
 value-size Triangle phase dt s h = triangle-size phase dt h
 value-size (Pulse duty) phase dt s h = pulse-size phase dt h duty s
+value-size RoundedTriangle phase dt s h = rounded-size phase dt h
 
 -- so it is at every finite phase in radians that is not negative
 pub value-at-size : (w : Waveform) (step p : Float) → T (isWaveform w) → T (fits binary64 p) → T (nonneg p) → T (within zero64 four (step ⊗ invTau)) → Size ceiling (valueAt w step p)

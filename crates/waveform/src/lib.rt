@@ -1,6 +1,6 @@
 // waveform.rs of the original: one sample of a waveform. `sample` and `value_at` take the phase and dt, the step of the
 // phase in one sample, in cycles; a block counts both in radians, which `normalised` and `in_cycles` turn into cycles.
-// Left out, as 01 says: noise and the simd paths.
+// Left out, as 01 says: noise and the simd paths. The rounded triangle is ours.
 ghost use mathlib.Core.Path.{_≡_};
 ghost use Prim.Native.Nat.{_*_, _^_};
 ghost use lib.Dec.{T};
@@ -32,6 +32,7 @@ pub enum Waveform {
     Sawtooth,
     Triangle,
     Pulse(f64),
+    RoundedTriangle,
 }
 
 // One sample; phase (0 to 1) and dt (0 to 4) are in cycles. The duty is refused with 6, else phase or dt with 9.
@@ -58,6 +59,7 @@ pub fn is_waveform(waveform: Waveform) -> bool
         Waveform::Sawtooth => true,
         Waveform::Triangle => true,
         Waveform::Pulse(duty) => domain::is_duty(duty),
+        Waveform::RoundedTriangle => true,
     }
 }
 
@@ -71,6 +73,7 @@ pub fn value_at(waveform: Waveform, phase: f64, dt: f64) -> f64
         Waveform::Sawtooth => polyblep::saw(phase, dt),
         Waveform::Triangle => polyblep::triangle(phase, dt),
         Waveform::Pulse(duty) => polyblep::pulse(phase, dt, duty),
+        Waveform::RoundedTriangle => polyblep::rounded(phase, dt),
     }
 }
 

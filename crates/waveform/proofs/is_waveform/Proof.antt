@@ -22,6 +22,9 @@ enum-known-waveform c = search needs
 is-duty-requires : tie.Need-is-duty-requires
 is-duty-requires c κs = search needs
 
+enum-told-5 : tie.Need-enum-told-5
+enum-told-5 c = search needs
+
 returns : tie.Need-returns
 returns c = search needs
 
@@ -37,6 +40,9 @@ returns-4 c = search needs
 returns-5 : tie.Need-returns-5
 returns-5 c = rw (c .before .before .waveform .given .1, c .is-duty .ensures) refl
 
+returns-6 : tie.Need-returns-6
+returns-6 c = search needs
+
 pub is-waveform-spec : {M : Type 1} → statement M
 is-waveform-spec =
     tie.close
@@ -47,8 +53,10 @@ is-waveform-spec =
     enum-told-4
     enum-known-waveform
     is-duty-requires
+    enum-told-5
     returns
     returns-2
     returns-3
     returns-4
-    returns-5)
+    returns-5
+    returns-6)

@@ -34,6 +34,12 @@ enum-known-waveform c = search needs
 pulse-requires : tie.Need-pulse-requires
 pulse-requires c κs = search needs
 
+enum-told-5 : tie.Need-enum-told-5
+enum-told-5 c = search needs
+
+rounded-requires : tie.Need-rounded-requires
+rounded-requires c κs = search needs
+
 returns : tie.Need-returns
 unfolding valueOf
 returns c = rw (c .before .enum-told .given .1) (c .reading .ensures)
@@ -54,6 +60,10 @@ returns-5 : tie.Need-returns-5
 unfolding valueOf
 returns-5 c = rw (c .before .before .waveform .given .1) (c .pulse .ensures)
 
+returns-6 : tie.Need-returns-6
+unfolding valueOf
+returns-6 c = rw (c .before .enum-told5 .given .1) (c .rounded .ensures)
+
 pub value-at-spec : {M : Type 1} → statement M
 value-at-spec =
     tie.close
@@ -68,8 +78,11 @@ value-at-spec =
     triangle-requires
     enum-known-waveform
     pulse-requires
+    enum-told-5
+    rounded-requires
     returns
     returns-2
     returns-3
     returns-4
-    returns-5)
+    returns-5
+    returns-6)
