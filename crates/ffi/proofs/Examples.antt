@@ -1,7 +1,13 @@
 -- The desk by worked examples: words, which of code, duty, phase and dt is judged, and which numbers are settings.
--- Computed. Assumes nothing.
-use mathlib.Core.Path.{_≡_, refl}
+-- Computed, but for the codes above 6. Assumes nothing.
+use mathlib.Core.Path.{_≡_, refl, subst}
+use mathlib.Core.Bool.{false}
 use mathlib.Core.List.{[], _∷_, map}
+use Prim.Native.Nat.{ℕ, _<_}
+use native.Mathlib.Nat.{lt-irrefl}
+use native.Mathlib.Omega.{arith}
+use borrow.Author.Tests.{ne-eqb}
+use lib.Dec.{eqb}
 use lib.Ieee.{Float, binary64, ofBits, le, lt, eq}
 use Rattle.answers.specs.declared.Answer.the-variants.{Done, Refused}
 use Rattle.answers.specs.declared.Refusal.the-variants.{Score, NewScore, Setting, Argument}
@@ -9,6 +15,8 @@ use Rattle.answers.specs.declared.ScoreFault.the-variants.{Kind, Order}
 use Rattle.floats.specs.Double.{zero64}
 use Rattle.ffi.specs.Packed.{packedOf}
 use Rattle.state.specs.declared.Keying.the-variants.{Struck, Joined}
+use Rattle.waveform.specs.declared.Waveform.the-variants.{Sine, Square, Sawtooth, Triangle, Pulse, RoundedTriangle}
+use Rattle.ffi.specs.declared.Shape.the-variants as shape
 use Rattle.ffi.specs.declared.Manner.the-variants as manner
 use Rattle.ffi.specs.declared.Choice.the-variants.{Unknown}
 use Rattle.ffi.specs.Ffi.{asks, shapeOf, mannerOf, choiceOf, singleOf}
@@ -31,6 +39,20 @@ pub judged : (singleOf 9 nan zero64 zero64 .answer ∷ singleOf 4 zero64 zero64 
     ≡ Refused Setting ∷ Refused Setting ∷ Done 0 ∷ Refused Argument ∷ []
 unfolding shapeOf ofBits le lt eq
 judged = refl
+
+-- 0 to 4 and 6 are waveforms, whatever the duty is, and a pulse alone has it; 5 is none
+pub codes : (duty : Float) → map (λ (code : ℕ). shapeOf code duty) (0 ∷ 1 ∷ 2 ∷ 3 ∷ 4 ∷ 5 ∷ 6 ∷ [])
+    ≡ shape.Known Sine ∷ shape.Known Square ∷ shape.Known Sawtooth ∷ shape.Known Triangle ∷ shape.Known (Pulse duty) ∷ shape.Unknown ∷ shape.Known RoundedTriangle ∷ []
+unfolding shapeOf
+codes duty = refl
+
+-- nor is any code above 6
+pub above-six : (code : ℕ) (duty : Float) → 6 < code → shapeOf code duty ≡ shape.Unknown
+unfolding shapeOf
+above-six code duty h = rw (other 0 (omega arith), other 1 (omega arith), other 2 (omega arith), other 3 (omega arith), other 4 (omega arith), other 6 (omega arith)) refl
+  where
+    other : (n : ℕ) → n < code → eqb code n ≡ false
+    other n l = ne-eqb code n (λ e. absurd (lt-irrefl n (subst (λ (z : ℕ). n < z) e l)))
 
 -- 0 is struck and 1 joined; 2, 256, 2^31 and 2^32 - 1 are unknown
 pub keyings : map mannerOf (0 ∷ 1 ∷ 2 ∷ 256 ∷ 2147483648 ∷ 4294967295 ∷ []) ≡ manner.Known Struck ∷ manner.Known Joined ∷ manner.Unknown ∷ manner.Unknown ∷ manner.Unknown ∷ manner.Unknown ∷ []

@@ -2,8 +2,9 @@
 -- 01, "What a call says": "The arranger's desk is a C program: score check and single waveform samples are exported to
 -- it, on numbers and byte slices. Sine to Pulse are codes 0 to 4 there, in the Rust's order. A single sample takes
 -- code, normalised phase, dt and a duty that is read and judged for Pulse only; for Sine u is the phase"; number 6: "at
--- the desk also a waveform code above 4". 02, R-7: "Settings gain an LFO"; "6 covers the new settings", and so a code
--- of the LFO's waveform above 4. 02, R-9: "A setting chooses joined or struck"; 0 is struck, 1 joined, and any other
+-- the desk also a waveform code above 4". 02, R-11: "6 accepts the new choice, which is code 6 at the desk; 5, the
+-- Rust's Noise, stays refused." 02, R-7: "Settings gain an LFO"; "6 covers the new settings", and so a code of the
+-- LFO's waveform that is none. 02, R-9: "A setting chooses joined or struck"; 0 is struck, 1 joined, and any other
 -- number is 6.
 -- Beyond 01: render, re-render, continuing call, fresh state and listing, on slices of f64 and u64 too.
 -- Each outcome is that of the call of the crate below, with its answer packed into one word, and what is left in every
@@ -36,7 +37,7 @@ use Rattle.state.specs.declared.Settings.{Settings}
 use Rattle.state.specs.State.{freshOf}
 use Rattle.state.specs.Heart.{stateFrom, samplesFrom}
 use Rattle.waveform.specs.declared.Waveform.{Waveform}
-use Rattle.waveform.specs.declared.Waveform.the-variants.{Sine, Square, Sawtooth, Triangle, Pulse}
+use Rattle.waveform.specs.declared.Waveform.the-variants.{Sine, Square, Sawtooth, Triangle, Pulse, RoundedTriangle}
 use Rattle.waveform.specs.Waveform.{sampleOf}
 use Rattle.ffi.specs.declared.Asked.{Asked}
 use Rattle.ffi.specs.declared.Shape.{Shape}
@@ -84,14 +85,15 @@ asks rate code duty attack decay sustain release lfoCode lfoDuty lfoFrequency lf
       joined = joined;
     }
 
--- the table of codes: 0 to 4 in the Rust's order, every other code is unknown; only Pulse reads the duty
+-- the table of codes: 0 to 4 in the Rust's order, and 6; every other code is unknown; only Pulse reads the duty
 unfoldable pub shapeOf : ℕ → Float → Shape
 shapeOf code duty =
     cond (eqb code 0) (shape.Known Sine)
     (cond (eqb code 1) (shape.Known Square)
     (cond (eqb code 2) (shape.Known Sawtooth)
     (cond (eqb code 3) (shape.Known Triangle)
-    (cond (eqb code 4) (shape.Known (Pulse duty)) shape.Unknown))))
+    (cond (eqb code 4) (shape.Known (Pulse duty))
+    (cond (eqb code 6) (shape.Known RoundedTriangle) shape.Unknown)))))
 
 -- 0 is struck, 1 joined, every other number is unknown
 unfoldable pub mannerOf : ℕ → Manner

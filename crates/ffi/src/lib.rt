@@ -37,7 +37,7 @@ pub struct Asked {
     pub joined: u32,
 }
 
-// The waveform of a code; unknown where the code is above 4.
+// The waveform of a code; unknown where the code is 5, the original's noise, or above 6.
 pub enum Shape {
     Known(Waveform),
     Unknown,
@@ -49,7 +49,7 @@ pub enum Manner {
     Unknown,
 }
 
-// The settings that a host asks for; unknown where a code of theirs is above 4, or `joined` above 1.
+// The settings that a host asks for; unknown where a code of theirs or `joined` is.
 pub enum Choice {
     Known(Settings),
     Unknown,
@@ -263,6 +263,7 @@ fn shape_of(code: u32, duty: f64) -> Shape
         2 => Shape::Known(Waveform::Sawtooth),
         3 => Shape::Known(Waveform::Triangle),
         4 => Shape::Known(Waveform::Pulse(duty)),
+        6 => Shape::Known(Waveform::RoundedTriangle),
         _ => Shape::Unknown,
     }
 }

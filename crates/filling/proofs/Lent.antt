@@ -9,7 +9,7 @@ use Rattle.sine.specs.Whole.{wholeWave, wholeReading}
 use Rattle.sine.proofs.Whole.{whole-long, whole-is}
 use Rattle.waveform.specs.declared.Radians.{Radians}
 use Rattle.waveform.specs.declared.Waveform.{Waveform}
-use Rattle.waveform.specs.declared.Waveform.the-variants.{Sine, Square, Sawtooth, Triangle, Pulse}
+use Rattle.waveform.specs.declared.Waveform.the-variants.{Sine, Square, Sawtooth, Triangle, Pulse, RoundedTriangle}
 use Rattle.waveform.specs.Waveform.{valueOf, normalOf}
 use Rattle.waveform.specs.Filled.{valueAt, FilledBy}
 use Rattle.waveform.proofs.Steps.{samples-same}
@@ -31,6 +31,7 @@ table-unread W Square step q n = refl
 table-unread W Sawtooth step q n = refl
 table-unread W Triangle step q n = refl
 table-unread W (Pulse duty) step q n = refl
+table-unread W RoundedTriangle step q n = refl
 
 -- with the whole wave for the table, the value is the waveform's own
 pub whole-value : (w : Waveform) (step q : Float) → valueIn wholeWave w step q ≡ valueAt w step q
@@ -40,3 +41,4 @@ whole-value Square step q = refl
 whole-value Sawtooth step q = refl
 whole-value Triangle step q = refl
 whole-value (Pulse duty) step q = refl
+whole-value RoundedTriangle step q = refl

@@ -7,7 +7,7 @@ use lib.ListN.{length}
 use lib.Ieee.{Float}
 use Rattle.sine.specs.Whole.{wholeReading}
 use Rattle.waveform.specs.declared.Waveform.{Waveform}
-use Rattle.waveform.specs.declared.Waveform.the-variants.{Sine, Square, Sawtooth, Triangle, Pulse}
+use Rattle.waveform.specs.declared.Waveform.the-variants.{Sine, Square, Sawtooth, Triangle, Pulse, RoundedTriangle}
 use Rattle.waveform.specs.Waveform.{normalOf}
 use Rattle.waveform.specs.Filled.{valueAt}
 
@@ -18,3 +18,4 @@ valueIn W Square step p = valueAt Square step p
 valueIn W Sawtooth step p = valueAt Sawtooth step p
 valueIn W Triangle step p = valueAt Triangle step p
 valueIn W (Pulse duty) step p = valueAt (Pulse duty) step p
+valueIn W RoundedTriangle step p = valueAt RoundedTriangle step p

@@ -6,12 +6,12 @@ use lib.Dec.{T}
 use lib.Ieee.{Float, binary64, ofBits, add, mul, lt, le, fits}
 use lib.Ieee.Fits.{and-i, and-l, and-r, add-fits}
 use Rattle.floats.specs.Range.{within}
-use Rattle.floats.specs.Double.{_⊕_, _⊖_, _⊗_, zero64, half, one, eight}
+use Rattle.floats.specs.Double.{_⊕_, _⊖_, _⊗_, zero64, half, one, four, eight}
 use Rattle.floats.proofs.Order.{fle-trans, lt-le, not-le-le, not-lt-le}
 use Rattle.polyblep.specs.declared.Side.the-variants.{Away}
-use Rattle.polyblep.specs.Polyblep.{sideOf, fractOf, blepOf, blampOf}
-use Rattle.polyblep.proofs.Clear.{InUnit, unit-finite, side-away, belowOne, fromOne, four, clear-between, half-grows, duty-grows}
-use Rattle.high_notes.specs.Inner.{least, most, quarter, threeQuarters, isSecond, OneEdge, isApart}
+use Rattle.polyblep.specs.Polyblep.{sideOf, fractOf, blepOf, naiveTriangleOf, blampOf, roundedBlampOf}
+use Rattle.polyblep.proofs.Clear.{InUnit, unit-finite, side-away, belowOne, fromOne, four-pass, clear-between, half-grows, duty-grows}
+use Rattle.high_notes.specs.Inner.{least, most, quarter, threeQuarters, isSecond, fromNearerCorner, withNearerCorner, OneEdge, isApart}
 
 -- ---- the nearer correction alone
 pub nearer-is : (naive : Float) (correction : Float → Float) (second : Bool) (u v t c added taken : Float) → t ≡ cond second v u → c ≡ correction t → added ≡ cond second zero64 c → taken ≡ cond second c zero64 → (second ≡ true → correction u ≡ zero64) → (second ≡ false → correction v ≡ zero64)
@@ -26,6 +26,17 @@ no-blep t dt e = rw e refl
 pub no-blamp : (t dt : Float) → sideOf t dt ≡ Away → eight ⊗ blampOf t dt ≡ zero64
 unfolding blampOf
 no-blamp t dt e = rw e (unfold ofBits in unfold mul in refl)
+
+pub no-rounded-blamp : (t dt : Float) → sideOf t dt ≡ Away → four ⊗ roundedBlampOf t dt ≡ zero64
+unfolding roundedBlampOf
+no-rounded-blamp t dt e = rw e (unfold ofBits in unfold mul in refl)
+
+-- a triangle with the correction of its nearer corner alone has both: the other is 0
+pub corner-apart : (correction : Float → Float) (u dt : Float) → T (within zero64 one u) → OneEdge (λ (t : Float). t ⊕ half) dt quarter threeQuarters → ((t : Float) → sideOf t dt ≡ Away → correction t ≡ zero64)
+    → withNearerCorner u (correction (fromNearerCorner u)) ≡ naiveTriangleOf u ⊕ correction u ⊖ correction (fractOf (u ⊕ half))
+corner-apart correction u dt h apart none =
+    let (first, other) = apart u h in
+    nearer-is (naiveTriangleOf u) correction (isSecond quarter threeQuarters u) u (fractOf (u ⊕ half)) _ _ _ _ refl refl refl refl (λ e. none u (first e)) (λ e. none (fractOf (u ⊕ half)) (other e))
 
 -- ---- the test
 either-l : (a b : Bool) → T a → (a || b) ≡ true
@@ -42,7 +53,7 @@ module _ (other : Float → Float) (grows : (x y : Float) → InUnit x → InUni
     Tests = T (within zero64 one from) × T (within zero64 one to) × T (le dt from && le to (one ⊖ dt)) × T (belowOne (other zero64) (other from) dt && fromOne (other to) (other one) dt)
 
     tests : Tests
-    tests = four (within zero64 one from) (within zero64 one to) (le dt from && le to (one ⊖ dt)) (belowOne (other zero64) (other from) dt && fromOne (other to) (other one) dt) (subst T (sym e) tt)
+    tests = four-pass (within zero64 one from) (within zero64 one to) (le dt from && le to (one ⊖ dt)) (belowOne (other zero64) (other from) dt && fromOne (other to) (other one) dt) (subst T (sym e) tt)
 
     unit-ends : InUnit zero64 × InUnit one
     unit-ends = (unfold ofBits in unfold le in tt, unfold ofBits in unfold le in tt)

@@ -10,10 +10,10 @@ use lib.Ieee.{Float, binary64, ofBits, lt, le, fits, nan}
 use Rattle.floats.specs.Range.{within, nonneg}
 use Rattle.floats.specs.Double.{_⊕_, _⊖_, _⊗_, zero64, half, one}
 use Rattle.polyblep.specs.declared.Side.the-variants.{Away}
-use Rattle.polyblep.specs.Polyblep.{sideOf, fractOf}
+use Rattle.polyblep.specs.Polyblep.{sideOf, fractOf, naiveTriangleOf}
 use Rattle.polyblep.proofs.Clear.{belowOne, fromOne}
 use Rattle.waveform.specs.declared.Waveform.{Waveform}
-use Rattle.waveform.specs.declared.Waveform.the-variants.{Sine, Square, Sawtooth, Triangle, Pulse}
+use Rattle.waveform.specs.declared.Waveform.the-variants.{Sine, Square, Sawtooth, Triangle, Pulse, RoundedTriangle}
 use Rattle.waveform.specs.Waveform.{invTau}
 
 -- 2^-10 and 1 - 2^-10, between which a duty is far enough from 0 and 1
@@ -64,6 +64,14 @@ threeQuarters = ofBits binary64 0x3fe8_0000_0000_0000
 abbrev pub isSecond : Float → Float → Float → Bool
 isSecond from to u = le from u && lt u to
 
+-- the phase from the nearer of a triangle's corners
+abbrev pub fromNearerCorner : Float → Float
+fromNearerCorner u = cond (isSecond quarter threeQuarters u) (fractOf (u ⊕ half)) u
+
+-- the naive triangle with that corner's correction, which is taken away at the upper corner
+abbrev pub withNearerCorner : Float → Float → Float
+withNearerCorner u c = let second = isSecond quarter threeQuarters u in naiveTriangleOf u ⊕ cond second zero64 c ⊖ cond second c zero64
+
 abbrev pub OneEdge : (Float → Float) → Float → Float → Float → Type 0
 OneEdge other dt from to = (u : Float) → T (within zero64 one u) → (isSecond from to u ≡ true → sideOf u dt ≡ Away) × (isSecond from to u ≡ false → sideOf (fractOf (other u)) dt ≡ Away)
 
@@ -74,6 +82,7 @@ Apart Square dt = OneEdge (λ (t : Float). t ⊕ half) dt quarter threeQuarters
 Apart Sawtooth dt = Unit {0}
 Apart Triangle dt = OneEdge (λ (t : Float). t ⊕ half) dt quarter threeQuarters
 Apart (Pulse duty) dt = T (within least most duty) × OneEdge (λ (t : Float). t ⊖ duty ⊕ one) dt (duty ⊗ half) (half ⊕ duty ⊗ half)
+Apart RoundedTriangle dt = OneEdge (λ (t : Float). t ⊕ half) dt quarter threeQuarters
 
 -- the test that edges are apart, by the second edge's phase at fraction 0, at the two ends, and at 1
 abbrev pub isApart : Float → Float → Float → Float → Float → Float → Float → Bool

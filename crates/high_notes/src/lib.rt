@@ -9,12 +9,12 @@ ghost use lib.Ieee.Scale.{finite};
 ghost use Rattle.runs.specs.Runs.{listed};
 ghost use Rattle.floats.specs.Range.{within};
 ghost use Rattle.floats.specs.Double.{_⊕_, _⊗_, zero64, half, one, two};
-ghost use Rattle.polyblep.specs.Polyblep.{fractOf, blepOf, blampOf, sawOf, squareOf, pulseOf, triangleOf};
+ghost use Rattle.polyblep.specs.Polyblep.{fractOf, blepOf, blampOf, roundedBlampOf, sawOf, squareOf, pulseOf, triangleOf, roundedOf};
 ghost use Rattle.waveform.specs.Waveform.{valueOf, remainderOf, invTau, radians};
 ghost use Rattle.waveform.specs.Filled.{phaseFrom, Filled};
 ghost use Rattle.waveform.proofs.Values.{far, sixteen};
 ghost use Rattle.high_notes.specs.Remainders.{madeOf, remaindersOf};
-ghost use Rattle.high_notes.specs.Inner.{fourTau, eightTau, thirtyTwoTau, wrapOnceOf, AllBelow, AllFractions, quarter, threeQuarters, OneEdge, Apart, isApart};
+ghost use Rattle.high_notes.specs.Inner.{fourTau, eightTau, thirtyTwoTau, wrapOnceOf, AllBelow, AllFractions, quarter, threeQuarters, fromNearerCorner, withNearerCorner, OneEdge, Apart, isApart};
 ghost use Rattle.waveform.specs.declared.Waveform.the-variants.{Pulse};
 use waveform::Radians;
 use waveform::TAU;
@@ -200,6 +200,7 @@ fn branchless_value(waveform: Waveform, u: f64, dt: f64) -> f64
         Waveform::Sawtooth => saw(u, dt),
         Waveform::Triangle => triangle(u, dt),
         Waveform::Pulse(duty) => pulse(u, dt, duty),
+        Waveform::RoundedTriangle => rounded(u, dt),
     }
 }
 
@@ -227,6 +228,7 @@ fn value_apart(waveform: Waveform, u: f64, dt: f64) -> f64
         Waveform::Sawtooth => saw(u, dt),
         Waveform::Triangle => triangle_apart(u, dt),
         Waveform::Pulse(duty) => pulse_apart(u, dt, duty),
+        Waveform::RoundedTriangle => rounded_apart(u, dt),
     }
 }
 
@@ -243,9 +245,30 @@ fn triangle_apart(u: f64, dt: f64) -> f64
     requires { ⌜ T (within zero64 one u) × OneEdge (λ (t : Float). t ⊕ half) dt quarter threeQuarters ⌝ }
     ensures { λ r. ⌜ r ≡ triangleOf u dt ⌝ }
 {
+    with_nearer_corner(u, 8.0 * blamp(from_nearer_corner(u), dt))
+}
+
+fn rounded_apart(u: f64, dt: f64) -> f64
+    requires { ⌜ T (within zero64 one u) × OneEdge (λ (t : Float). t ⊕ half) dt quarter threeQuarters ⌝ }
+    ensures { λ r. ⌜ r ≡ roundedOf u dt ⌝ }
+{
+    with_nearer_corner(u, 4.0 * rounded_blamp(from_nearer_corner(u), dt))
+}
+
+// The phase from the nearer of a triangle's two corners, which are at the fractions 0 and 0.5.
+fn from_nearer_corner(u: f64) -> f64
+    requires { ⌜ T (within zero64 one u) ⌝ }
+    ensures { λ r. ⌜ r ≡ fromNearerCorner u ⌝ }
+{
+    select((0.25 <= u) & (u < 0.75), fract(u + 0.5), u)
+}
+
+// The naive triangle with the nearer corner's correction: added at the lower corner, taken at the upper one.
+fn with_nearer_corner(u: f64, correction: f64) -> f64
+    ensures { λ r. ⌜ r ≡ withNearerCorner u correction ⌝ }
+{
     let second = (0.25 <= u) & (u < 0.75);
-    let c = 8.0 * blamp(select(second, fract(u + 0.5), u), dt);
-    polyblep::naive_triangle(u) + select(second, 0.0, c) - select(second, c, 0.0)
+    polyblep::naive_triangle(u) + select(second, 0.0, correction) - select(second, correction, 0.0)
 }
 
 fn pulse_apart(u: f64, dt: f64, duty: f64) -> f64
@@ -268,6 +291,7 @@ fn are_apart(waveform: Waveform, dt: f64) -> bool
         Waveform::Sawtooth => false,
         Waveform::Triangle => is_apart(0.25, 0.75, 0.5, 0.75, 1.25, 1.5, dt),
         Waveform::Pulse(duty) => is_duty_apart(duty, dt),
+        Waveform::RoundedTriangle => is_apart(0.25, 0.75, 0.5, 0.75, 1.25, 1.5, dt),
     }
 }
 
@@ -338,6 +362,15 @@ fn triangle(u: f64, dt: f64) -> f64
     polyblep::naive_triangle(u) + 8.0 * low - 8.0 * high
 }
 
+fn rounded(u: f64, dt: f64) -> f64
+    requires { ⌜ T (within zero64 one u) ⌝ }
+    ensures { λ r. ⌜ r ≡ roundedOf u dt ⌝ }
+{
+    let low = rounded_blamp(u, dt);
+    let high = rounded_blamp(fract(u + 0.5), dt);
+    polyblep::naive_triangle(u) + 4.0 * low - 4.0 * high
+}
+
 // The formulas of both sides of the edge are worked out, and one is selected.
 fn blep(t: f64, dt: f64) -> f64
     ensures { λ r. ⌜ r ≡ blepOf t dt ⌝ }
@@ -351,10 +384,24 @@ fn blamp(t: f64, dt: f64) -> f64
     ensures { λ r. ⌜ r ≡ blampOf t dt ⌝ }
 {
     let x = select(t < dt, t, t - 1.0) / dt;
-    let x2 = x * x;
-    let x3 = x2 * x;
-    let before = select(1.0 - dt < t, (x3 * polyblep::THIRD + x2 + x) * dt, 0.0);
-    select(t < dt, (x2 - x3 * polyblep::THIRD - x) * dt, before)
+    let before = select(1.0 - dt < t, polyblep::knee_before(x) * dt, 0.0);
+    select(t < dt, polyblep::knee_after(x) * dt, before)
+}
+
+fn rounded_blamp(t: f64, dt: f64) -> f64
+    ensures { λ r. ⌜ r ≡ roundedBlampOf t dt ⌝ }
+{
+    let x = select(t < dt, t, t - 1.0) / dt;
+    let before = select(
+        1.0 - dt < t,
+        (polyblep::knee_before(x) + polyblep::THIRD) * dt,
+        0.0,
+    );
+    select(
+        t < dt,
+        (polyblep::knee_after(x) + polyblep::THIRD) * dt,
+        before,
+    )
 }
 
 fn fract(x: f64) -> f64

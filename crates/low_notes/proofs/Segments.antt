@@ -18,8 +18,8 @@ use Rattle.floats.proofs.Monotone.{mul-mono}
 use Rattle.floats.proofs.Ranges.{within-nonneg, add-grows}
 use Rattle.floats.proofs.Units.{rem-below, less-zero}
 use Rattle.polyblep.specs.declared.Side.the-variants.{Away}
-use Rattle.polyblep.specs.Polyblep.{sideOf, fractOf, blepOf, blampOf, sawOf, squareOf, pulseOf, triangleOf}
-use Rattle.polyblep.proofs.Clear.{Lies, unit-finite}
+use Rattle.polyblep.specs.Polyblep.{sideOf, fractOf, blepOf, blampOf, sawOf, squareOf, pulseOf, triangleOf, roundedOf}
+use Rattle.polyblep.proofs.Clear.{Lies, unit-finite, rounded-clear}
 use Rattle.polyblep.proofs.Clear as away
 use Rattle.waveform.specs.Waveform.{tau, twoTau, invTau, normalOf, radians}
 use Rattle.low_notes.specs.declared.Line.{Line}
@@ -136,6 +136,10 @@ triangle-lines dt t a b = rw (a, b, none) (slopes (lt t half))
     slopes : (s : Bool) → cond s (four ⊗ t ⊖ one) (three ⊖ four ⊗ t) ⊕ zero64 ⊖ zero64 ≡ lineOf (cond s Rise Fall) t
     slopes true = refl
     slopes false = refl
+
+-- with no correction due, the rounded triangle is the triangle
+pub rounded-lines : (dt : Float) → TwoLines (λ (t : Float). roundedOf t dt) dt Rise Fall
+rounded-lines dt t a b = rounded-clear t dt (a, b) ∙ triangle-lines dt t a b
 
 pub pulse-lines : (t dt duty : Float) → sideOf t dt ≡ Away → sideOf (fractOf (t ⊖ duty ⊕ one)) dt ≡ Away → pulseOf t dt duty ≡ lineOf (cond (lt t duty) High Low) t
 unfolding pulseOf blepOf

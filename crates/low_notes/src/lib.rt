@@ -21,7 +21,7 @@ use waveform::Waveform;
 use waveform::in_cycles;
 use waveform::wave_at;
 
-// Constant 1 or -1 (square and pulse), a sawtooth's climb, and the two slopes of a triangle.
+// Constant 1 or -1 (square and pulse), a sawtooth's climb, and the two slopes of a triangle, rounded or not.
 enum Line {
     High,
     Low,
@@ -262,6 +262,7 @@ fn segment_from(waveform: Waveform, phase: Radians, dt: f64) -> Segment
         Waveform::Sawtooth => up_to_end(phase, dt),
         Waveform::Triangle => up_to_half(phase, dt, Line::Rise, Line::Fall),
         Waveform::Pulse(duty) => up_to_duty(phase, dt, duty),
+        Waveform::RoundedTriangle => up_to_half(phase, dt, Line::Rise, Line::Fall),
     }
 }
 
@@ -278,7 +279,7 @@ fn up_to_end(phase: Radians, dt: f64) -> Segment
     )
 }
 
-// Square and triangle have a second edge at the fraction 0.5: one line before the edge, another behind it.
+// Square and triangles have a second edge at the fraction 0.5: one line before the edge, another behind it.
 fn up_to_half(phase: Radians, dt: f64, before: Line, behind: Line) -> Segment
     ensures { λ r. ⌜ ((value : Float → Float) → TwoLines value dt before behind → Straight (λ (q : Float). value (normalOf q)) r) ⌝ }
 {

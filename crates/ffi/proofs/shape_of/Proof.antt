@@ -27,10 +27,14 @@ returns-5 c = rw (c .match .keys5) refl
 
 returns-6 : tie.Need-returns-6
 unfolding shapeOf
-returns-6 c =
+returns-6 c = rw (c .match .keys6) refl
+
+returns-7 : tie.Need-returns-7
+unfolding shapeOf
+returns-7 c =
     let code = c .before .args .code in
     let n = c .match .rest in
-    rw (ne-eqb code 0 (n .0 .0 .0 .0 .1), ne-eqb code 1 (n .0 .0 .0 .1), ne-eqb code 2 (n .0 .0 .1), ne-eqb code 3 (n .0 .1), ne-eqb code 4 (n .1)) refl
+    rw (ne-eqb code 0 (n .0 .0 .0 .0 .0 .1), ne-eqb code 1 (n .0 .0 .0 .0 .1), ne-eqb code 2 (n .0 .0 .0 .1), ne-eqb code 3 (n .0 .0 .1), ne-eqb code 4 (n .0 .1), ne-eqb code 6 (n .1)) refl
 
 pub shape-of-spec : {M : Type 1} → statement M
-shape-of-spec = tie.close (tie.spec returns returns-2 returns-3 returns-4 returns-5 returns-6)
+shape-of-spec = tie.close (tie.spec returns returns-2 returns-3 returns-4 returns-5 returns-6 returns-7)

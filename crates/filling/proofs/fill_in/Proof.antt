@@ -43,7 +43,7 @@ returns-3 : tie.Need-returns-3
 returns-3 c =
     let keys = c .before .before .before .before in
     let a = keys .before .before .before .before .args in
-    filled-as _ _ _ _ _ _ _ _ (λ (q : Float). table-unread (a .wave .now) (a .waveform) _ q (λ s l. miss (1 ∷ 2 ∷ 3 ∷ 4 ∷ []) 0 tt (rw s at (keys .match .keys2)))) (c .before .before .fill2 .ensures)
+    filled-as _ _ _ _ _ _ _ _ (λ (q : Float). table-unread (a .wave .now) (a .waveform) _ q (λ s l. miss (1 ∷ 2 ∷ 3 ∷ 4 ∷ 5 ∷ []) 0 tt (rw s at (keys .match .keys2)))) (c .before .before .fill2 .ensures)
 
 pub fill-in-spec : {M : Type 1} → statement M
 fill-in-spec =

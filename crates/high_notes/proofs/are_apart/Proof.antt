@@ -30,6 +30,12 @@ enum-known-waveform c = search needs
 is-duty-apart-requires : tie.Need-is-duty-apart-requires
 is-duty-apart-requires c κs = search needs
 
+enum-told-5 : tie.Need-enum-told-5
+enum-told-5 c = search needs
+
+is-apart-requires-3 : tie.Need-is-apart-requires-3
+is-apart-requires-3 c κs = search needs
+
 returns : tie.Need-returns
 returns c = λ e. absurd (true≢false (sym e))
 
@@ -45,6 +51,9 @@ returns-4 c = λ e. rw (c .before .enum-told4 .given .1) (half-apart _ (c .is-ap
 returns-5 : tie.Need-returns-5
 returns-5 c = λ e. rw (c .before .before .waveform .given .1) (c .is-duty-apart .ensures e)
 
+returns-6 : tie.Need-returns-6
+returns-6 c = λ e. rw (c .before .enum-told5 .given .1) (half-apart _ (c .is-apart3 .result) (c .is-apart3 .ensures) e)
+
 pub are-apart-spec : {M : Type 1} → statement M
 are-apart-spec =
     tie.close
@@ -57,8 +66,11 @@ are-apart-spec =
     is-apart-requires-2
     enum-known-waveform
     is-duty-apart-requires
+    enum-told-5
+    is-apart-requires-3
     returns
     returns-2
     returns-3
     returns-4
-    returns-5)
+    returns-5
+    returns-6)

@@ -34,6 +34,12 @@ enum-known-waveform c = search needs
 pulse-requires : tie.Need-pulse-requires
 pulse-requires c κs = c .before .before .before .pre
 
+enum-told-5 : tie.Need-enum-told-5
+enum-told-5 c = search needs
+
+rounded-requires : tie.Need-rounded-requires
+rounded-requires c κs = c .before .before .pre
+
 returns : tie.Need-returns
 returns c = c .value-at .ensures
 
@@ -53,5 +59,9 @@ returns-5 : tie.Need-returns-5
 unfolding valueOf
 returns-5 c = rw (c .before .before .waveform .given .1) (c .pulse .ensures)
 
+returns-6 : tie.Need-returns-6
+unfolding valueOf
+returns-6 c = rw (c .before .enum-told5 .given .1) (c .rounded .ensures)
+
 pub branchless-value-spec : {M : Type 1} → statement M
-branchless-value-spec = tie.close (tie.spec enum-told value-at-requires enum-told-2 square-requires enum-told-3 saw-requires enum-told-4 triangle-requires enum-known-waveform pulse-requires returns returns-2 returns-3 returns-4 returns-5)
+branchless-value-spec = tie.close (tie.spec enum-told value-at-requires enum-told-2 square-requires enum-told-3 saw-requires enum-told-4 triangle-requires enum-known-waveform pulse-requires enum-told-5 rounded-requires returns returns-2 returns-3 returns-4 returns-5 returns-6)

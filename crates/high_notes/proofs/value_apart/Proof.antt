@@ -34,6 +34,12 @@ enum-known-waveform c = search needs
 pulse-apart-requires : tie.Need-pulse-apart-requires
 pulse-apart-requires c κs = let (u, apart) = c .before .before .before .pre in (u, rw (c .before .waveform .given .1) at apart)
 
+enum-told-5 : tie.Need-enum-told-5
+enum-told-5 c = search needs
+
+rounded-apart-requires : tie.Need-rounded-apart-requires
+rounded-apart-requires c κs = let (u, apart) = c .before .before .pre in (u, rw (c .enum-told5 .given .1) at apart)
+
 returns : tie.Need-returns
 returns c = c .value-at .ensures
 
@@ -53,5 +59,9 @@ returns-5 : tie.Need-returns-5
 unfolding valueOf
 returns-5 c = rw (c .before .before .waveform .given .1) (c .pulse-apart .ensures)
 
+returns-6 : tie.Need-returns-6
+unfolding valueOf
+returns-6 c = rw (c .before .enum-told5 .given .1) (c .rounded-apart .ensures)
+
 pub value-apart-spec : {M : Type 1} → statement M
-value-apart-spec = tie.close (tie.spec enum-told value-at-requires enum-told-2 square-apart-requires enum-told-3 saw-requires enum-told-4 triangle-apart-requires enum-known-waveform pulse-apart-requires returns returns-2 returns-3 returns-4 returns-5)
+value-apart-spec = tie.close (tie.spec enum-told value-at-requires enum-told-2 square-apart-requires enum-told-3 saw-requires enum-told-4 triangle-apart-requires enum-known-waveform pulse-apart-requires enum-told-5 rounded-apart-requires returns returns-2 returns-3 returns-4 returns-5 returns-6)

@@ -1,7 +1,7 @@
 -- `low_notes::segment_from` meets its contract. Assumes nothing.
 use borrow.Author.Needs.{needs}
 use Rattle.waveform.specs.Waveform.{valueOf}
-use Rattle.low_notes.proofs.Segments.{square-lines, triangle-lines}
+use Rattle.low_notes.proofs.Segments.{square-lines, triangle-lines, rounded-lines}
 use Rattle.low_notes.proofs.segment_from.Statement.{statement}
 use Rattle.low_notes.proofs.segment_from.Tie as tie
 
@@ -35,6 +35,12 @@ enum-known-waveform c = search needs
 up-to-duty-requires : tie.Need-up-to-duty-requires
 up-to-duty-requires c κs = search needs
 
+enum-told-5 : tie.Need-enum-told-5
+enum-told-5 c = search needs
+
+up-to-half-requires-3 : tie.Need-up-to-half-requires-3
+up-to-half-requires-3 c κs = search needs
+
 returns : tie.Need-returns
 unfolding valueOf
 returns c = λ q i. absurd (c .empty-segment .ensures q i)
@@ -55,6 +61,10 @@ returns-5 : tie.Need-returns-5
 unfolding valueOf
 returns-5 c = rw (c .before .before .waveform .given .1) (c .up-to-duty .ensures)
 
+returns-6 : tie.Need-returns-6
+unfolding valueOf
+returns-6 c = rw (c .before .enum-told5 .given .1) (c .up-to-half3 .ensures _ (rounded-lines (c .before .before .before .args .dt)))
+
 pub segment-from-spec : {M : Type 1} → statement M
 segment-from-spec =
     tie.close
@@ -69,8 +79,11 @@ segment-from-spec =
     up-to-half-requires-2
     enum-known-waveform
     up-to-duty-requires
+    enum-told-5
+    up-to-half-requires-3
     returns
     returns-2
     returns-3
     returns-4
-    returns-5)
+    returns-5
+    returns-6)

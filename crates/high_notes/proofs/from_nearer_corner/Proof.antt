@@ -1,0 +1,18 @@
+-- `high_notes::from_nearer_corner` meets its contract. Assumes nothing.
+use borrow.Author.Needs.{needs}
+use mathlib.Core.Path.{refl, _∙_}
+use Rattle.high_notes.proofs.Remaking.{half-low}
+use Rattle.high_notes.proofs.from_nearer_corner.Statement.{statement}
+use Rattle.high_notes.proofs.from_nearer_corner.Tie as tie
+
+fract-requires : tie.Need-fract-requires
+fract-requires c κs = half-low (c .args .u) (c .pre)
+
+select-requires : tie.Need-select-requires
+select-requires c κs = search needs
+
+returns : tie.Need-returns
+returns c = c .select .ensures ∙ rw (c .before .fract .ensures) refl
+
+pub from-nearer-corner-spec : {M : Type 1} → statement M
+from-nearer-corner-spec = tie.close (tie.spec fract-requires select-requires returns)
