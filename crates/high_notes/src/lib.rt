@@ -16,6 +16,9 @@ ghost use Rattle.waveform.proofs.Values.{far, sixteen};
 ghost use Rattle.high_notes.specs.Remainders.{madeOf, remaindersOf};
 ghost use Rattle.high_notes.specs.Inner.{fourTau, eightTau, thirtyTwoTau, wrapOnceOf, AllBelow, AllFractions, quarter, threeQuarters, fromNearerCorner, withNearerCorner, OneEdge, Apart, isApart};
 ghost use Rattle.waveform.specs.declared.Waveform.the-variants.{Pulse};
+use polyblep::THIRD;
+use polyblep::knee_after;
+use polyblep::knee_before;
 use waveform::Radians;
 use waveform::TAU;
 use waveform::TWO_TAU;
@@ -384,24 +387,18 @@ fn blamp(t: f64, dt: f64) -> f64
     ensures { λ r. ⌜ r ≡ blampOf t dt ⌝ }
 {
     let x = select(t < dt, t, t - 1.0) / dt;
-    let before = select(1.0 - dt < t, polyblep::knee_before(x) * dt, 0.0);
-    select(t < dt, polyblep::knee_after(x) * dt, before)
+    let after = knee_after(x) * dt;
+    let before = select(1.0 - dt < t, knee_before(x) * dt, 0.0);
+    select(t < dt, after, before)
 }
 
 fn rounded_blamp(t: f64, dt: f64) -> f64
     ensures { λ r. ⌜ r ≡ roundedBlampOf t dt ⌝ }
 {
     let x = select(t < dt, t, t - 1.0) / dt;
-    let before = select(
-        1.0 - dt < t,
-        (polyblep::knee_before(x) + polyblep::THIRD) * dt,
-        0.0,
-    );
-    select(
-        t < dt,
-        (polyblep::knee_after(x) + polyblep::THIRD) * dt,
-        before,
-    )
+    let after = (knee_after(x) + THIRD) * dt;
+    let before = select(1.0 - dt < t, (knee_before(x) + THIRD) * dt, 0.0);
+    select(t < dt, after, before)
 }
 
 fn fract(x: f64) -> f64
