@@ -5,7 +5,7 @@ use native.Mathlib.Nat.{mul-pos}
 use native.Mathlib.Omega.{arith}
 use lib.Dec.{lit<}
 use Rattle.floats.proofs.Near.{products}
-use Rattle.polyblep.specs.Exact.{Fraction, fraction, added, negated, taken, timed, Equals, Same, whole, third, exactAfter, exactBefore, aThirdOf, cubeOf, RoundedCorner}
+use Rattle.polyblep.specs.Exact.{Fraction, fraction, added, negated, taken, timed, Equals, whole, third, exactAfter, exactBefore, aThirdOf, cubeOf, RoundedCorner}
 
 -- ---- every value is a fraction: its over is a product of overs
 abbrev IsFraction : Fraction → Type 0

@@ -11,3 +11,5 @@ pub mod Third
 pub mod Unique
 -- the rounded corner, without rounding
 pub mod Exactly
+-- the rounded triangle, by example
+pub mod Examples
