@@ -8,18 +8,22 @@ use native.Mathlib.Nat.{lt-irrefl}
 use native.Mathlib.Omega.{arith}
 use borrow.Author.Tests.{ne-eqb}
 use lib.Dec.{eqb}
-use lib.Ieee.{Float, binary64, ofBits, le, lt, eq}
+use lib.Ieee.{Float, binary64, ofBits, neg, add, sub, mul, div, le, lt, eq}
 use Rattle.answers.specs.declared.Answer.the-variants.{Done, Refused}
 use Rattle.answers.specs.declared.Refusal.the-variants.{Score, NewScore, Setting, Argument}
 use Rattle.answers.specs.declared.ScoreFault.the-variants.{Kind, Order}
-use Rattle.floats.specs.Double.{zero64}
+use Rattle.floats.specs.Double.{zero64, half}
+use Rattle.floats.specs.Floor.{floorOf}
+use Rattle.answers.specs.Value.{valueOr}
+use Rattle.polyblep.specs.Polyblep.{roundedBlampOf, roundedOf}
 use Rattle.ffi.specs.Packed.{packedOf}
 use Rattle.state.specs.declared.Keying.the-variants.{Struck, Joined}
 use Rattle.waveform.specs.declared.Waveform.the-variants.{Sine, Square, Sawtooth, Triangle, Pulse, RoundedTriangle}
 use Rattle.ffi.specs.declared.Shape.the-variants as shape
 use Rattle.ffi.specs.declared.Manner.the-variants as manner
-use Rattle.ffi.specs.declared.Choice.the-variants.{Unknown}
-use Rattle.ffi.specs.Ffi.{asks, shapeOf, mannerOf, choiceOf, singleOf}
+use Rattle.ffi.specs.declared.Choice.the-variants.{Known, Unknown}
+use Rattle.waveform.specs.Waveform.{valueOf, sampleOf}
+use Rattle.ffi.specs.Ffi.{asks, shapeOf, mannerOf, settingsOf, choiceOf, singleOf}
 
 -- done with count 0, done with count 4,096; position of record 1 below that of record 0; the new score's record 3 has a
 -- wrong kind; 6
@@ -33,26 +37,46 @@ nan = ofBits binary64 0x7ff8_0000_0000_0000
 abbrev five : Float
 five = ofBits binary64 0x4014_0000_0000_0000
 
--- code 9 with a NaN phase is 6; a pulse with a NaN duty is 6; a sine with a NaN duty is done; a sine with a dt of 5 is
--- 9
+-- code 9 with a NaN phase is refused with 6, and so is a pulse with a NaN duty; a sine with a NaN duty is done; a sine
+-- with a dt of 5 is refused with 9
 pub judged : (singleOf 9 nan zero64 zero64 .answer ∷ singleOf 4 zero64 zero64 nan .answer ∷ singleOf 0 zero64 zero64 nan .answer ∷ singleOf 0 zero64 five zero64 .answer ∷ [])
     ≡ Refused Setting ∷ Refused Setting ∷ Done 0 ∷ Refused Argument ∷ []
 unfolding shapeOf ofBits le lt eq
 judged = refl
 
--- 0 to 4 and 6 are waveforms, whatever the duty is, and a pulse alone has it; 5 is none
+-- 0 to 4 and 6 name a waveform, whatever the duty is, and a pulse alone has it; 5 names none
 pub codes : (duty : Float) → map (λ (code : ℕ). shapeOf code duty) (0 ∷ 1 ∷ 2 ∷ 3 ∷ 4 ∷ 5 ∷ 6 ∷ [])
     ≡ shape.Known Sine ∷ shape.Known Square ∷ shape.Known Sawtooth ∷ shape.Known Triangle ∷ shape.Known (Pulse duty) ∷ shape.Unknown ∷ shape.Known RoundedTriangle ∷ []
 unfolding shapeOf
 codes duty = refl
 
--- nor is any code above 6
+-- nor does any code above 6
 pub above-six : (code : ℕ) (duty : Float) → 6 < code → shapeOf code duty ≡ shape.Unknown
 unfolding shapeOf
 above-six code duty h = rw (other 0 (omega arith), other 1 (omega arith), other 2 (omega arith), other 3 (omega arith), other 4 (omega arith), other 6 (omega arith)) refl
   where
     other : (n : ℕ) → n < code → eqb code n ≡ false
     other n l = ne-eqb code n (λ e. absurd (lt-irrefl n (subst (λ (z : ℕ). n < z) e l)))
+
+-- so a single sample of code 6 is the rounded triangle's, and of code 5 it is refused with 6, whatever the rest is
+pub six : (phase dt duty : Float) → singleOf 6 phase dt duty ≡ sampleOf RoundedTriangle phase dt
+unfolding shapeOf
+six phase dt duty = refl
+
+pub five : (phase dt duty : Float) → singleOf 5 phase dt duty ≡ valueOr (Setting ∷ []) zero64
+unfolding shapeOf
+five phase dt duty = refl
+
+-- with dt = 3/16 and a NaN duty: done, -0.75 at the lower corner, 0.75 at the upper
+pub rounded-corners : map (λ (phase : Float). singleOf 6 phase (ofBits binary64 0x3fc8_0000_0000_0000) nan) (zero64 ∷ half ∷ [])
+    ≡ valueOr [] (ofBits binary64 0xbfe8_0000_0000_0000) ∷ valueOr [] (ofBits binary64 0x3fe8_0000_0000_0000) ∷ []
+unfolding shapeOf valueOf roundedOf roundedBlampOf floorOf ofBits neg add sub mul div lt le eq
+rounded-corners = refl
+
+-- oscillator and LFO take code 6 alike
+pub both-rounded : (duty lfoDuty : Float) → choiceOf (asks 8000 6 duty zero64 zero64 zero64 zero64 6 lfoDuty zero64 zero64 0) ≡ Known (settingsOf (asks 8000 6 duty zero64 zero64 zero64 zero64 6 lfoDuty zero64 zero64 0) RoundedTriangle RoundedTriangle Struck)
+unfolding shapeOf mannerOf choiceOf
+both-rounded duty lfoDuty = refl
 
 -- 0 is struck and 1 joined; 2, 256, 2^31 and 2^32 - 1 are unknown
 pub keyings : map mannerOf (0 ∷ 1 ∷ 2 ∷ 256 ∷ 2147483648 ∷ 4294967295 ∷ []) ≡ manner.Known Struck ∷ manner.Known Joined ∷ manner.Unknown ∷ manner.Unknown ∷ manner.Unknown ∷ manner.Unknown ∷ []

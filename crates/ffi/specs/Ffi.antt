@@ -2,10 +2,10 @@
 -- 01, "What a call says": "The arranger's desk is a C program: score check and single waveform samples are exported to
 -- it, on numbers and byte slices. Sine to Pulse are codes 0 to 4 there, in the Rust's order. A single sample takes
 -- code, normalised phase, dt and a duty that is read and judged for Pulse only; for Sine u is the phase"; number 6: "at
--- the desk also a waveform code above 4". 02, R-11: "6 accepts the new choice, which is code 6 at the desk; 5, the
--- Rust's Noise, stays refused." 02, R-7: "Settings gain an LFO"; "6 covers the new settings", and so a code of the
--- LFO's waveform that is none. 02, R-9: "A setting chooses joined or struck"; 0 is struck, 1 joined, and any other
--- number is 6.
+-- the desk also a waveform code above 4", which 02, R-11, amends: "6 accepts the new choice, which is code 6 at the
+-- desk; 5, the Rust's Noise, stays refused." 02, R-7: "Settings gain an LFO"; "6 covers the new settings", and so a
+-- code of the LFO's waveform that is none. 02, R-9: "A setting chooses joined or struck"; 0 is struck, 1 joined, and
+-- any other number is refused with 6.
 -- Beyond 01: render, re-render, continuing call, fresh state and listing, on slices of f64 and u64 too.
 -- Each outcome is that of the call of the crate below, with its answer packed into one word, and what is left in every
 -- lent buffer. Definitions only.
@@ -123,7 +123,7 @@ choiceOf a = choiceFor (shapeOf (a .code) (a .duty)) (shapeOf (a .«lfo_code») 
 abbrev pub checkOf : List ℕ → ℕ
 checkOf s = packedOf (answerOf s)
 
--- ---- a single sample; an unknown code is 6 and +0
+-- ---- a single sample; an unknown code is refused with 6, and the value is +0
 abbrev pub singleFor : Shape → Float → Float → Value
 singleFor (shape.Known w) phase dt = sampleOf w phase dt
 singleFor shape.Unknown phase dt = valueOr (Setting ∷ []) zero64
@@ -131,7 +131,7 @@ singleFor shape.Unknown phase dt = valueOr (Setting ∷ []) zero64
 abbrev pub singleOf : ℕ → Float → Float → Float → Value
 singleOf code phase dt duty = singleFor (shapeOf code duty) phase dt
 
--- ---- render: unknown settings are 6, before any other refusal
+-- ---- render: unknown settings are refused with 6, before anything else is judged
 abbrev pub rendered : Outcome Rendered → Outcome ℕ
 rendered o = leaves (packedOf (o .result .answer)) (o .heard) (o .stored)
 

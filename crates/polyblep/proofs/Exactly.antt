@@ -1,69 +1,130 @@
--- The rounded corner without rounding: 1/3 of dt at the corner, 0 one step away, a cube between. Assumes nothing.
-use mathlib.Core.Path.{_≡_, ap}
+-- The rounded corner without rounding: 1/3 of dt at the corner, 0 one sample away, a cube between. Assumes nothing.
+use mathlib.Core.Path.{_≡_, subst, ap}
 use Prim.Native.Nat.{ℕ, _+_, _*_, _<_}
 use native.Mathlib.Nat.{mul-pos}
 use native.Mathlib.Omega.{arith}
 use lib.Dec.{lit<}
 use Rattle.floats.proofs.Near.{products}
-use Rattle.polyblep.specs.Exact.{Fraction, fraction, added, negated, taken, timed, Equals, whole, third, exactAfter, exactBefore, aThirdOf, cubeOf, RoundedCorner}
+use Rattle.polyblep.specs.Exact.{Fraction, fraction, whole, added, negated, taken, timed, Equals, Same, exactThird, exactAfter, exactBefore, partOf, RoundedCorner}
 
--- ---- every value is a fraction: its over is a product of overs
-abbrev IsFraction : Fraction → Type 0
-IsFraction x = 0 < x .over
+-- ---- every value is a number: its over is a product of overs
+abbrev IsNumber : Fraction → Type 0
+IsNumber x = 0 < x .over
 
-module _ (dt x : Fraction) (d : IsFraction dt) (h : IsFraction x) where
+third-over : IsNumber exactThird
+third-over = lit< tt
+
+module _ (dt x : Fraction) (d : IsNumber dt) (h : IsNumber x) where
   square : 0 < x .over * x .over
   square = mul-pos h h
 
-  cube-third : 0 < x .over * x .over * x .over * 3
-  cube-third = mul-pos (mul-pos square h) (lit< tt)
+  cube-third : 0 < x .over * x .over * x .over * exactThird .over
+  cube-third = mul-pos (mul-pos square h) third-over
 
-  after-over : IsFraction (exactAfter dt x)
-  after-over = mul-pos (mul-pos (mul-pos (mul-pos square cube-third) h) (lit< tt)) d
+  after-over : IsNumber (exactAfter dt x)
+  after-over = mul-pos (mul-pos (mul-pos (mul-pos square cube-third) h) third-over) d
 
-  before-over : IsFraction (exactBefore dt x)
-  before-over = mul-pos (mul-pos (mul-pos (mul-pos cube-third square) h) (lit< tt)) d
+  before-over : IsNumber (exactBefore dt x)
+  before-over = mul-pos (mul-pos (mul-pos (mul-pos cube-third square) h) third-over) d
 
-third-over : (dt : Fraction) → IsFraction dt → IsFraction (aThirdOf dt)
-third-over dt d = mul-pos d (lit< tt)
+part-over : (n m : ℕ) (dt : Fraction) → 0 < m → IsNumber dt → IsNumber (partOf n m dt)
+part-over n m dt h d = mul-pos (mul-pos d h) (lit< tt)
 
-cube-over : (dt : Fraction) (p q : ℕ) → IsFraction dt → 0 < q → IsFraction (cubeOf dt (fraction p 0 q))
-cube-over dt p q d h = let one-less : 0 < 1 * q = mul-pos (lit< tt) h in mul-pos (mul-pos (mul-pos one-less one-less) one-less) (third-over dt d)
-
--- ---- the brackets before the factor dt are a third of the cube
+-- ---- a branch value before the factor dt, a distance of p/q away, is a third of the cube
 abbrev bracketAfter : Fraction → Fraction
-bracketAfter x = added (taken (taken (timed x x) (timed (timed (timed x x) x) third)) x) third
+bracketAfter x = added (taken (taken (timed x x) (timed (timed (timed x x) x) exactThird)) x) exactThird
 
 abbrev bracketBefore : Fraction → Fraction
-bracketBefore x = added (added (added (timed (timed (timed x x) x) third) (timed x x)) x) third
+bracketBefore x = added (added (added (timed (timed (timed x x) x) exactThird) (timed x x)) x) exactThird
 
--- (1 - x)^3
-abbrev cube : Fraction → Fraction
-cube x = let y = taken (whole 1) x in timed (timed y y) y
+-- (1 - p/q)^3, multiplied out, for every p and q
+abbrev outOf : ℕ → ℕ → Fraction
+outOf p q = fraction (q * q * q + 3 * (q * (p * p))) (3 * (q * q * p) + p * p * p) (q * q * q * 3)
 
-bracket-after : (p q : ℕ) → let x = fraction p 0 q in Equals (bracketAfter x) (aThirdOf (cube x))
-bracket-after p q = omega arith
+out-after : (p q : ℕ) → Equals (bracketAfter (fraction p 0 q)) (outOf p q)
+out-after p q = omega arith
 
-bracket-before : (p q : ℕ) → let x = fraction p 0 q in Equals (bracketBefore (negated x)) (aThirdOf (cube x))
-bracket-before p q = omega arith
+out-before : (p q : ℕ) → Equals (bracketBefore (negated (fraction p 0 q))) (outOf p q)
+out-before p q = omega arith
 
--- x is a third of y: x times dt is y times a third of dt
-carry : (x y dt : Fraction) → Equals x (aThirdOf y) → Equals (timed x dt) (timed y (aThirdOf dt))
-carry x y dt e = go (x .plus) (x .less) (x .over) (y .plus) (y .less) (y .over) (dt .plus) (dt .less) (dt .over) e
+-- and where p + r is q, (r/q)^3
+out-is : (x : Fraction) (p r q : ℕ) → p + r ≡ q → Equals x (outOf p q) → Equals x (fraction (r * r * r) 0 (q * q * q * 3))
+out-is x p r q e h = go (x .up) (x .down) (x .over) (q * q * q * 3) (q * q * q + 3 * (q * (p * p))) (3 * (q * q * p) + p * p * p) (r * r * r) (subst Cubes e (cubes p r)) h
   where
-    go : (u v w q r s a b d : ℕ) → u * (s * 3) + (q * 0 + r * 1) * w ≡ (q * 1 + r * 0) * w + v * (s * 3)
-        → (u * a + v * b) * (s * (d * 3)) + (q * (a * 0 + b * 1) + r * (a * 1 + b * 0)) * (w * d) ≡ (q * (a * 1 + b * 0) + r * (a * 0 + b * 1)) * (w * d) + (u * b + v * a) * (s * (d * 3))
-    go u v w q r s a b d e =
-        let f : u * (s * 3) + r * w ≡ q * w + v * (s * 3) = omega (arith, e) in
-        simp products (omega (arith, simp products at (ap (λ (z : ℕ). z * a * d) f), simp products at (ap (λ (z : ℕ). z * b * d) f)))
+    Cubes : ℕ → Type 0
+    Cubes n = n * n * n + 3 * (n * (p * p)) ≡ r * r * r + (3 * (n * n * p) + p * p * p)
 
-pub rounded-corner : (dt : Fraction) → 0 < dt .over → RoundedCorner dt
-rounded-corner dt d =
+    cubes : (p r : ℕ) → (let n = p + r in n * n * n + 3 * (n * (p * p)) ≡ r * r * r + (3 * (n * n * p) + p * p * p))
+    cubes p r = omega arith
+
+    go : (u v w m a b c : ℕ) → a ≡ c + b → u * m + b * w ≡ a * w + v * m → u * m + 0 * w ≡ c * w + v * m
+    go u v w m a b c k h = omega (arith, ap (λ (z : ℕ). z * w) k)
+
+-- x is n/m of a third: x times dt is n/m of a third of dt
+carry : (x dt : Fraction) (n m : ℕ) → Equals x (fraction n 0 (m * 3)) → Equals (timed x dt) (partOf n m dt)
+carry x dt n m e = go (x .up) (x .down) (x .over) (dt .up) (dt .down) (dt .over) e
+  where
+    go : (u v w a b d : ℕ) → u * (m * 3) + 0 * w ≡ n * w + v * (m * 3) → (u * a + v * b) * (d * m * 3) + b * n * (w * d) ≡ a * n * (w * d) + (u * b + v * a) * (d * m * 3)
+    go u v w a b d e = simp products (omega (arith, simp products at (ap (λ (z : ℕ). z * a * d) e), simp products at (ap (λ (z : ℕ). z * b * d) e)))
+
+-- ---- the naive climb with 4 corrections, each n/m of a third of dt, where m is q^3
+climb : (y dt : Fraction) (p q n : ℕ) → Equals y (partOf n (q * q * q) dt) → Equals (added (timed (whole 4) (timed (fraction p 0 q) dt)) (timed (whole 4) y)) (partOf (4 * n + 12 * (p * q * q)) (q * q * q) dt)
+climb y dt p q n e = go (y .up) (y .down) (y .over) (dt .up) (dt .down) (dt .over) e
+  where
+    go : (u v w a b d : ℕ) → u * (d * (q * q * q) * 3) + b * n * w ≡ a * n * w + v * (d * (q * q * q) * 3)
+        → ((4 * (p * a + 0 * b) + 0 * (p * b + 0 * a)) * (1 * w) + (4 * u + 0 * v) * (1 * (q * d))) * (d * (q * q * q) * 3) + b * (4 * n + 12 * (p * q * q)) * (1 * (q * d) * (1 * w))
+        ≡ a * (4 * n + 12 * (p * q * q)) * (1 * (q * d) * (1 * w)) + ((4 * (p * b + 0 * a) + 0 * (p * a + 0 * b)) * (1 * w) + (4 * v + 0 * u) * (1 * (q * d))) * (d * (q * q * q) * 3)
+    go u v w a b d e = simp products (omega (arith, simp products at (ap (λ (z : ℕ). z * (q * d)) e)))
+
+-- where p + r is q, 4*r^3 + 12*p*q^2 has no term in p alone
+level : (p r q : ℕ) → p + r ≡ q → 4 * (r * r * r) + 12 * (p * q * q) ≡ 4 * (q * q * q + p * p * (q + q + r))
+level p r q e = subst (λ (n : ℕ). 4 * (r * r * r) + 12 * (p * n * n) ≡ 4 * (n * n * n + p * p * (n + n + r))) e (cubes p r)
+  where
+    cubes : (p r : ℕ) → (let n = p + r in 4 * (r * r * r) + 12 * (p * n * n) ≡ 4 * (n * n * n + p * p * (n + n + r)))
+    cubes p r = omega arith
+
+levels : (y dt : Fraction) (p r q : ℕ) → p + r ≡ q → 0 < q → IsNumber dt → Same y (partOf (r * r * r) (q * q * q) dt)
+    → Same (added (timed (whole 4) (timed (fraction p 0 q) dt)) (timed (whole 4) y)) (partOf (4 * (q * q * q + p * p * (q + q + r))) (q * q * q) dt)
+levels y dt p r q e h d s =
     record {
-      corner-after = record { left = after-over dt (whole 0) d (lit< tt); right = third-over dt d; equal = omega arith };
-      corner-before = record { left = before-over dt (whole 0) d (lit< tt); right = third-over dt d; equal = omega arith };
-      far-after = record { left = after-over dt (whole 1) d (lit< tt); right = lit< tt; equal = omega arith };
-      far-before = record { left = before-over dt (negated (whole 1)) d (lit< tt); right = lit< tt; equal = omega arith };
-      cube-after = λ p q h. let x = fraction p 0 q in record { left = after-over dt x d h; right = cube-over dt p q d h; equal = carry (bracketAfter x) (cube x) dt (bracket-after p q) };
-      cube-before = λ p q h. let x = fraction p 0 q in record { left = before-over dt (negated x) d h; right = cube-over dt p q d h; equal = carry (bracketBefore (negated x)) (cube x) dt (bracket-before p q) };
+      left = mul-pos (mul-pos (lit< tt) (mul-pos h d)) (mul-pos (lit< tt) (s .left));
+      right = part-over (4 * (q * q * q + p * p * (q + q + r))) (q * q * q) dt (mul-pos (mul-pos h h) h) d;
+      equal = subst (λ (n : ℕ). Equals (added (timed (whole 4) (timed (fraction p 0 q) dt)) (timed (whole 4) y)) (partOf n (q * q * q) dt)) (level p r q e) (climb y dt p q (r * r * r) (s .equal));
     }
+
+-- ---- the claim
+module _ (dt : Fraction) (d : 0 < dt .over) where
+  cubed-after : (p r q : ℕ) → p + r ≡ q → 0 < q → Same (exactAfter dt (fraction p 0 q)) (partOf (r * r * r) (q * q * q) dt)
+  cubed-after p r q e h =
+      let x = fraction p 0 q in
+      record {
+        left = after-over dt x d h;
+        right = part-over (r * r * r) (q * q * q) dt (mul-pos (mul-pos h h) h) d;
+        equal = carry (bracketAfter x) dt (r * r * r) (q * q * q) (out-is (bracketAfter x) p r q e (out-after p q));
+      }
+
+  cubed-before : (p r q : ℕ) → p + r ≡ q → 0 < q → Same (exactBefore dt (negated (fraction p 0 q))) (partOf (r * r * r) (q * q * q) dt)
+  cubed-before p r q e h =
+      let x = negated (fraction p 0 q) in
+      record {
+        left = before-over dt x d h;
+        right = part-over (r * r * r) (q * q * q) dt (mul-pos (mul-pos h h) h) d;
+        equal = carry (bracketBefore x) dt (r * r * r) (q * q * q) (out-is (bracketBefore x) p r q e (out-before p q));
+      }
+
+  pub rounded-corner : RoundedCorner dt
+  rounded-corner =
+      record {
+        corner-after = record { left = after-over dt (whole 0) d (lit< tt); right = part-over 1 1 dt (lit< tt) d; equal = omega arith };
+        corner-before = record { left = before-over dt (whole 0) d (lit< tt); right = part-over 1 1 dt (lit< tt) d; equal = omega arith };
+        far-after = record { left = after-over dt (whole 1) d (lit< tt); right = lit< tt; equal = omega arith };
+        far-before = record { left = before-over dt (negated (whole 1)) d (lit< tt); right = lit< tt; equal = omega arith };
+        cube-after = cubed-after;
+        cube-before = cubed-before;
+        level-after = λ p r q e h. levels (exactAfter dt (fraction p 0 q)) dt p r q e h d (cubed-after p r q e h);
+        level-before = λ p r q e h. levels (exactBefore dt (negated (fraction p 0 q))) dt p r q e h d (cubed-before p r q e h);
+      }
+
+-- `Same` tells numbers apart: whole numbers that are the same are equal
+pub same-wholes : (m n : ℕ) → Same (whole m) (whole n) → m ≡ n
+same-wholes m n e = omega (arith, e .equal)

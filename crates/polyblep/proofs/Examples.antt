@@ -1,27 +1,36 @@
--- The rounded triangle by worked examples, computed on the definitions. Assumes nothing.
+-- The rounded triangle beside `poly_blamp`, and by worked examples, computed on the definitions. Assumes nothing.
 use mathlib.Core.Path.{_≡_, refl}
 use mathlib.Core.List.{[], _∷_, map}
 use lib.Ieee.{Float, binary64, ofBits, neg, add, sub, mul, div, lt, le}
-use Rattle.floats.specs.Double.{zero64, half, one, four}
+use Rattle.floats.specs.Double.{_⊕_, _⊗_, zero64, half, one, four}
 use Rattle.floats.specs.Floor.{floorOf}
-use Rattle.polyblep.specs.Polyblep.{roundedBlampOf, roundedOf}
+use Rattle.polyblep.specs.Polyblep.{third, kneeAfter, kneeBefore, roundedAfter, roundedBefore, roundedBlampOf, roundedOf}
 
-abbrev eighth : Float
-eighth = ofBits binary64 0x3fc0_0000_0000_0000
+-- 02, R-11: "both branches plus one third before the multiplication by dt"
+pub after-plus-third : (dt x : Float) → roundedAfter dt x ≡ (kneeAfter x ⊕ third) ⊗ dt
+after-plus-third dt x = refl
 
-abbrev quarter : Float
-quarter = ofBits binary64 0x3fd0_0000_0000_0000
+pub before-plus-third : (dt x : Float) → roundedBefore dt x ≡ (kneeBefore x ⊕ third) ⊗ dt
+before-plus-third dt x = refl
 
--- the correction with dt = 0.25, at the corner, half a sample after it and half a sample before it:
--- 0.08333333333333333, 0.010416666666666671 and the same again
-pub corrections : map (λ (t : Float). roundedBlampOf t quarter) (zero64 ∷ eighth ∷ ofBits binary64 0x3fec_0000_0000_0000 ∷ [])
-    ≡ ofBits binary64 0x3fb5_5555_5555_5555 ∷ ofBits binary64 0x3f85_5555_5555_5558 ∷ ofBits binary64 0x3f85_5555_5555_5558 ∷ []
+-- ---- dt is 3/16: half a sample is 3/32
+abbrev dt : Float
+dt = ofBits binary64 0x3fc8_0000_0000_0000
+
+abbrev after : Float
+after = ofBits binary64 0x3fb8_0000_0000_0000
+
+abbrev before : Float
+before = ofBits binary64 0x3fed_0000_0000_0000
+
+-- the correction at the corner is 1/16; half a sample away on either side it is two floats above 1/128
+pub corrections : map (λ (t : Float). roundedBlampOf t dt) (zero64 ∷ after ∷ before ∷ []) ≡ ofBits binary64 0x3fb0_0000_0000_0000 ∷ ofBits binary64 0x3f80_0000_0000_0002 ∷ ofBits binary64 0x3f80_0000_0000_0002 ∷ []
 unfolding roundedBlampOf ofBits neg add sub mul div lt le
 corrections = refl
 
--- the waveform with dt = 0.25, at the lower corner, half a sample after it, and at the upper corner: -0.6666666666666667,
--- -0.4583333333333333 and 0.6666666666666667
-pub values : map (λ (u : Float). roundedOf u quarter) (zero64 ∷ eighth ∷ half ∷ []) ≡ ofBits binary64 0xbfe5_5555_5555_5556 ∷ ofBits binary64 0xbfdd_5555_5555_5555 ∷ ofBits binary64 0x3fe5_5555_5555_5556 ∷ []
+-- -0.75 at the lower corner and 0.75 at the upper; half a sample away from them -0.59375 and 0.59375
+pub values : map (λ (u : Float). roundedOf u dt) (zero64 ∷ after ∷ before ∷ half ∷ ofBits binary64 0x3fda_0000_0000_0000 ∷ ofBits binary64 0x3fe3_0000_0000_0000 ∷ [])
+    ≡ ofBits binary64 0xbfe8_0000_0000_0000 ∷ ofBits binary64 0xbfe3_0000_0000_0000 ∷ ofBits binary64 0xbfe3_0000_0000_0000 ∷ ofBits binary64 0x3fe8_0000_0000_0000 ∷ ofBits binary64 0x3fe3_0000_0000_0000 ∷ ofBits binary64 0x3fe3_0000_0000_0000 ∷ []
 unfolding roundedOf roundedBlampOf floorOf ofBits neg add sub mul div lt le
 values = refl
 

@@ -11,5 +11,5 @@ pub mod Third
 pub mod Unique
 -- the rounded corner, without rounding
 pub mod Exactly
--- the rounded triangle, by example
+-- the rounded triangle beside `poly_blamp`, and by example
 pub mod Examples

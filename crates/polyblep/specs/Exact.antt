@@ -3,8 +3,8 @@
 -- taken as fractions without rounding and with an exact third, are 1/3 of dt at the corner and 0 at both ends."
 --
 -- The two branch values are written once, over any arithmetic. Polyblep.antt takes them in floats, each operation
--- rounded once; here they are taken in fractions. x is the distance from the corner in steps, above 0 after the corner
--- and below 0 before it. Definitions only.
+-- rounded once; here they are taken in fractions. In a branch x is the distance from the corner in samples, which 02
+-- calls steps, with a minus before the corner. Definitions only.
 use mathlib.Core.Path.{_≡_}
 use Prim.Native.Nat.{ℕ, _+_, _*_, _<_}
 
@@ -24,30 +24,37 @@ module _ {A : Type 0} (plus minus times : A → A → A) (third : A) where
       let x3 = times x2 x in
       times (plus (plus (plus (times x3 third) x2) x) third) dt
 
--- ---- fractions: (plus - less) / over, where over is above 0
+-- ---- fractions: (up - down) / over, which is a number only where over is above 0
 pub record Fraction : Type 0 where
-  pub plus : ℕ
-  pub less : ℕ
+  pub up : ℕ
+  pub down : ℕ
   pub over : ℕ
 
 abbrev pub fraction : ℕ → ℕ → ℕ → Fraction
-fraction plus less over = record { plus = plus; less = less; over = over }
+fraction up down over = record { up = up; down = down; over = over }
 
+abbrev pub whole : ℕ → Fraction
+whole n = fraction n 0 1
+
+-- x + y
 abbrev pub added : Fraction → Fraction → Fraction
-added x y = fraction (x .plus * y .over + y .plus * x .over) (x .less * y .over + y .less * x .over) (x .over * y .over)
+added x y = fraction (x .up * y .over + y .up * x .over) (x .down * y .over + y .down * x .over) (x .over * y .over)
 
+-- -x
 abbrev pub negated : Fraction → Fraction
-negated x = fraction (x .less) (x .plus) (x .over)
+negated x = fraction (x .down) (x .up) (x .over)
 
+-- x - y
 abbrev pub taken : Fraction → Fraction → Fraction
 taken x y = added x (negated y)
 
+-- x * y
 abbrev pub timed : Fraction → Fraction → Fraction
-timed x y = fraction (x .plus * y .plus + x .less * y .less) (x .plus * y .less + x .less * y .plus) (x .over * y .over)
+timed x y = fraction (x .up * y .up + x .down * y .down) (x .up * y .down + x .down * y .up) (x .over * y .over)
 
--- equal cross products, which say nothing where an over is 0
+-- equal cross products, which tell equal numbers only where neither over is 0
 abbrev pub Equals : Fraction → Fraction → Type 0
-Equals x y = x .plus * y .over + y .less * x .over ≡ y .plus * x .over + x .less * y .over
+Equals x y = x .up * y .over + y .down * x .over ≡ y .up * x .over + x .down * y .over
 
 -- two fractions that are one number
 pub record Same (x y : Fraction) : Type 0 where
@@ -55,37 +62,33 @@ pub record Same (x y : Fraction) : Type 0 where
   pub right : 0 < y .over
   pub equal : Equals x y
 
-abbrev pub whole : ℕ → Fraction
-whole n = fraction n 0 1
-
-abbrev pub third : Fraction
-third = fraction 1 0 3
-
 -- ---- the branch values of the rounded corner, exactly
+abbrev pub exactThird : Fraction
+exactThird = fraction 1 0 3
+
 abbrev pub exactAfter : Fraction → Fraction → Fraction
-exactAfter dt x = afterIn added taken timed third dt x
+exactAfter dt x = afterIn added taken timed exactThird dt x
 
 abbrev pub exactBefore : Fraction → Fraction → Fraction
-exactBefore dt x = beforeIn added taken timed third dt x
+exactBefore dt x = beforeIn added taken timed exactThird dt x
 
--- ---- the claim. It has the numbers 1 and 3, and not `third`: with another number for the third in the branches, the
--- ends would still be 0, and the corner still that number times dt
-abbrev pub aThirdOf : Fraction → Fraction
-aThirdOf x = timed x (fraction 1 0 3)
-
--- (1 - x)^3 * dt/3
-abbrev pub cubeOf : Fraction → Fraction → Fraction
-cubeOf dt x =
-    let y = taken (whole 1) x in
-    timed (timed (timed y y) y) (aThirdOf dt)
+-- ---- the claim, in plain numbers: not with `exactThird`, since with another number in its place both ends would still
+-- be 0, and the corner still that number times dt; nor with `timed`, which might be 0 everywhere
+-- n/m of a third of dt
+abbrev pub partOf : ℕ → ℕ → Fraction → Fraction
+partOf n m dt = fraction (dt .up * n) (dt .down * n) (dt .over * m * 3)
 
 pub record RoundedCorner (dt : Fraction) : Type 0 where
   -- 1/3 of dt at the corner, on either side
-  pub corner-after : Same (exactAfter dt (whole 0)) (aThirdOf dt)
-  pub corner-before : Same (exactBefore dt (whole 0)) (aThirdOf dt)
-  -- 0 at both ends, one step away
+  pub corner-after : Same (exactAfter dt (whole 0)) (partOf 1 1 dt)
+  pub corner-before : Same (exactBefore dt (whole 0)) (partOf 1 1 dt)
+  -- 0 at both ends, one sample away
   pub far-after : Same (exactAfter dt (whole 1)) (whole 0)
   pub far-before : Same (exactBefore dt (negated (whole 1))) (whole 0)
-  -- at a distance of p/q steps, on either side
-  pub cube-after : (p q : ℕ) → 0 < q → let x = fraction p 0 q in Same (exactAfter dt x) (cubeOf dt x)
-  pub cube-before : (p q : ℕ) → 0 < q → let x = fraction p 0 q in Same (exactBefore dt (negated x)) (cubeOf dt x)
+  -- at a distance of p/q, where p + r = q, so that it is r/q less than one sample: (r/q)^3 * dt/3 on either side
+  pub cube-after : (p r q : ℕ) → p + r ≡ q → 0 < q → Same (exactAfter dt (fraction p 0 q)) (partOf (r * r * r) (q * q * q) dt)
+  pub cube-before : (p r q : ℕ) → p + r ≡ q → 0 < q → Same (exactBefore dt (negated (fraction p 0 q))) (partOf (r * r * r) (q * q * q) dt)
+  -- why the factor is 4: on either side of its lower corner the naive triangle climbs by 4*d*dt at a distance d. With 4
+  -- corrections it has climbed by (1 + 3*d^2 - d^3) * 4*dt/3, which has no term in d alone: it is level at the corner
+  pub level-after : (p r q : ℕ) → p + r ≡ q → 0 < q → let d = fraction p 0 q in Same (added (timed (whole 4) (timed d dt)) (timed (whole 4) (exactAfter dt d))) (partOf (4 * (q * q * q + p * p * (q + q + r))) (q * q * q) dt)
+  pub level-before : (p r q : ℕ) → p + r ≡ q → 0 < q → let d = fraction p 0 q in Same (added (timed (whole 4) (timed d dt)) (timed (whole 4) (exactBefore dt (negated d)))) (partOf (4 * (q * q * q + p * p * (q + q + r))) (q * q * q) dt)
