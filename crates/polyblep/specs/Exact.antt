@@ -88,7 +88,7 @@ pub record RoundedCorner (dt : Fraction) : Type 0 where
   -- at a distance of p/q, where p + r = q, so that it is r/q less than one sample: (r/q)^3 * dt/3 on either side
   pub cube-after : (p r q : ℕ) → p + r ≡ q → 0 < q → Same (exactAfter dt (fraction p 0 q)) (partOf (r * r * r) (q * q * q) dt)
   pub cube-before : (p r q : ℕ) → p + r ≡ q → 0 < q → Same (exactBefore dt (negated (fraction p 0 q))) (partOf (r * r * r) (q * q * q) dt)
-  -- why the factor is 4: on either side of its lower corner the naive triangle climbs by 4*d*dt at a distance d. With 4
-  -- corrections it has climbed by (1 + 3*d^2 - d^3) * 4*dt/3, which has no term in d alone: it is level at the corner
+  -- why the factor is 4: at a distance d on either side of its lower corner the naive triangle is 4*d*dt above -1. With
+  -- 4 corrections it is (1 + 3*d^2 - d^3) * 4*dt/3 above -1, which has no term in d alone: it is level at the corner
   pub level-after : (p r q : ℕ) → p + r ≡ q → 0 < q → let d = fraction p 0 q in Same (added (timed (whole 4) (timed d dt)) (timed (whole 4) (exactAfter dt d))) (partOf (4 * (q * q * q + p * p * (q + q + r))) (q * q * q) dt)
   pub level-before : (p r q : ℕ) → p + r ≡ q → 0 < q → let d = fraction p 0 q in Same (added (timed (whole 4) (timed d dt)) (timed (whole 4) (exactBefore dt (negated d)))) (partOf (4 * (q * q * q + p * p * (q + q + r))) (q * q * q) dt)
