@@ -59,13 +59,13 @@ above-six code duty h = rw (other 0 (omega arith), other 1 (omega arith), other 
     other n l = ne-eqb code n (λ e. absurd (lt-irrefl n (subst (λ (z : ℕ). n < z) e l)))
 
 -- so a single sample of code 6 is the rounded triangle's, and of code 5 it is refused with 6, whatever the rest is
-pub six : (phase dt duty : Float) → singleOf 6 phase dt duty ≡ sampleOf RoundedTriangle phase dt
+pub code-six : (phase dt duty : Float) → singleOf 6 phase dt duty ≡ sampleOf RoundedTriangle phase dt
 unfolding shapeOf
-six phase dt duty = refl
+code-six phase dt duty = refl
 
-pub five : (phase dt duty : Float) → singleOf 5 phase dt duty ≡ valueOr (Setting ∷ []) zero64
+pub code-five : (phase dt duty : Float) → singleOf 5 phase dt duty ≡ valueOr (Setting ∷ []) zero64
 unfolding shapeOf
-five phase dt duty = refl
+code-five phase dt duty = refl
 
 -- with dt = 3/16 and a NaN duty: done, -0.75 at the lower corner, 0.75 at the upper
 pub rounded-corners : map (λ (phase : Float). singleOf 6 phase (ofBits binary64 0x3fc8_0000_0000_0000) nan) (zero64 ∷ half ∷ [])
