@@ -66,15 +66,19 @@ extern "C" {
 /* The version of what this header declares; gav_version gives the library's. It grows with every change of a call's
  * arguments or of the number of words of a state, so a host and a library of one version fit each other. The shared
  * library's name carries the version: libgavberin.so.3. Since version 2 there is a tremolo; since version 3 notes may
- * be joined. */
+ * be joined. It did not grow with GAV_ROUNDED_TRIANGLE, since no argument changed: an older library of version 3
+ * refuses that code with 6. A host can ask: gav_sample_says(GAV_ROUNDED_TRIANGLE, 0, 0, 0) is 0 where the library has
+ * it. */
 #define GAV_VERSION 3
 
-/* The codes of the waveforms. */
+/* The codes of the waveforms. The rounded triangle is a triangle whose corners are really rounded, so that it buzzes
+ * less. 5 is no waveform: 5, and 7 and up, are refused with 6 wherever a code is given. */
 #define GAV_SINE 0
 #define GAV_SQUARE 1
 #define GAV_SAWTOOTH 2
 #define GAV_TRIANGLE 3
 #define GAV_PULSE 4
+#define GAV_ROUNDED_TRIANGLE 6
 
 /* The codes of joined: what a key does that is pressed while a note sounds. */
 #define GAV_STRUCK 0
@@ -129,7 +133,7 @@ uint64_t gav_check_score(const uint8_t *score, size_t score_len);
 
 /* One sample of a waveform, a finite number; +0 where it is refused. gav_sample_says gives the answer to the same
  * arguments, with count 0.
- * code:  GAV_SINE to GAV_PULSE, 0 to 4; above is 6
+ * code:  GAV_SINE to GAV_PULSE, 0 to 4, or GAV_ROUNDED_TRIANGLE, 6; any other is refused with 6
  * phase: in cycles, 0 to 1; else 9
  * dt:    cycles a sample, 0 to 4, for a sine too; else 9
  * duty:  the fraction of a cycle that a pulse is high, 0 to 1; else 6. Read for GAV_PULSE alone */
@@ -139,15 +143,16 @@ uint64_t gav_sample_says(uint32_t code, double phase, double dt, double duty);
 /* The settings, which the three calls below take first, one by one and in this order. A host that keeps the settings in
  * a struct calls gav_render_with, gav_rerender_with and gav_continue_with, each of which follows its call.
  * rate:    samples a second, 8,000 to 192,000; else 6
- * code:    GAV_SINE to GAV_PULSE, 0 to 4; above is 6
+ * code:    GAV_SINE to GAV_PULSE, 0 to 4, or GAV_ROUNDED_TRIANGLE, 6; any other is refused with 6
  * duty:    the fraction of a cycle that a pulse is high, 0 to 1; else 6. Read for GAV_PULSE alone
  * attack, decay, release: seconds; any number, taken as at least 0.001 and at most 10. A NaN is 6
  * sustain: a level; any number, taken as at least 0 and at most 1. A NaN is 6
  * The tremolo: a slow oscillator, the LFO, moves the loudness. Last of all a sample is multiplied by
  * 1 - lfo_depth / 2 + lfo / 2, where lfo is the LFO's value, -1 to 1, times lfo_depth. The value of a triangle passes 1
- * near its corners, by up to 0.7 percent, and nothing clamps it. The LFO begins at phase 0, runs in silence too, and
- * begins again at a reset. At depth 0 the samples are those without a tremolo.
- * lfo_code:      GAV_SINE to GAV_PULSE, 0 to 4; above is 6
+ * near its corners, by up to 0.7 percent, and nothing clamps it; that of a rounded triangle does not pass 1. The LFO
+ * begins at phase 0, runs in silence too, and begins again at a reset. At depth 0 the samples are those without a
+ * tremolo.
+ * lfo_code:      GAV_SINE to GAV_PULSE, 0 to 4, or GAV_ROUNDED_TRIANGLE, 6; any other is refused with 6
  * lfo_duty:      the fraction of a cycle that a pulse is high, 0 to 1; else 6. Read where lfo_code is GAV_PULSE alone
  * lfo_frequency: Hz, 0 to 100; else 6
  * lfo_depth:     0 to 1; else 6

@@ -1,11 +1,12 @@
 #!/usr/bin/env python3
-"""The rows once more, from document 01's steps, in exact fractions: oracle/again.py PART FILE [PART FILE ..].
+"""The rows once more, from the steps of documents 01 and 02, in exact fractions: oracle/again.py PART FILE [..].
 
 Every operation is done without rounding and then rounded once by `rounded` below, so the result depends neither on the
 processor's floats nor on the original's text. Says how many rows agree, exits 1 if one does not. The parts are the
 leaves: phase, polyblep, envelope, waveform and voice, whose pitches are those of the definition's list, and sine, which
-is measured, and whose rows must also be sines by Python's library. Blocks and renders are compared with the reference
-voice (tests/reference).
+is measured, and whose rows must also be sines by Python's library. Of `blocks` the rows of a rounded triangle alone are
+taken; all its rows and the renders are compared with the reference voice (tests/reference). `corner`, of a file of
+polyblep, measures how far the rounded triangle's correction, in floats, is from 02's exact one.
 """
 
 import functools
@@ -41,7 +42,10 @@ def rounded(exact, bits, lowest, negative_zero=False):
 
 
 class Floats:
-    """One format's operations on numbers held in Python floats, each rounded once."""
+    """One format's operations on numbers held in Python floats, each rounded once.
+
+    Of infinities and NaN nothing is rounded: those Python adds and multiplies itself.
+    """
 
     def __init__(self, bits, lowest):
         self.bits, self.lowest = bits, lowest
@@ -50,20 +54,28 @@ class Floats:
         return rounded(exact, self.bits, self.lowest, negative_zero)
 
     def add(self, a, b):
+        if not (finite(a) and finite(b)):
+            return a + b
         return self.near(Fraction(a) + Fraction(b), a == 0 == b and minus(a) and minus(b))
 
     def sub(self, a, b):
         return self.add(a, -b)
 
     def mul(self, a, b):
+        if not (finite(a) and finite(b)):
+            return a * b
         return self.near(Fraction(a) * Fraction(b), minus(a) != minus(b))
 
     def div(self, a, b):
+        if b == 0:
+            return a * math.copysign(math.inf, b)
+        if not (finite(a) and finite(b)):
+            return a / b
         return self.near(Fraction(a) / Fraction(b), minus(a) != minus(b))
 
     def fraction(self, x):
-        """x - floor(x), where floor(-0) is -0."""
-        floor = x if x == 0 else float(math.floor(Fraction(x)))
+        """x - floor(x), where floor(-0) is -0, and an infinity its own."""
+        floor = float(math.floor(Fraction(x))) if finite(x) and x != 0 else x
         return self.sub(x, floor)
 
 
@@ -155,6 +167,21 @@ def blamp(t, dt):
     return 0.0
 
 
+def rounded_blamp(t, dt):
+    """02, R-11: both branches of blamp "plus one third before the multiplication by dt"."""
+    if t < dt:
+        x = div(t, dt)
+        x2 = mul(x, x)
+        x3 = mul(x2, x)
+        return mul(add(sub(sub(x2, mul(x3, THIRD)), x), THIRD), dt)
+    if t > sub(1.0, dt):
+        x = div(sub(t, 1.0), dt)
+        x2 = mul(x, x)
+        x3 = mul(x2, x)
+        return mul(add(add(add(mul(x3, THIRD), x2), x), THIRD), dt)
+    return 0.0
+
+
 def saw(phase, dt):
     return sub(sub(mul(2.0, phase), 1.0), blep(phase, dt))
 
@@ -170,14 +197,26 @@ def pulse(phase, dt, duty):
     return sub(add(naive, blep(phase, dt)), blep(falling, dt))
 
 
-def triangle(phase, dt):
+def cornered(phase, dt, factor, correction):
     naive = sub(mul(4.0, phase), 1.0) if phase < 0.5 else sub(3.0, mul(4.0, phase))
-    first = add(naive, mul(8.0, blamp(phase, dt)))
-    return sub(first, mul(8.0, blamp(DOUBLE.fraction(add(phase, 0.5)), dt)))
+    first = add(naive, mul(factor, correction(phase, dt)))
+    return sub(first, mul(factor, correction(DOUBLE.fraction(add(phase, 0.5)), dt)))
+
+
+def triangle(phase, dt):
+    return cornered(phase, dt, 8.0, blamp)
+
+
+def rounded_triangle(phase, dt):
+    """02, R-11: "factor 4"."""
+    return cornered(phase, dt, 4.0, rounded_blamp)
 
 
 def polyblep_answer(op, phase_bits, dt_bits, duty_bits):
     phase, dt, duty = (float_of(w, True) for w in (phase_bits, dt_bits, duty_bits))
+    if op > 5:
+        value = (rounded_blamp if op == 6 else rounded_triangle)(phase, dt)
+        return (0, bits_of(value if value == value else math.nan, True))
     if not (0 <= phase <= 1 and 0 <= dt <= 4 and (op != 4 or 0 <= duty <= 1)):
         return (9, 0)
     calls = [blep, blamp, saw, square, lambda p, d: pulse(p, d, duty), triangle]
@@ -266,8 +305,8 @@ def reduced(x):
 
 
 def waveform_value(shape, phase, dt, duty):
-    """Of Square to Pulse, 1 to 4: a sine is measured at u itself, and here only refused."""
-    calls = {1: square, 2: saw, 3: triangle, 4: lambda p, d: pulse(p, d, duty)}
+    """Of Square to Pulse, 1 to 4, and of 6: a sine is measured at u itself, and here only refused."""
+    calls = {1: square, 2: saw, 3: triangle, 4: lambda p, d: pulse(p, d, duty), 6: rounded_triangle}
     return calls[shape](phase, dt)
 
 
@@ -296,6 +335,37 @@ def waveform_answer(op, shape, *given):
         after = reduced(after)
     slots = [bits_of(x, True) for x in samples] + (8 - len(samples)) * [UNWRITTEN]
     return (number, bits_of(after, True)) + tuple(slots)
+
+
+# The blocks of a rounded triangle.
+
+
+def block_answer(op, shape, duty_bits, rate, frequency_bits, depth_bits, phase_bits, length):
+    # A reset sets the phase back before the block is played.
+    start, highest = 0 if op in (3, 4) else phase_bits, 100.0 if op in (1, 4) else 20000.0
+    duty, frequency, depth, phase = (float_of(w, True) for w in (duty_bits, frequency_bits, depth_bits, start))
+    fits = 0 <= frequency <= highest and 0 <= depth <= 1 and 0 <= phase < 1000
+    number = 6 if not 8000 <= rate <= 192000 else 0 if fits else 9
+    if number:
+        return (number, start) + length * (UNWRITTEN,)
+    step = mul(div(frequency, float(rate)), TAU)
+    samples, after = radians_block(shape, duty, phase, step, depth, length)
+    return (says(0, length), bits_of(reduced(after), True)) + tuple(bits_of(x, True) for x in samples)
+
+
+def compare_blocks(path):
+    """Each op must be there, done and refused."""
+    data, at, seen, total, equal = Path(path).read_bytes(), 0, set(), 0, 0
+    while at < len(data):
+        end = at + 80 + 8 * struct.unpack_from("<Q", data, at + 56)[0]
+        row = struct.unpack(f"<{(end - at) // 8}Q", data[at:end])
+        at = end
+        if row[1] == 6:
+            total += 1
+            equal += block_answer(*row[:8]) == row[8:]
+            seen.add((row[0], row[8] % 256))
+    print(f"blocks: {total} rows of a rounded triangle, {equal} equal")
+    return equal == total and seen == {(op, number) for op in range(6) for number in (0, 6, 9)}
 
 
 # The voice.
@@ -396,12 +466,42 @@ def measure(path):
     return fine and within == total > 0
 
 
-# part: words, how many of them are given, what answers, and every op with the numbers that it must be seen with
+# The corner, in exact fractions.
+
+# From this dt on no correction but 0 is so small that it lacks digits.
+LEAST = Fraction(1, 2**900)
+# Nine roundings, from x to the product with dt and that of the third itself, each off by at most 2^-54 of dt.
+MOST = Fraction(9, 2**54)
+
+
+def exact_corner(t, dt):
+    """02, R-11: "With x the distance in steps the exact correction is then (1 - x)^3 * dt/3 on either side."."""
+    x = (t if t < dt else 1 - t) / dt
+    return (1 - x) ** 3 * dt / 3
+
+
+def measure_corner(path):
+    """How far the rows' corrections within a step of the corner are from that one, as parts of dt."""
+    total, largest = 0, Fraction(0)
+    for op, t, dt, _, _, value in struct.iter_unpack("<Q3dQd", open(path, "rb").read()):
+        if op != 6 or not (0 <= t <= 1 and LEAST <= dt <= 4 and (t < dt or t > 1.0 - dt)):
+            continue
+        total += 1
+        t, dt = Fraction(t), Fraction(dt)
+        largest = max(largest, abs(Fraction(value) - exact_corner(t, dt)) / dt)
+    units = math.ceil(largest * 2**53 * 100) / 100
+    print(f"corner: {total} corrections within {units:.2f} * 2^-53 * dt of (1 - x)^3 * dt/3")
+    return total > 0 and largest <= MOST
+
+
+ROUNDED_OPS = {"rounded 0": {0}, "rounded 1": {0}, "rounded 2": {0, 9}}
+# part: words, how many of them are given, what answers, and every op with the numbers that it must be seen with; in
+# `waveform` the ops of a rounded triangle are counted apart
 PARTS = {
     "phase": ("<9I", 5, phase_answer, {op: {0, 9} if op < 7 else {0} for op in range(8)}),
-    "polyblep": ("<6Q", 4, polyblep_answer, {op: {0, 9} for op in range(6)}),
+    "polyblep": ("<6Q", 4, polyblep_answer, {op: {0, 9} if op < 6 else {0} for op in range(8)}),
     "envelope": ("<24Q", 11, envelope_answer, {0: {0, 9}, 1: {0, 9}, 2: {0, 9}, 3: {0, 6, 9}, 4: {0}}),
-    "waveform": ("<17Q", 7, waveform_answer, {0: {0}, 1: {0}, 2: {0, 6, 9}, 3: {9}}),
+    "waveform": ("<17Q", 7, waveform_answer, {0: {0}, 1: {0}, 2: {0, 6, 9}, 3: {9}} | ROUNDED_OPS),
     "voice": ("<31I", 16, voice_answer, {op: {0, 9} if op < 5 else {0} for op in range(6)}),
 }
 
@@ -413,7 +513,8 @@ def compare(name, path):
     seen = {op: set() for op in numbers}
     for row in struct.iter_unpack(layout, open(path, "rb").read()):
         total += 1
-        seen[row[0]].add(row[given] % 256)
+        is_rounded = name == "waveform" and row[1] == 6
+        seen[f"rounded {row[0]}" if is_rounded else row[0]].add(row[given] % 256)
         if answer(*row[:given]) == row[given:]:
             equal += 1
         elif total - equal < 5:
@@ -426,7 +527,8 @@ def compare(name, path):
 
 if __name__ == "__main__":
     pairs = list(zip(sys.argv[1::2], sys.argv[2::2]))
-    if len(sys.argv) < 3 or len(sys.argv) % 2 == 0 or any(name not in [*PARTS, "sine"] for name, _ in pairs):
+    others = {"sine": measure, "corner": measure_corner, "blocks": compare_blocks}
+    if len(sys.argv) < 3 or len(sys.argv) % 2 == 0 or any(name not in [*PARTS, *others] for name, _ in pairs):
         sys.exit("oracle/again.py PART FILE [PART FILE ..]")
-    fine = [measure(path) if name == "sine" else compare(name, path) for name, path in pairs]
+    fine = [others[name](path) if name in others else compare(name, path) for name, path in pairs]
     sys.exit(0 if all(fine) else 1)

@@ -1,11 +1,11 @@
-//! Rows of the two block calls: op, waveform (0 Sine to 4 Pulse, in the original's order), duty, rate, frequency,
-//! depth, start phase, samples asked for; then answer, phase after, and every sample. Ten u64 a row and one for each
-//! sample asked for, every float as its bits.
+//! Rows of the two block calls: op, waveform (0 Sine to 4 Pulse, in the original's order, or 6, the rounded triangle,
+//! which is ours: rounded.rs), duty, rate, frequency, depth, start phase, samples asked for; then answer, phase after,
+//! and every sample. Ten u64 a row and one for each sample asked for, every float as its bits.
 //!
 //! `set` is the oscillator too, made with other settings, then given its waveform and a note's frequency; `cleared` has
 //! been given a note's frequency that would be refused, and that was cleared. `reset` is set back from the start phase,
-//! the oscillator after it was set. Only the LFO has a depth; elsewhere it is 1. Only Pulse has a duty. The samples are
-//! 42 each before the call.
+//! the oscillator after it was set. Only the LFO has a depth; elsewhere it is 1. Only Pulse has a duty; the word of a
+//! rounded triangle's is anything, and is not read. The samples are 42 each before the call.
 
 use crate::block::Block;
 use crate::blocks::generators::oscillator::OscillatorBlock;
@@ -16,11 +16,11 @@ use crate::envelope_rows::{random_rate, RATES};
 use crate::math::Real;
 use crate::opened;
 use crate::patterns::near;
-use crate::random::XorShiftRng;
 use crate::rows::{self, says, Part};
-use crate::waveform::{generate_waveform_sample, Waveform, DEFAULT_DUTY_CYCLE};
-use crate::waveform_rows::{duties, not_a_unit, phases, random_phase, waveform, FREQUENCIES, TAU, TINY, UNWRITTEN};
-use crate::waveform_rows::{PULSE, SAWTOOTH, SINE, SQUARE, TRIANGLE};
+use crate::waveform::{Waveform, DEFAULT_DUTY_CYCLE};
+use crate::waveform_rows::{any_duty, driven, duties, is_a_block, not_a_unit, one_by_one, phases, random_phase};
+use crate::waveform_rows::{wave_words, Wave, FREQUENCIES, TAU, TINY, UNWRITTEN};
+use crate::waveform_rows::{PULSE, ROUNDED, SAWTOOTH, SINE, SQUARE, TRIANGLE};
 
 pub const PART: Part = Part {
     name: "blocks",
@@ -30,7 +30,7 @@ pub const PART: Part = Part {
     answer_at: Some(8),
     ops: &["oscillator", "lfo", "oscillator, set", "oscillator, reset", "lfo, reset", "oscillator, cleared"],
     edges,
-    random: |chance| rows::each(chance, random),
+    random: |chance| rows::one_in(11, rows::each(chance.beside(), random_rounded), rows::each(chance, random)),
     answer,
 };
 
@@ -51,9 +51,6 @@ fn is_reset(op: u64) -> bool {
 
 /// A frequency that would be refused.
 const UNHEARD: f64 = -1.0;
-
-/// A shape and its duty.
-type Wave = (u64, f64);
 
 /// Pulse occurs twice: with the duty of the original's block, and with another.
 const WAVES: [Wave; 6] =
@@ -76,12 +73,11 @@ struct Asked {
 
 impl Asked {
     fn words(self) -> Vec<u64> {
-        let (shape, duty) = self.wave;
-        let duty = if shape == PULSE { duty } else { 0.0 };
+        let [shape, duty] = wave_words(self.wave);
         let depth = if is_lfo(self.op) { self.depth } else { 1.0 };
         // The replay cannot see a NaN's payload, and a phase is compared by its bits.
         let phase = if self.phase.is_nan() { f64::NAN } else { self.phase };
-        let [duty, frequency, depth, phase] = [duty, self.frequency, depth, phase].map(f64::to_bits);
+        let [frequency, depth, phase] = [self.frequency, depth, phase].map(f64::to_bits);
         vec![self.op, shape, duty, self.rate, frequency, depth, phase, self.length]
     }
 }
@@ -134,21 +130,19 @@ fn answer(row: &[u64]) -> Vec<u64> {
 /// Every sample and the phase after, as bits.
 type Played = (Vec<u64>, u64);
 
-/// The original's block, which has one duty only; a pulse of another is made sample by sample. Where both can be asked
-/// they agree.
+/// The original's block, which has one duty only and no rounded triangle: those are made sample by sample. Where both
+/// can be asked they agree, and in the phase after always.
 fn ask(row: &[u64]) -> Played {
     let by_samples = sample_by_sample(row);
-    if row[1] == PULSE && float(row, 2) != DEFAULT_DUTY_CYCLE {
-        return by_samples;
-    }
     let by_block = if is_lfo(row[0]) { lfo(row) } else { oscillator(row) };
-    assert_eq!(by_block, by_samples, "the block parts ways at {row:?}");
-    by_block
+    let same = by_block.0 == by_samples.0 || !is_a_block((row[1], float(row, 2)));
+    assert!(same && by_block.1 == by_samples.1, "the block parts ways at {row:?}");
+    by_samples
 }
 
 /// The opened copy from the given phase; from +0, where it starts or is set back to, the untouched copy must agree.
 fn oscillator(row: &[u64]) -> Played {
-    let (frequency, waveform) = (float(row, 4), waveform(row[1]));
+    let (frequency, waveform) = (float(row, 4), driven(row[1]));
     let is_set = [SET, SET_AND_RESET].contains(&row[0]);
     // Noise stops the program.
     let (own, first) = if is_set { (UNHEARD, Waveform::Noise) } else { (frequency, waveform) };
@@ -168,7 +162,7 @@ fn oscillator(row: &[u64]) -> Played {
 
 /// The LFO's samples and phase, by both copies as above.
 fn lfo(row: &[u64]) -> Played {
-    let (frequency, depth, waveform) = (float(row, 4), float(row, 5), waveform(row[1]));
+    let (frequency, depth, waveform) = (float(row, 4), float(row, 5), driven(row[1]));
     let mut plain = LfoBlock::<f64>::new(frequency, depth, waveform, None);
     let mut open = opened::lfo::LfoBlock::<f64>::new(frequency, depth, waveform, None);
     open.set_opened_phase(float(row, 6));
@@ -188,18 +182,12 @@ fn played(row: &[u64], plain: &mut impl Block<f64>, open: &mut impl Block<f64>) 
     samples
 }
 
-/// The block's increment, its loop and its reduction, about the original's single sample, which takes any duty.
+/// The block's increment, its loop and its reduction, about single samples.
 fn sample_by_sample(row: &[u64]) -> Played {
-    let (duty, depth, mut phase) = (float(row, 2), float(row, 5), start(row));
-    let increment = float(row, 4) / row[3] as f64 * TAU;
-    let rng = &mut XorShiftRng::new(0);
-    let mut samples = Vec::new();
-    for _ in 0..row[7] {
-        let value = generate_waveform_sample(waveform(row[1]), phase, increment, duty, rng);
-        samples.push((value * depth).to_bits());
-        phase += increment;
-    }
-    (samples, Real::rem_euclid(phase, TAU).to_bits())
+    let (wave, mut phase) = ((row[1], float(row, 2)), start(row));
+    let mut samples = vec![0.0; row[7] as usize];
+    one_by_one(&mut samples, wave, &mut phase, float(row, 4) / row[3] as f64 * TAU, float(row, 5));
+    (samples.into_iter().map(f64::to_bits).collect(), Real::rem_euclid(phase, TAU).to_bits())
 }
 
 // The edges.
@@ -243,12 +231,7 @@ fn not_a_phase() -> Vec<f64> {
 fn edges() -> Vec<Vec<u64>> {
     let mut rows = Vec::new();
     for op in [OSCILLATOR, LFO] {
-        for wave in WAVES {
-            let usual = usual(op, wave);
-            rows.extend(edges_of_length(usual));
-            rows.extend(edges_of_pitch(usual));
-            rows.extend(phases().into_iter().map(|phase| Asked { phase, ..usual }));
-        }
+        rows.extend(WAVES.into_iter().flat_map(|wave| edges_of_wave(usual(op, wave))));
         // With no sample there is the reduction alone.
         rows.extend(phases().into_iter().map(|phase| Asked { phase, length: 0, ..usual(op, WAVES[0]) }));
         rows.extend(edges_of_duty(op));
@@ -260,7 +243,16 @@ fn edges() -> Vec<Vec<u64>> {
     rows.extend([SET_AND_RESET, LFO_RESET, CLEARED].into_iter().flat_map(edges_of_states));
     rows.extend([OSCILLATOR, LFO, SET].into_iter().flat_map(edges_of_refusals));
     rows.extend(edges_of_documents());
+    rows.extend(edges_of_rounded());
     rows.into_iter().map(Asked::words).collect()
+}
+
+/// Every length, pitch and start phase.
+fn edges_of_wave(usual: Asked) -> Vec<Asked> {
+    let mut rows = edges_of_length(usual);
+    rows.extend(edges_of_pitch(usual));
+    rows.extend(phases().into_iter().map(|phase| Asked { phase, ..usual }));
+    rows
 }
 
 /// Set back or cleared: each shape, and some settings that are refused. After a reset no start phase is refused.
@@ -269,10 +261,32 @@ fn edges_of_states(op: u64) -> Vec<Asked> {
     for wave in WAVES {
         rows.extend([0, 1, 5].map(|length| Asked { length, ..usual(op, wave) }));
     }
-    let usual = usual(op, (TRIANGLE, 0.0));
-    rows.extend([0.0, -0.0, 999.99, 1000.0, -1.0, f64::NAN].map(|phase| Asked { phase, ..usual }));
+    rows.extend(edges_of_settings(usual(op, (TRIANGLE, 0.0))));
+    rows
+}
+
+/// Start phases, and settings that are refused.
+fn edges_of_settings(usual: Asked) -> Vec<Asked> {
+    let mut rows: Vec<Asked> = [0.0, -0.0, 999.99, 1000.0, -1.0, f64::NAN].map(|phase| Asked { phase, ..usual }).into();
     rows.extend([UNHEARD, f64::NAN].map(|frequency| Asked { frequency, ..usual }));
     rows.extend([Asked { rate: 7999, ..usual }, Asked { depth: 2.0, ..usual }]);
+    rows
+}
+
+/// The rounded triangle as the others, in every op; with any duty, since none is read.
+fn edges_of_rounded() -> Vec<Asked> {
+    let mut rows = Vec::new();
+    for op in [OSCILLATOR, LFO] {
+        rows.extend(edges_of_wave(usual(op, (ROUNDED, 0.0))));
+        let odd = duties().into_iter().chain(not_a_unit());
+        rows.extend(odd.map(|duty| Asked { phase: 6.2, ..usual(op, (ROUNDED, duty)) }));
+    }
+    rows.extend(depths().into_iter().map(|depth| Asked { depth, ..usual(LFO, (ROUNDED, f64::NAN)) }));
+    for op in 0..PART.ops.len() as u64 {
+        let usual = usual(op, (ROUNDED, f64::NAN));
+        rows.extend([0, 1, 5].map(|length| Asked { length, ..usual }));
+        rows.extend(edges_of_settings(usual));
+    }
     rows
 }
 
@@ -332,8 +346,19 @@ fn edges_of_documents() -> [Asked; 2] {
 // The random rows.
 
 fn random(chance: &mut Chance) -> Vec<u64> {
+    random_of(&[SINE, SQUARE, SAWTOOTH, TRIANGLE, PULSE, PULSE], chance)
+}
+
+/// Of a rounded triangle, with any duty.
+fn random_rounded(chance: &mut Chance) -> Vec<u64> {
+    let mut row = random_of(&[ROUNDED], chance);
+    any_duty(&mut row[2], chance);
+    row
+}
+
+fn random_of(shapes: &[u64], chance: &mut Chance) -> Vec<u64> {
     let op = chance.pick(&[OSCILLATOR, OSCILLATOR, LFO, LFO, SET, SET_AND_RESET, LFO_RESET, CLEARED]);
-    let shape = chance.pick(&[SINE, SQUARE, SAWTOOTH, TRIANGLE, PULSE, PULSE]);
+    let shape = chance.pick(shapes);
     let duty = random_duty(chance);
     let rate = random_rate(chance);
     let frequency = random_frequency(op, rate, chance);

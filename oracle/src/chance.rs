@@ -16,6 +16,10 @@ impl Chance {
     pub fn apart(&self) -> Self {
         Self(self.0 ^ 1 << 48)
     }
+    /// And others once more, as are those `beside` them.
+    pub fn aloof(&self) -> Self {
+        Self(self.0 ^ 1 << 49)
+    }
     pub fn word(&mut self) -> u64 {
         self.0 = self.0.wrapping_add(0x9E37_79B9_7F4A_7C15);
         let mut mixed = self.0;

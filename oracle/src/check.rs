@@ -2,19 +2,28 @@
 
 use std::path::Path;
 
+use crate::chance::Chance;
 use crate::check_copies::{self, run};
 use crate::math::Real;
 use crate::opened::lfo::LfoBlock;
-use crate::polyblep::polyblamp_triangle;
+use crate::polyblep::{poly_blamp, polyblamp_triangle};
+use crate::polyblep_rows;
+use crate::random::XorShiftRng;
+use crate::rounded::{ORIGINAL, ROUNDED};
 use crate::table::SINE_2048;
 use crate::voice::midi_note_to_frequency;
-use crate::waveform::Waveform;
+use crate::waveform::{generate_waveform_sample, Waveform};
 use crate::{COMPILED, SOURCE};
+
+/// At how many random places the rounded triangle's text is held to the original's.
+const PLACES: usize = 1_000_000;
 
 pub fn all() {
     files(Path::new(SOURCE));
     constants();
     overshoot();
+    rounded();
+    crests();
     check_copies::all();
 }
 
@@ -57,4 +66,38 @@ fn overshoot() {
     let largest = starts.flat_map(cycle_from).fold(0.0, f64::max);
     assert_eq!(largest, 1.0069035593696334);
     println!("the LFO's triangle reaches {largest} at depth 1 and a step of 0.0125 cycles");
+}
+
+fn same(x: f64, y: f64) -> bool {
+    x.to_bits() == y.to_bits() || x.is_nan() && y.is_nan()
+}
+
+/// The rounded triangle is ours (rounded.rs). Without its third, and with the factor 8, the same text gives the
+/// original's bits wherever a row of polyblep asks, and in radians: so the tests, the order of the operations and the
+/// way to cycles are the original's.
+fn rounded() {
+    let edges = (polyblep_rows::PART.edges)();
+    let (known, rng) = (edges.len(), &mut XorShiftRng::new(0));
+    let random = (polyblep_rows::PART.random)(Chance::new(0)).take(PLACES);
+    for row in edges.into_iter().chain(random) {
+        let [phase, dt] = [1, 2].map(|at| f64::from_bits(row[at]));
+        let [radians, increment] = [phase, dt].map(|cycles| cycles * <f64 as Real>::TAU);
+        let sample = generate_waveform_sample(Waveform::Triangle, radians, increment, 0.5, rng);
+        assert!(same(ORIGINAL.blamp(phase, dt), poly_blamp(phase, dt)), "poly_blamp at {row:?}");
+        assert!(same(ORIGINAL.triangle(phase, dt), polyblamp_triangle(phase, dt)), "the triangle at {row:?}");
+        assert!(same(ORIGINAL.in_radians(radians, increment), sample), "the sample at {row:?}");
+    }
+    println!("the rounded triangle without its third, times 8, is the triangle at {} places", known + PLACES);
+}
+
+/// What the documents say of the rounded triangle: the corner at a quarter, the crest of a note, and from which step on
+/// and how far it leaves -1 to 1, which nothing clamps.
+fn crests() {
+    assert_eq!(ROUNDED.triangle(0.0, 0.25), -1.0 + 4.0 * 0.25 / 3.0);
+    assert_eq!(ROUNDED.triangle(0.5, 0.0202), 0.9730666666666666);
+    let farthest = |dt: f64| (0..=100_000).map(|i| ROUNDED.triangle(i as f64 / 1e5, dt).abs()).fold(0.0, f64::max);
+    assert!(farthest(0.954) < 1.0 && 1.0 < farthest(0.955));
+    let [note, last] = [midi_note_to_frequency(127) as f64 / 8000.0, 4.0].map(farthest);
+    assert_eq!([note, last], [1.5612437492765014, -ROUNDED.triangle(1.0, 4.0)]);
+    println!("the rounded triangle reaches {note} at note 127 and 8,000 Hz, and {last} at a step of 4 cycles");
 }

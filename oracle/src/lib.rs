@@ -1,6 +1,6 @@
 //! The original (bbx_audio) as a library for C, which tests/reference/original.h declares: the oracle's own driver,
 //! linked with the reference voice, the library and the bench. Scores are accepted ones, settings and states within
-//! their limits.
+//! their limits. The values of a rounded triangle, code 6, are ours (rounded.rs).
 
 // Of the modules of the rows this crate needs a part.
 #![allow(dead_code)]
@@ -20,6 +20,7 @@ mod check_copies;
 mod envelope_rows;
 mod patterns;
 mod render;
+mod rounded;
 mod rows;
 mod voice_rows;
 mod waveform_rows;
@@ -28,7 +29,7 @@ use std::slice::{from_raw_parts, from_raw_parts_mut};
 
 use polyblep::{polyblamp_triangle, polyblep_pulse, polyblep_saw, polyblep_square};
 use render::{play_untouched, Lfo, Player, Record, Settings, Words};
-use waveform_rows::{SAWTOOTH, SINE, SQUARE, TAU, TRIANGLE};
+use waveform_rows::{ROUNDED, SAWTOOTH, SINE, SQUARE, TAU, TRIANGLE};
 
 #[no_mangle]
 #[allow(non_upper_case_globals)]
@@ -117,7 +118,7 @@ pub unsafe extern "C" fn original_play(
     }
 }
 
-/// A single sample at a normalised phase; the sine is the original's own.
+/// A single sample at a normalised phase; the sine is the original's own, the rounded triangle ours.
 #[no_mangle]
 pub extern "C" fn original_sample(code: u32, phase: f64, dt: f64, duty: f64) -> f64 {
     match code as u64 {
@@ -125,6 +126,7 @@ pub extern "C" fn original_sample(code: u32, phase: f64, dt: f64, duty: f64) -> 
         SQUARE => polyblep_square(phase, dt),
         SAWTOOTH => polyblep_saw(phase, dt),
         TRIANGLE => polyblamp_triangle(phase, dt),
+        ROUNDED => rounded::ROUNDED.triangle(phase, dt),
         _ => polyblep_pulse(phase, dt, duty),
     }
 }

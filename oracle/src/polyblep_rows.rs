@@ -1,10 +1,12 @@
 //! Rows of polyblep: op, phase (t), dt, duty; then answer and value. Six u64 a row, every float as its bits.
 //!
-//! Only polyblep_pulse reads the duty; it is 0 elsewhere.
+//! Only polyblep_pulse reads the duty; it is 0 elsewhere. The last two ops are the rounded triangle's, which is ours
+//! (rounded.rs): they judge nothing, take any two floats, and a value that is a NaN is 7FF8000000000000.
 
 use crate::chance::Chance;
 use crate::patterns::{near, two_to};
 use crate::polyblep;
+use crate::rounded;
 use crate::rows::{self, Part};
 
 pub const PART: Part = Part {
@@ -13,14 +15,26 @@ pub const PART: Part = Part {
     words: 6,
     more_at: None,
     answer_at: Some(4),
-    ops: &["poly_blep", "poly_blamp", "polyblep_saw", "polyblep_square", "polyblep_pulse", "polyblamp_triangle"],
+    ops: &[
+        "poly_blep",
+        "poly_blamp",
+        "polyblep_saw",
+        "polyblep_square",
+        "polyblep_pulse",
+        "polyblamp_triangle",
+        "rounded_blamp",
+        "rounded",
+    ],
     edges,
-    random: |chance| rows::each(chance, random),
+    random: |chance| rows::one_in(13, rows::each(chance.beside(), random_rounded), rows::each(chance, random)),
     answer,
 };
 
 const PULSE: u64 = 4;
+/// Those of the original.
 const OPS: u64 = 6;
+const ROUNDED_BLAMP: u64 = 6;
+const ROUNDED: u64 = 7;
 
 const TINY: f64 = f64::from_bits(1);
 const LARGEST_SUBNORMAL: f64 = f64::from_bits(0x000F_FFFF_FFFF_FFFF);
@@ -34,7 +48,7 @@ fn float(word: u64) -> f64 {
     f64::from_bits(word)
 }
 
-/// 01's domain, tested by number: -0 counts as 0, a NaN is outside.
+/// 01's domain of the original's calls, tested by number: -0 counts as 0, a NaN is outside.
 fn in_domain(row: &[u64]) -> bool {
     let (t, dt, duty) = (float(row[1]), float(row[2]), float(row[3]));
     let unit = 0.0..=1.0;
@@ -43,10 +57,15 @@ fn in_domain(row: &[u64]) -> bool {
 
 /// Number and value.
 fn answer(row: &[u64]) -> Vec<u64> {
+    let (t, dt, duty) = (float(row[1]), float(row[2]), float(row[3]));
+    if row[0] >= OPS {
+        let value = rounded_answer(row[0], t, dt);
+        assert!(value.is_finite() || !in_domain(row), "an answer in the domain is not finite at {row:?}");
+        return vec![0, value.to_bits()];
+    }
     if !in_domain(row) {
         return vec![9, 0];
     }
-    let (t, dt, duty) = (float(row[1]), float(row[2]), float(row[3]));
     let value: f64 = match row[0] {
         0 => polyblep::poly_blep(t, dt),
         1 => polyblep::poly_blamp(t, dt),
@@ -58,6 +77,20 @@ fn answer(row: &[u64]) -> Vec<u64> {
     };
     assert!(value.is_finite(), "an answer in the domain is not finite at {row:?}");
     vec![0, value.to_bits()]
+}
+
+/// The replay cannot see a NaN's payload, so there is one NaN only.
+fn rounded_answer(op: u64, t: f64, dt: f64) -> f64 {
+    let value = match op {
+        ROUNDED_BLAMP => rounded::ROUNDED.blamp(t, dt),
+        ROUNDED => rounded::ROUNDED.triangle(t, dt),
+        op => panic!("no op {op}"),
+    };
+    if value.is_nan() {
+        f64::NAN
+    } else {
+        value
+    }
 }
 
 // The edges.
@@ -109,7 +142,7 @@ fn not_finite() -> Vec<f64> {
 fn turning_points(op: u64, dt: f64, duty: f64) -> Vec<f64> {
     let own = [dt, 1.0 - dt];
     match op {
-        0..=2 => own.to_vec(),
+        0..=2 | ROUNDED_BLAMP => own.to_vec(),
         PULSE => [own, [duty + dt, duty - dt], [duty, duty + dt - 1.0], [1.0 + duty - dt, duty]].concat(),
         _ => [own, [dt + 0.5, dt - 0.5], [0.5 - dt, 1.5 - dt], [0.5, 0.5]].concat(),
     }
@@ -122,20 +155,7 @@ fn around(points: &[f64]) -> Vec<f64> {
 }
 
 fn edges() -> Vec<Vec<u64>> {
-    let mut rows = Vec::new();
-    for op in 0..OPS {
-        for dt in steps_inside() {
-            for t in phases_inside().into_iter().chain(around(&turning_points(op, dt, 0.25))) {
-                rows.push(given(op, t, dt, 0.25));
-            }
-        }
-        for t in phases_outside() {
-            rows.extend([0.0, 0.25, 1.0, f64::NAN].map(|dt| given(op, t, dt, 0.25)));
-        }
-        for dt in steps_outside() {
-            rows.extend([-0.0, 0.125, 1.0, near(1.0, 1)].map(|t| given(op, t, dt, 0.25)));
-        }
-    }
+    let mut rows: Vec<_> = (0..OPS).flat_map(edges_of).collect();
     for duty in duties_inside() {
         for dt in [0.0, two_to(-53), 440.0 / 48000.0, 0.5, 0.75, 1.0, 4.0] {
             for t in [0.0, -0.0, TINY, 0.125, 1.0].into_iter().chain(around(&turning_points(PULSE, dt, duty))) {
@@ -146,6 +166,23 @@ fn edges() -> Vec<Vec<u64>> {
     for duty in phases_outside() {
         rows.extend([0.0, 0.125, 1.0].map(|t| given(PULSE, t, 0.25, duty)));
     }
+    rows.extend([ROUNDED_BLAMP, ROUNDED].into_iter().flat_map(edges_of));
+    rows
+}
+
+fn edges_of(op: u64) -> Vec<Vec<u64>> {
+    let mut rows = Vec::new();
+    for dt in steps_inside() {
+        for t in phases_inside().into_iter().chain(around(&turning_points(op, dt, 0.25))) {
+            rows.push(given(op, t, dt, 0.25));
+        }
+    }
+    for t in phases_outside() {
+        rows.extend([0.0, 0.25, 1.0, f64::NAN].map(|dt| given(op, t, dt, 0.25)));
+    }
+    for dt in steps_outside() {
+        rows.extend([-0.0, 0.125, 1.0, near(1.0, 1)].map(|t| given(op, t, dt, 0.25)));
+    }
     rows
 }
 
@@ -154,7 +191,8 @@ fn edges() -> Vec<Vec<u64>> {
 fn random(chance: &mut Chance) -> Vec<u64> {
     let refused = chance.below(8) == 0;
     loop {
-        let mut row = inside(chance);
+        let op = chance.below(OPS);
+        let mut row = inside(op, chance);
         if refused {
             spoil(&mut row, chance);
         }
@@ -164,8 +202,17 @@ fn random(chance: &mut Chance) -> Vec<u64> {
     }
 }
 
-fn inside(chance: &mut Chance) -> Vec<u64> {
-    let op = chance.below(OPS);
+/// Any two floats, most often in the domain of the others.
+fn random_rounded(chance: &mut Chance) -> Vec<u64> {
+    let op = chance.pick(&[ROUNDED_BLAMP, ROUNDED]);
+    let mut row = inside(op, chance);
+    if chance.below(8) == 0 {
+        spoil(&mut row, chance);
+    }
+    row
+}
+
+fn inside(op: u64, chance: &mut Chance) -> Vec<u64> {
     let dt = random_step(chance);
     let duty = random_phase(chance);
     let t = match chance.below(3) {

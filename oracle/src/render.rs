@@ -4,7 +4,8 @@
 //! active.
 //!
 //! `Player` goes on from any state within the limits and shows its states: it has the opened copies, and makes a span's
-//! values one by one, since the original's blocks have one duty only. `Plain` has the untouched copies alone, from
+//! values one by one, since the original's blocks have one duty only, and no rounded triangle, which is ours
+//! (rounded.rs): such a block is driven all the same, for its phase. `Plain` has the untouched copies alone, from
 //! sample 0 on, and calls whole blocks into the output: its speed is measured. Where both can be asked they are
 //! compared.
 
@@ -18,11 +19,9 @@ use crate::envelope_rows::{self, opened_block};
 use crate::math::Real;
 use crate::opened;
 use crate::parameter::ModulationValues;
-use crate::random::XorShiftRng;
 use crate::voice::VoiceState;
 use crate::voice_rows::{self, Pair, NOTE_OFF, NOTE_ON, NO_CHANGE, RELEASED, RESET};
-use crate::waveform::{generate_waveform_sample, Waveform, DEFAULT_DUTY_CYCLE};
-use crate::waveform_rows::{waveform, PULSE, SINE, TAU};
+use crate::waveform_rows::{driven, is_a_block, one_by_one, Wave, SINE, TAU};
 
 /// The samples from one reduction to the next where no record acts, and from one shelf entry to the next.
 const BLOCK: u64 = 64;
@@ -32,14 +31,6 @@ pub const SECTION: u64 = 4096;
 const KIND_ON: u8 = 1;
 const KIND_OFF: u8 = 2;
 pub const KIND_RESET: u8 = 3;
-
-/// A shape and its duty.
-pub type Wave = (u64, f64);
-
-/// Whether the original's blocks have this waveform.
-fn is_a_block((shape, duty): Wave) -> bool {
-    shape != PULSE || duty == DEFAULT_DUTY_CYCLE
-}
 
 #[derive(Clone, Copy)]
 pub struct Lfo {
@@ -257,41 +248,31 @@ impl Player {
     /// The oscillator's values; its block agrees.
     fn values(&mut self, length: usize) -> Vec<f64> {
         let Settings { rate, wave, .. } = self.settings;
-        let mut block = opened::oscillator::OscillatorBlock::<f64>::new(self.frequency, waveform(wave.0), None);
+        let mut block = opened::oscillator::OscillatorBlock::<f64>::new(self.frequency, driven(wave.0), None);
         block.set_opened_phase(self.phase);
-        let values = one_by_one(wave, self.frequency / rate as f64 * TAU, 1.0, &mut self.phase, length);
-        if is_a_block(wave) {
-            agrees(&values, self.phase, run(&mut block, rate as f64, length), block.opened_phase());
-        }
+        let mut values = vec![0.0; length];
+        one_by_one(&mut values, wave, &mut self.phase, self.frequency / rate as f64 * TAU, 1.0);
+        agrees(wave, &values, self.phase, run(&mut block, rate as f64, length), block.opened_phase());
         values
     }
 
     /// The LFO's scaled values; its block agrees.
     fn slow_values(&mut self, length: usize) -> Vec<f64> {
         let Settings { rate, lfo: Lfo { wave, frequency, depth }, .. } = self.settings;
-        let mut block = opened::lfo::LfoBlock::<f64>::new(frequency, depth, waveform(wave.0), None);
+        let mut block = opened::lfo::LfoBlock::<f64>::new(frequency, depth, driven(wave.0), None);
         block.set_opened_phase(self.lfo_phase);
-        let values = one_by_one(wave, frequency / rate as f64 * TAU, depth, &mut self.lfo_phase, length);
-        if is_a_block(wave) {
-            agrees(&values, self.lfo_phase, run(&mut block, rate as f64, length), block.opened_phase());
-        }
+        let mut values = vec![0.0; length];
+        one_by_one(&mut values, wave, &mut self.lfo_phase, frequency / rate as f64 * TAU, depth);
+        agrees(wave, &values, self.lfo_phase, run(&mut block, rate as f64, length), block.opened_phase());
         values
     }
 }
 
-/// The values of a block one by one. The phase is not reduced after them.
-fn one_by_one((shape, duty): Wave, increment: f64, scale: f64, phase: &mut f64, length: usize) -> Vec<f64> {
-    let (shape, rng, mut values) = (waveform(shape), &mut XorShiftRng::new(0), Vec::new());
-    for _ in 0..length {
-        values.push(generate_waveform_sample(shape, *phase, increment, duty, rng) * scale);
-        *phase += increment;
-    }
-    values
-}
-
-/// A block's values are those made one by one; it reduces the phase after them.
-fn agrees(values: &[f64], phase: f64, by_block: Vec<u64>, after: f64) {
-    assert!(by_block.into_iter().eq(values.iter().map(|value| value.to_bits())), "the block parts ways");
+/// A block's values are those made one by one, where it plays the waveform; it reduces the phase after them, whatever
+/// it plays.
+fn agrees(wave: Wave, values: &[f64], phase: f64, by_block: Vec<u64>, after: f64) {
+    let same = by_block.into_iter().eq(values.iter().map(|value| value.to_bits()));
+    assert!(same || !is_a_block(wave), "the block parts ways");
     assert_eq!(after.to_bits(), Real::rem_euclid(phase, TAU).to_bits());
 }
 
@@ -301,8 +282,8 @@ fn span_end(n: u64, next: Option<Record>, asked: u64) -> u64 {
     next.map_or(block, |record| record.position.min(block)).min(asked)
 }
 
-/// The untouched copies of voice and envelope, the untouched oscillator and the untouched LFO. At depth 0 there is no
-/// LFO, as before there was a tremolo: `Player` has one, whose factor is 1.
+/// The untouched copies of voice and envelope, the untouched oscillator and the untouched LFO, where these play the
+/// waveform. At depth 0 there is no LFO, as before there was a tremolo: `Player` has one, whose factor is 1.
 struct Plain {
     voice: VoiceState,
     envelope: EnvelopeBlock<f64>,
@@ -311,27 +292,27 @@ struct Plain {
     joined: bool,
 }
 
-/// The original's blocks; a pulse of another duty is a block's loop over the original's single sample.
+/// The original's blocks; what they do not play is a block's loop over single samples.
 enum Source {
     Oscillator(OscillatorBlock<f64>),
     Lfo(LfoBlock<f64>),
-    Pulse { duty: f64, frequency: f64, scale: f64, phase: f64 },
+    Loop { wave: Wave, frequency: f64, scale: f64, phase: f64 },
 }
 
 impl Source {
     fn oscillator(wave: Wave) -> Self {
         if is_a_block(wave) {
-            Self::Oscillator(OscillatorBlock::new(440.0, waveform(wave.0), None))
+            Self::Oscillator(OscillatorBlock::new(440.0, driven(wave.0), None))
         } else {
-            Self::Pulse { duty: wave.1, frequency: 440.0, scale: 1.0, phase: 0.0 }
+            Self::Loop { wave, frequency: 440.0, scale: 1.0, phase: 0.0 }
         }
     }
 
     fn lfo(Lfo { wave, frequency, depth }: Lfo) -> Self {
         if is_a_block(wave) {
-            Self::Lfo(LfoBlock::new(frequency, depth, waveform(wave.0), None))
+            Self::Lfo(LfoBlock::new(frequency, depth, driven(wave.0), None))
         } else {
-            Self::Pulse { duty: wave.1, frequency, scale: depth, phase: 0.0 }
+            Self::Loop { wave, frequency, scale: depth, phase: 0.0 }
         }
     }
 
@@ -339,7 +320,7 @@ impl Source {
         match self {
             Self::Oscillator(block) => block.reset(),
             Self::Lfo(block) => block.reset(),
-            Self::Pulse { phase, .. } => *phase = 0.0,
+            Self::Loop { phase, .. } => *phase = 0.0,
         }
     }
 
@@ -348,7 +329,7 @@ impl Source {
         match self {
             Self::Oscillator(block) => block.set_midi_frequency(new),
             Self::Lfo(_) => {}
-            Self::Pulse { frequency, .. } => *frequency = new,
+            Self::Loop { frequency, .. } => *frequency = new,
         }
     }
 
@@ -356,12 +337,8 @@ impl Source {
         match self {
             Self::Oscillator(block) => block.process(&[], &mut [out], &ModulationValues::none(), context),
             Self::Lfo(block) => block.process(&[], &mut [out], &ModulationValues::none(), context),
-            Self::Pulse { duty, frequency, scale, phase } => {
-                let (increment, rng) = (*frequency / context.sample_rate * TAU, &mut XorShiftRng::new(0));
-                for sample in out {
-                    *sample = generate_waveform_sample(Waveform::Pulse, *phase, increment, *duty, rng) * *scale;
-                    *phase += increment;
-                }
+            Self::Loop { wave, frequency, scale, phase } => {
+                one_by_one(out, *wave, phase, *frequency / context.sample_rate * TAU, *scale);
                 *phase = Real::rem_euclid(*phase, TAU);
             }
         }
@@ -427,14 +404,11 @@ pub fn play_untouched(settings: Settings, score: impl Iterator<Item = Record>, o
     }
 }
 
-/// The bits of a score's first samples by the untouched copies; none for a waveform that their block does not have.
-pub fn untouched(settings: Settings, score: &[Record], length: u64) -> Option<Vec<u64>> {
-    if !is_a_block(settings.wave) || !is_a_block(settings.lfo.wave) {
-        return None;
-    }
+/// The bits of a score's first samples by the untouched copies.
+pub fn untouched(settings: Settings, score: &[Record], length: u64) -> Vec<u64> {
     let mut samples = vec![0.0; length as usize];
     play_untouched(settings, score.iter().copied(), &mut samples);
-    Some(samples.into_iter().map(f64::to_bits).collect())
+    samples.into_iter().map(f64::to_bits).collect()
 }
 
 // A state's keys as words.

@@ -1,8 +1,8 @@
 //! What a row of the render asks for, by the names of its words, and what the original or 01 answers.
 
-use crate::render::{untouched, Lfo, Player, Record, Settings, Wave, Words, KIND_RESET, SECTION, STATE_WORDS};
+use crate::render::{untouched, Lfo, Player, Record, Settings, Words, KIND_RESET, SECTION, STATE_WORDS};
 use crate::rows::says;
-use crate::waveform_rows::{PULSE, SAWTOOTH, SINE, SQUARE, TRIANGLE, UNWRITTEN};
+use crate::waveform_rows::{wave_words, Wave, PULSE, SAWTOOTH, SINE, SQUARE, TRIANGLE, UNWRITTEN};
 
 pub const RENDER: u64 = 0;
 pub const CONTINUE: u64 = 1;
@@ -204,7 +204,7 @@ impl Asked {
         assert!(played.samples.iter().all(|&sample| f64::from_bits(sample).is_finite()));
         if self.op != CONTINUE {
             let same = untouched(settings, &score, self.samples);
-            assert!(same.is_none_or(|samples| samples == played.samples), "the untouched copies part ways");
+            assert!(same == played.samples, "the untouched copies part ways");
         }
         let (from, entry) = self.start();
         let (samples, shelf) = self.left.split_at(if self.op == RERENDER { self.samples as usize } else { 0 });
@@ -230,11 +230,6 @@ pub fn shelf_words(samples: u64) -> u64 {
 /// The first word of a section's entry, of the section's first sample.
 pub fn entry_at(from: u64) -> u64 {
     STATE_WORDS as u64 * (from / SECTION)
-}
-
-/// A waveform and its duty, which only Pulse has.
-fn wave_words((shape, duty): Wave) -> [u64; 2] {
-    [shape, if shape == PULSE { duty.to_bits() } else { 0 }]
 }
 
 /// The sample at which a re-render starts, by 01; none where it writes nothing.

@@ -2,10 +2,10 @@
 
 use crate::envelope_rows::RATES;
 use crate::patterns::near;
-use crate::render::{by_noughts, off, on, reset, Lfo, Record, Settings, Wave};
+use crate::render::{by_noughts, off, on, reset, Lfo, Record, Settings};
 use crate::render_asked::{packed_words, Asked, CONTINUE, LAST, MOST_SAMPLES};
 use crate::render_tremolo::{self, strong};
-use crate::waveform_rows::{duties, not_a_unit, TINY};
+use crate::waveform_rows::{duties, not_a_unit, Wave, TINY};
 use crate::waveform_rows::{PULSE, SAWTOOTH, SINE, SQUARE, TRIANGLE};
 
 pub const SAW: Wave = (SAWTOOTH, 0.0);

@@ -5,18 +5,17 @@ use crate::chance::Chance;
 use crate::render::{by_noughts, on, reset, Record, KIND_RESET, SECTION, STATE_WORDS};
 use crate::render_asked::{entry_at, start_of, Asked, LAST};
 use crate::render_edges::{over_marks, tune, SAW, WAVES};
-use crate::render_random::{self, moved, random_render, random_score, spoil_score};
+use crate::render_random::{self, moved, random_score, spoil_score, Maker};
 use crate::render_tremolo::{spoilt_lfo, strong};
-use crate::rows::{each, Rows};
+use crate::rows::{each, one_in, Rows};
 
 /// The longest random one: with two scores and a sine its row is no longer than a render's.
 const LONGEST: u64 = 4400;
 
 /// After five renders and parts of renders a re-render, from numbers of its own.
-pub fn among(joined: bool, chance: Chance) -> Rows {
-    let mut edits = each(chance.beside(), move |chance| row(joined, chance));
-    let mut others = each(chance, move |chance| render_random::row(joined, chance));
-    Box::new((0..).map(move |i| if i % 6 == 5 { edits.next().unwrap() } else { others.next().unwrap() }))
+pub fn among(make: Maker, chance: Chance) -> Rows {
+    let edits = each(chance.beside(), move |chance| row(make, chance));
+    one_in(6, edits, each(chance, move |chance| render_random::row(make, chance)))
 }
 
 pub fn edges() -> Vec<Vec<u64>> {
@@ -135,8 +134,8 @@ pub fn spoil_left(asked: &mut Asked, chance: &mut Chance) {
     }
 }
 
-fn row(joined: bool, chance: &mut Chance) -> Vec<u64> {
-    let mut render = random_render(joined, chance);
+fn row(make: Maker, chance: &mut Chance) -> Vec<u64> {
+    let mut render = make(chance);
     if render.samples > LONGEST {
         let score = random_score(LONGEST, chance);
         render = Asked { settings: render.settings, ..Asked::whole(44100, SAW, LONGEST, &score) };

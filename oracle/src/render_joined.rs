@@ -1,11 +1,12 @@
 //! Joined notes, as 02 says under R-9: which note-on triggers the envelope, by what is active just before it, in every
-//! stage, over marks and cuts and after edits; and the random rows, of which every other is joined.
+//! stage, over marks and cuts and after edits; and random rows, of which every other is joined.
 
 use crate::chance::Chance;
 use crate::render::{by_noughts, off, on, reset, Record};
 use crate::render_asked::{Asked, CONTINUE};
 use crate::render_edges::{lifted, pressed, tune, WAVES};
 use crate::render_edits::{among, spoil_left, with};
+use crate::render_random::random_render;
 use crate::render_tremolo::strong;
 use crate::rows::Rows;
 
@@ -23,7 +24,8 @@ pub fn edges() -> Vec<Vec<u64>> {
 
 /// Struck and joined in turn, the joined ones from numbers of their own.
 pub fn in_turn(chance: Chance) -> Rows {
-    let (joined, struck) = (among(true, chance.apart()), among(false, chance));
+    let (joined, struck) =
+        (among(|chance| random_render(chance).joined(), chance.apart()), among(random_render, chance));
     Box::new(struck.zip(joined).flat_map(|(struck, joined)| [struck, joined]))
 }
 

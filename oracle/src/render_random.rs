@@ -3,14 +3,17 @@
 use crate::chance::Chance;
 use crate::envelope_rows::{random_rate, random_settings};
 use crate::patterns::near;
-use crate::render::{by_noughts, off, on, reset, Record, Settings, Wave, Words, STATE_WORDS};
+use crate::render::{by_noughts, off, on, reset, Record, Settings, Words, STATE_WORDS};
 use crate::render_asked::{is_state, packed_words, Asked, CONTINUE, LAST, MOST_SAMPLES, RENDER};
 use crate::render_tremolo::{random_lfo, spoilt_lfo};
-use crate::waveform_rows::{duties, not_a_unit, TINY};
+use crate::waveform_rows::{duties, not_a_unit, Wave, TINY};
 use crate::waveform_rows::{PULSE, SAWTOOTH, SINE, SQUARE, TRIANGLE};
 
-pub fn row(joined: bool, chance: &mut Chance) -> Vec<u64> {
-    let render = random_render(joined, chance);
+/// What makes a random render.
+pub type Maker = fn(&mut Chance) -> Asked;
+
+pub fn row(make: Maker, chance: &mut Chance) -> Vec<u64> {
+    let render = make(chance);
     let mut asked = match chance.below(5) {
         0 | 1 => random_part(&render, chance),
         _ => render,
@@ -21,13 +24,12 @@ pub fn row(joined: bool, chance: &mut Chance) -> Vec<u64> {
     asked.words()
 }
 
-pub fn random_render(joined: bool, chance: &mut Chance) -> Asked {
+pub fn random_render(chance: &mut Chance) -> Asked {
     let samples = random_length(chance);
     let wave = random_wave(chance);
     let mut asked = Asked::whole(random_rate(chance), wave, samples, &random_releases(samples, chance));
     asked.settings.adsr = random_settings(chance);
     asked.settings.lfo = random_lfo(chance);
-    asked.settings.joined = joined;
     audible(&mut asked.settings);
     asked
 }

@@ -39,6 +39,11 @@ pub fn each(mut chance: Chance, row: impl Fn(&mut Chance) -> Vec<u64> + 'static)
     Box::new(std::iter::repeat_with(move || row(&mut chance)))
 }
 
+/// The last of every so many rows is one of these, the others are of those.
+pub fn one_in(every: u64, mut these: Rows, mut those: Rows) -> Rows {
+    Box::new((1..).map(move |i| if i % every == 0 { &mut these } else { &mut those }.next().unwrap()))
+}
+
 /// Bytes in a name, and in a head.
 const NAME: usize = 8;
 const HEAD: usize = 16;

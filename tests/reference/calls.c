@@ -32,9 +32,13 @@ uint64_t reference_check_score(const uint8_t *score, size_t len) {
     return 0;
 }
 
-/* "at the desk also a waveform code above 4"; the duty "is read and judged for Pulse only". */
+/* "at the desk also a waveform code above 4"; but "6 accepts the new choice, which is code 6 at the desk; 5, the Rust's
+ * Noise, stays refused". */
+static bool is_code(uint32_t code) { return code <= GAV_PULSE || code == GAV_ROUNDED_TRIANGLE; }
+
+/* The duty "is read and judged for Pulse only". */
 static bool is_wave(uint32_t code, double duty) {
-    return code <= GAV_PULSE && (code != GAV_PULSE || is_within(0.0, duty, 1.0));
+    return is_code(code) && (code != GAV_PULSE || is_within(0.0, duty, 1.0));
 }
 
 static bool is_rate(uint32_t rate) { return rate >= 8000 && rate <= 192000; }

@@ -1,5 +1,6 @@
 /* The original, driven span by span by the oracle (oracle/src/lib.rs), or no_original.c where it is not here;
- * oracle/archive says which of the two to link. Scores are accepted, settings and states within their limits. */
+ * oracle/archive says which of the two to link. Scores are accepted, settings and states within their limits. The
+ * original has no rounded triangle: its values are the oracle's own, from 02. */
 #ifndef ORIGINAL_H
 #define ORIGINAL_H
 

@@ -1,5 +1,6 @@
-/* Making a sample: 01's "Steps", "Pitch and sine" and "Making sample n", 02's "Tremolo" and "Joined notes". Each
- * operation is rounded once, in the order in which it is written (compile with -ffp-contract=off). */
+/* Making a sample: 01's "Steps", "Pitch and sine" and "Making sample n", 02's "Tremolo", "Joined notes" and "A triangle
+ * that is really rounded". Each operation is rounded once, in the order in which it is written (compile with
+ * -ffp-contract=off). */
 #include "voice.h"
 
 #include "pitches.h"
@@ -36,6 +37,20 @@ static double poly_blamp(double t, double dt) {
     return 0.0;
 }
 
+/* "both branches plus one third before the multiplication by dt": poly_blamp's, with its tests. */
+static double rounded_blamp(double t, double dt) {
+    const double third = 1.0 / 3.0;
+    if (t < dt) {
+        double x = t / dt, squared = x * x, cubed = squared * x;
+        return (squared - cubed * third - x + third) * dt;
+    }
+    if (t > 1.0 - dt) {
+        double x = (t - 1.0) / dt, squared = x * x, cubed = squared * x;
+        return (cubed * third + squared + x + third) * dt;
+    }
+    return 0.0;
+}
+
 /* "Sawtooth, square, pulse and triangle as in polyblep.rs." */
 static double saw(double u, double dt) {
     double naive = 2.0 * u - 1.0;
@@ -52,9 +67,17 @@ static double pulse(double u, double dt, double duty) {
     return naive + poly_blep(u, dt) - poly_blep(falling, dt);
 }
 
+static double naive_triangle(double u) { return u < 0.5 ? 4.0 * u - 1.0 : 3.0 - 4.0 * u; }
+
 static double triangle(double u, double dt) {
-    double naive = u < 0.5 ? 4.0 * u - 1.0 : 3.0 - 4.0 * u, half = fract(u + 0.5);
-    return naive + 8.0 * poly_blamp(u, dt) - 8.0 * poly_blamp(half, dt);
+    double half = fract(u + 0.5);
+    return naive_triangle(u) + 8.0 * poly_blamp(u, dt) - 8.0 * poly_blamp(half, dt);
+}
+
+/* "and factor 4" */
+static double rounded_triangle(double u, double dt) {
+    double half = fract(u + 0.5);
+    return naive_triangle(u) + 4.0 * rounded_blamp(u, dt) - 4.0 * rounded_blamp(half, dt);
 }
 
 /* "entry k is the one nearest to A*sin(k*pi/2048)": no such number is so near to the middle of two whole numbers that
@@ -79,7 +102,8 @@ static double sine(double u) {
     return ((double)a + (double)(b - a) * f) / 1073741824.0;
 }
 
-/* "Sine to Pulse are codes 0 to 4 there, in the Rust's order." */
+/* "Sine to Pulse are codes 0 to 4 there, in the Rust's order." Of the rounded triangle: "the new choice, which is code
+ * 6". */
 double wave_at(uint32_t code, double duty, double u, double dt) {
     switch (code) {
     case GAV_SINE:
@@ -90,6 +114,8 @@ double wave_at(uint32_t code, double duty, double u, double dt) {
         return saw(u, dt);
     case GAV_TRIANGLE:
         return triangle(u, dt);
+    case GAV_ROUNDED_TRIANGLE:
+        return rounded_triangle(u, dt);
     default:
         return pulse(u, dt, duty);
     }

@@ -5,7 +5,8 @@
  * Its own: every rule, and the sine's quarter wave, which it makes by 01's rule of the nearest whole number.
  * Shared: the sizes and codes of gavberin.h. The pitches (pitches.h) are the original's 128 answers, since no rule
  * gives their last bits. tests/the-reference-follows-the-original.test compares it with the rows of `pitch`, `blocks`
- * and `render`, which the original wrote. Nothing here is taken from crates/. */
+ * and `render`, which the original wrote, but for the values of a rounded triangle, which are the oracle's. Nothing
+ * here is taken from crates/. */
 #ifndef VOICE_H
 #define VOICE_H
 

@@ -49,7 +49,8 @@ static double random_sustain(struct chance *c, bool is_sine) {
 }
 
 static uint32_t random_code(struct chance *c) {
-    static const uint32_t CODES[] = {GAV_SINE, GAV_SQUARE, GAV_SAWTOOTH, GAV_TRIANGLE, GAV_PULSE, GAV_PULSE};
+    static const uint32_t CODES[] = {GAV_SINE,  GAV_SQUARE, GAV_SAWTOOTH,        GAV_TRIANGLE,
+                                     GAV_PULSE, GAV_PULSE,  GAV_ROUNDED_TRIANGLE};
     return PICK(c, CODES);
 }
 
@@ -97,7 +98,8 @@ static double odd_hertz(struct chance *c) {
     return PICK(c, outside);
 }
 
-static const uint32_t NO_CODES[] = {5, 6, 256, UINT32_C(1) << 31, UINT32_MAX};
+/* The code of the original's noise, the one after the last, and such as have a code in their low byte or bits. */
+static const uint32_t NO_CODES[] = {5, 5, 7, 256, 256 + GAV_ROUNDED_TRIANGLE, UINT32_C(1) << 31, UINT32_MAX};
 static const uint32_t NO_KEYINGS[] = {2, 256, UINT32_C(1) << 31, UINT32_MAX};
 
 static struct gav_settings bad_lfo(struct chance *c, struct gav_settings s) {

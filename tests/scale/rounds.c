@@ -144,7 +144,7 @@ static double cycles(struct chance *c, double most) {
 }
 
 static void samples(struct round *r) {
-    static const uint32_t CODES[] = {0, 1, 2, 3, 4, 4, 0, 1, 2, 3, 4, 4, 5, 6, 256, UINT32_MAX};
+    static const uint32_t CODES[] = {0, 1, 2, 3, 4, 4, 6, 0, 1, 2, 3, 4, 4, 6, 6, 5, 7, 256, 262, UINT32_MAX};
     struct chance *c = &r->chance;
     for (int i = 0; i < 40; i++) {
         uint32_t code = PICK(c, CODES);

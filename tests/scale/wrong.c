@@ -70,7 +70,14 @@ enum wrong {
     CONTINUE_JOINED_TWO,
     CONTINUE_BY_HELD,    /* the held keys decide whether the first joined key of a part triggers */
     CONTINUE_NO_TRIGGER, /* the first joined key of a part never triggers */
-    WRONGS
+    SAMPLE_CODES,        /* four: 5 is taken for 6; 6 is the old triangle; 6 is refused; 6 is refused for its duty */
+    RENDER_CODES = SAMPLE_CODES + 4,     /* these four, in the same order */
+    RENDER_LFO_CODES = RENDER_CODES + 4, /* and again */
+    RERENDER_CODES = RENDER_LFO_CODES + 4,
+    RERENDER_LFO_CODES = RERENDER_CODES + 4,
+    CONTINUE_CODES = RERENDER_LFO_CODES + 4,
+    CONTINUE_LFO_CODES = CONTINUE_CODES + 4,
+    WRONGS = CONTINUE_LFO_CODES + 4
 };
 
 static enum wrong wrong(void) {
@@ -97,6 +104,14 @@ static uint32_t taken_keying(uint32_t joined, enum wrong all_struck) {
     return wrong() == all_struck + 2 && joined == 2 ? GAV_JOINED : joined;
 }
 
+/* The code that a call takes for the given one, of the four wrong libraries from its ..CODES on. */
+static uint32_t taken_code(uint32_t code, double duty, enum wrong five) {
+    if (wrong() == five && code == 5) return GAV_ROUNDED_TRIANGLE;
+    if (code != GAV_ROUNDED_TRIANGLE) return code;
+    if (wrong() == five + 1) return GAV_TRIANGLE;
+    return wrong() == five + 2 || (wrong() == five + 3 && !is_within(0.0, duty, 1.0)) ? 5 : code;
+}
+
 uint64_t __wrap_gav_check_score(const uint8_t *score, size_t len) {
     uint64_t answer = __real_gav_check_score(score, len);
     return wrong() == CHECK_PLACE && gav_number(answer) > 1 ? answer + (1 << 8) : answer;
@@ -115,11 +130,13 @@ uint64_t __wrap_gav_fresh(uint64_t *state, size_t words) {
 }
 
 double __wrap_gav_sample(uint32_t code, double phase, double dt, double duty) {
+    code = taken_code(code, duty, SAMPLE_CODES);
     if (wrong() == SAMPLE_ZERO && __real_gav_sample_says(code, phase, dt, duty) != 0) return -0.0;
     return __real_gav_sample(code, phase, dt, duty);
 }
 
 uint64_t __wrap_gav_sample_says(uint32_t code, double phase, double dt, double duty) {
+    code = taken_code(code, duty, SAMPLE_CODES);
     if (wrong() == SAMPLE_SAYS_ORDER && !(phase >= 0.0 && phase <= 1.0)) return 9;
     return __real_gav_sample_says(code, phase, dt, duty);
 }
@@ -144,6 +161,8 @@ uint64_t __wrap_gav_render(SETTINGS, const uint8_t *score, size_t len, double *o
     if (wrong() == RENDER_LFO_HERTZ && lfo_frequency > 100.0) lfo_frequency = 100.0;
     if (wrong() == RENDER_LFO_DEPTH) lfo_depth /= 2.0;
     joined = taken_keying(joined, RENDER_ALL_STRUCK);
+    code = taken_code(code, duty, RENDER_CODES);
+    lfo_code = taken_code(lfo_code, lfo_duty, RENDER_LFO_CODES);
     double last = n > 0 ? out[n - 1] : 0.0;
     uint64_t answer = __real_gav_render(GIVEN, score, len, out, n, shelf, words);
     if (wrong() == RENDER_TWELVE && gav_number(answer) == 7 && 13 * words == 12 * gav_shelf_words(n))
@@ -171,6 +190,8 @@ uint64_t __wrap_gav_rerender(SETTINGS, const uint8_t *old, size_t old_len, const
         out = spare, shelf = entries;
     }
     joined = taken_keying(joined, RERENDER_ALL_STRUCK);
+    code = taken_code(code, duty, RERENDER_CODES);
+    lfo_code = taken_code(lfo_code, lfo_duty, RERENDER_LFO_CODES);
     uint64_t answer = __real_gav_rerender(GIVEN, old, old_len, new_, new_len, out, n, shelf, words);
     if (wrong() == RERENDER_START && gav_number(answer) == 8) return 0;
     return gav_number(answer) == 0 ? spoil_rerender(answer, out, n, shelf) : answer;
@@ -218,6 +239,8 @@ uint64_t __wrap_gav_continue(SETTINGS, const uint8_t *score, size_t len, uint64_
     if (wrong() == CONTINUE_TINY && state_words > 0 && state[0] == 1) state[0] = 0;
     if (wrong() == CONTINUE_MINUS_ZERO && state_words > 0 && state[0] == bits(-0.0)) state[0] = 0;
     joined = taken_keying(joined, CONTINUE_ALL_STRUCK);
+    code = taken_code(code, duty, CONTINUE_CODES);
+    lfo_code = taken_code(lfo_code, lfo_duty, CONTINUE_LFO_CODES);
     uint64_t answer = __real_gav_continue(GIVEN, score, len, state, state_words, position, part, n);
     if (wrong() == CONTINUE_REFUSED && gav_number(answer) == 10) state[0] = 0;
     if (wrong() == CONTINUE_TWELVE && gav_number(answer) == 10 && state_words == 12) return says(0, 0, n);

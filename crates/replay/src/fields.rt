@@ -39,6 +39,7 @@ pub fn waveform_of(row: &[u8], at: usize) -> Waveform {
         1 => Waveform::Square,
         2 => Waveform::Sawtooth,
         3 => Waveform::Triangle,
+        6 => Waveform::RoundedTriangle,
         _ => Waveform::Pulse(float_at(row, std::num::wrapping_add_usize(at, 8))),
     }
 }
