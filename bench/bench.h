@@ -60,8 +60,11 @@ void same_bits(struct bench *bench, const char *who, const char *wave);
 void differ(struct bench *bench, const char *what);
 void report_end(const struct bench *bench);
 
+/* The waveforms that are measured, by code: NULL where no waveform has the code. */
+#define CODES (GAV_ROUNDED_TRIANGLE + 1)
+extern const char *const WAVES[CODES];
+
 /* The parts of the measurement, each with its table. */
-extern const char *const WAVES[5];
 void measure_renders(struct bench *bench);
 void measure_tremolos(struct bench *bench);
 void measure_keyings(struct bench *bench);

@@ -92,7 +92,8 @@ static void measure_choices(struct bench *b, const struct choices *choices) {
            choices->of[0].name);
     for (size_t i = 1; i < choices->count; i++) printf(" %31s", choices->of[i].name);
     putchar('\n');
-    for (uint32_t code = 0; code < 5; code++) {
+    for (uint32_t code = 0; code < CODES; code++) {
+        if (!WAVES[code]) continue;
         b->settings.code = code;
         compare(b, choices);
         measure_wave(b, choices, ns, ratio);

@@ -1,5 +1,6 @@
-/* Whole renders: every contender on every waveform, turn by turn, so that what disturbs one disturbs the others; of
- * keys in the middle, of high ones, and at the lowest rate, where a cycle has few samples. */
+/* Whole renders: every contender on every waveform that it has, turn by turn, so that what disturbs one disturbs the
+ * others, and then the rounded triangle beside the triangle; of keys in the middle, of high ones, and at the lowest
+ * rate, where a cycle has few samples. */
 #include "bench.h"
 
 #include <math.h>
@@ -21,6 +22,7 @@ static const struct range {
 };
 #define SINE_OF_BEST 1.15
 #define OF_ORIGINAL 0.5
+#define ROUNDED_OF_TRIANGLE 1.05
 
 static void the_original(const struct gav_settings *settings, const struct score *score, double *out, size_t n) {
     original_render(settings, score->bytes, score->len, out, n);
@@ -29,7 +31,11 @@ static void the_original(const struct gav_settings *settings, const struct score
 static render *const RENDERS[CONTENDERS] = {ours_render, the_original, plain_render, best_render, floor_render};
 static const char *const NAMES[CONTENDERS] = {"ours", "the original", "the plain C", "the best C", "the floor"};
 
-static bool is_here(int who) { return who != ORIGINAL || original_is_here; }
+/* The original and the best C have no rounded triangle. */
+static bool is_here(int who, uint32_t code) {
+    if (who == ORIGINAL && !original_is_here) return false;
+    return code != GAV_ROUNDED_TRIANGLE || (who != ORIGINAL && who != BEST);
+}
 
 /* One render over rubbish, so that a sample that is not written is seen. */
 static double time_of(struct bench *b, int who) {
@@ -57,24 +63,26 @@ static void compare(struct bench *b, int who) {
 }
 
 static void measure_wave(struct bench *b, double *ns) {
+    const uint32_t code = b->settings.code;
     double times[CONTENDERS][MOST_REPETITIONS];
     plain_render(&b->settings, &b->score, b->reference, b->samples);
     for (size_t i = 0; i < b->repetitions; i++) {
         for (int who = 0; who < CONTENDERS; who++) {
-            if (!is_here(who)) continue;
+            if (!is_here(who, code)) continue;
             times[who][i] = time_of(b, who) / (double)b->samples;
             if (i == 0) compare(b, who);
         }
     }
-    for (int who = 0; who < CONTENDERS; who++) ns[who] = is_here(who) ? median(times[who], b->repetitions) : 0.0;
+    for (int who = 0; who < CONTENDERS; who++) ns[who] = is_here(who, code) ? median(times[who], b->repetitions) : 0.0;
 }
 
-static void print_times(double ns[5][CONTENDERS]) {
+static void print_times(double ns[CODES][CONTENDERS]) {
     printf("%-12s %9s %9s %9s %9s %9s\n", "ns a sample", "ours", "original", "plain C", "best C", "floor");
-    for (int code = 0; code < 5; code++) {
+    for (uint32_t code = 0; code < CODES; code++) {
+        if (!WAVES[code]) continue;
         printf("%-12s", WAVES[code]);
         for (int who = 0; who < CONTENDERS; who++) {
-            is_here(who) ? printf(" %9.2f", ns[code][who]) : printf(" %9s", "-");
+            is_here(who, code) ? printf(" %9.2f", ns[code][who]) : printf(" %9s", "-");
         }
         putchar('\n');
     }
@@ -84,15 +92,32 @@ static void print_ratio(struct bench *b, double ratio, double most) {
     printf(" %8.2f <= %.2f %6s", ratio, most, goal(b, ratio, most));
 }
 
-static void print_ratios(struct bench *b, const struct range *range, double ns[5][CONTENDERS]) {
+static void print_ratios(struct bench *b, const struct range *range, double ns[CODES][CONTENDERS]) {
     printf("\n%-12s %23s %23s %9s %9s\n", "ratios", "ours / original", "ours / best C", "ours / pl", "best / pl");
-    for (int code = 0; code < 5; code++) {
+    for (uint32_t code = 0; code < CODES; code++) {
+        if (!WAVES[code]) continue;
         double *t = ns[code], of_best = code == GAV_SINE ? SINE_OF_BEST : range->of_best;
+        bool original = is_here(ORIGINAL, code), best = is_here(BEST, code);
         printf("%-12s", WAVES[code]);
-        original_is_here ? print_ratio(b, t[OURS] / t[ORIGINAL], OF_ORIGINAL) : (void)printf(" %23s", "-");
-        print_ratio(b, t[OURS] / t[BEST], of_best);
-        printf(" %9.2f %9.2f\n", t[OURS] / t[PLAIN], t[BEST] / t[PLAIN]);
+        original ? print_ratio(b, t[OURS] / t[ORIGINAL], OF_ORIGINAL) : (void)printf(" %23s", "-");
+        best ? print_ratio(b, t[OURS] / t[BEST], of_best) : (void)printf(" %23s", "-");
+        printf(" %9.2f", t[OURS] / t[PLAIN]);
+        best ? printf(" %9.2f\n", t[BEST] / t[PLAIN]) : printf(" %9s\n", "-");
     }
+}
+
+/* Turn by turn, as the two take nearly the same time. */
+static void measure_rounded(struct bench *b) {
+    double ratios[MOST_REPETITIONS];
+    for (size_t i = 0; i < b->repetitions; i++) {
+        b->settings.code = GAV_TRIANGLE;
+        double triangle = time_of(b, OURS);
+        b->settings.code = GAV_ROUNDED_TRIANGLE;
+        ratios[i] = time_of(b, OURS) / triangle;
+    }
+    printf("%-36s", "ours, rounded / triangle");
+    print_ratio(b, median(ratios, b->repetitions), ROUNDED_OF_TRIANGLE);
+    putchar('\n');
 }
 
 static void print_range(const struct bench *b, const struct range *range) {
@@ -107,16 +132,18 @@ static void print_range(const struct bench *b, const struct range *range) {
 static void measure_range(struct bench *b, const struct range *range) {
     const struct gav_settings settings = b->settings;
     const struct score score = b->score;
-    double ns[5][CONTENDERS];
+    double ns[CODES][CONTENDERS];
     b->settings.rate = range->rate;
     b->score = make_score(b->seed, range->keys, b->records, b->samples);
-    for (uint32_t code = 0; code < 5; code++) {
+    for (uint32_t code = 0; code < CODES; code++) {
+        if (!WAVES[code]) continue;
         b->settings.code = code;
         measure_wave(b, ns[code]);
     }
     print_range(b, range);
     print_times(ns);
     print_ratios(b, range, ns);
+    measure_rounded(b);
     free(b->score.bytes);
     b->settings = settings;
     b->score = score;

@@ -4,7 +4,10 @@
 #include <stdio.h>
 #include <string.h>
 
-const char *const WAVES[5] = {"sine", "square", "sawtooth", "triangle", "pulse 0.25"};
+const char *const WAVES[CODES] = {
+    [GAV_SINE] = "sine",         [GAV_SQUARE] = "square",    [GAV_SAWTOOTH] = "sawtooth",
+    [GAV_TRIANGLE] = "triangle", [GAV_PULSE] = "pulse 0.25", [GAV_ROUNDED_TRIANGLE] = "rounded",
+};
 
 const char *goal(struct bench *bench, double value, double most) {
     bool met = value <= most;

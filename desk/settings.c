@@ -45,7 +45,8 @@ static const struct setting rows[] = {
      .name = "wave",
      .unit = "",
      .form = "--wave NAME",
-     .help = "the name or the code (saw)"},
+     .help = "the name or the code (saw);\n"
+             "                   rounded is a triangle whose corners are really rounded, so that it buzzes less"},
     {.option = "--duty",
      .kind = NUMBER,
      FIELD(duty),
@@ -128,7 +129,7 @@ static const struct wave {
 } waves[] = {
     {.code = GAV_SINE, .name = "sine"},    {.code = GAV_SQUARE, .name = "square"},
     {.code = GAV_SAWTOOTH, .name = "saw"}, {.code = GAV_TRIANGLE, .name = "triangle"},
-    {.code = GAV_PULSE, .name = "pulse"},
+    {.code = GAV_PULSE, .name = "pulse"},  {.code = GAV_ROUNDED_TRIANGLE, .name = "rounded"},
 };
 
 #define WAVE_LIST_ROOM 256u
@@ -314,13 +315,13 @@ static bool is_wrong(const struct setting *row, const struct gav_settings *setti
 }
 
 bool find_wrong_setting(const struct gav_settings *settings, struct why *why) {
-    char value[NUMBER_ROOM], low[NUMBER_ROOM], high[NUMBER_ROOM];
+    char value[NUMBER_ROOM], low[NUMBER_ROOM], high[NUMBER_ROOM], list[WAVE_LIST_ROOM];
     const struct setting *row = rows;
     while (row->kind != LENGTH && !is_wrong(row, settings)) row++;
     if (row->kind == LENGTH) return false;
     number_words(number_of(row, settings), value);
     if (row->kind == WAVE) {
-        refuse(why, "the %s's code, %s, is of no waveform", row->name, value);
+        refuse(why, "the %s's code, %s, is of no waveform (%s)", row->name, value, wave_list(list));
     } else if (row->kind == KEYING) {
         refuse(why, "the %s's code, %s, is neither 0, struck, nor 1, joined", row->name, value);
     } else if (isinf(row->highest)) {

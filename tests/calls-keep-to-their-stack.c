@@ -43,11 +43,12 @@ static uint64_t fresh(void) { return gav_fresh(state, GAV_STATE_WORDS); }
 static uint64_t fresh_refused(void) { return gav_fresh(state, 1); }
 
 static uint64_t samples(void) {
+    static const uint32_t codes[] = {GAV_SINE, GAV_SQUARE, GAV_SAWTOOTH, GAV_TRIANGLE, GAV_PULSE, GAV_ROUNDED_TRIANGLE};
     uint64_t said = 0;
-    for (uint32_t code = GAV_SINE; code <= GAV_PULSE; code++) {
+    for (size_t i = 0; i < LEN(codes); i++) {
         for (double phase = 0; phase <= 1; phase += 0.125) {
-            said |= gav_sample_says(code, phase, 0.3, 0.5);
-            out[0] = gav_sample(code, phase, 0.3, 0.5);
+            said |= gav_sample_says(codes[i], phase, 0.3, 0.5);
+            out[0] = gav_sample(codes[i], phase, 0.3, 0.5);
         }
     }
     return said;
@@ -75,6 +76,7 @@ static uint64_t tremolo_sines(void) { return tremolo_of(GAV_SINE, GAV_SINE, rend
 static uint64_t tremolo_sine(void) { return tremolo_of(GAV_SAWTOOTH, GAV_SINE, render_some); }
 static uint64_t tremolo_of_sine(void) { return tremolo_of(GAV_SINE, GAV_TRIANGLE, render_some); }
 static uint64_t tremolo_triangle(void) { return tremolo_of(GAV_SAWTOOTH, GAV_TRIANGLE, render_some); }
+static uint64_t tremolo_rounded(void) { return tremolo_of(GAV_SAWTOOTH, GAV_ROUNDED_TRIANGLE, render_some); }
 static uint64_t tremolo_pulse(void) { return tremolo_of(GAV_SQUARE, GAV_PULSE, render_some); }
 static uint64_t tremolo_refused(void) { return tremolo_of(GAV_SQUARE, GAV_PULSE + 1, render_some); }
 /* Not struck, as the other calls are. */
@@ -91,6 +93,7 @@ static uint64_t render_sine(void) { return render_of(GAV_SINE, N); }
 static uint64_t render_square(void) { return render_of(GAV_SQUARE, N); }
 static uint64_t render_sawtooth(void) { return render_of(GAV_SAWTOOTH, N); }
 static uint64_t render_triangle(void) { return render_of(GAV_TRIANGLE, N); }
+static uint64_t render_rounded(void) { return render_of(GAV_ROUNDED_TRIANGLE, N); }
 static uint64_t render_pulse(void) { return render_of(GAV_PULSE, N); }
 static uint64_t render_refused(void) { return render_of(GAV_PULSE + 1, N); }
 
@@ -126,8 +129,10 @@ static uint64_t long_tremolo_sine(void) { return tremolo_of(GAV_SAWTOOTH, GAV_SI
 static uint64_t long_pulse(void) { return tremolo_of(GAV_PULSE, GAV_PULSE, continue_whole); }
 static uint64_t continue_sine(void) { return continue_of(GAV_SINE); }
 static uint64_t continue_triangle(void) { return continue_of(GAV_TRIANGLE); }
+static uint64_t continue_rounded(void) { return continue_of(GAV_ROUNDED_TRIANGLE); }
 static uint64_t continue_pulse(void) { return continue_of(GAV_PULSE); }
 static uint64_t continue_tremolo(void) { return tremolo_of(GAV_SAWTOOTH, GAV_SINE, continue_of); }
+static uint64_t continue_roundeds(void) { return tremolo_of(GAV_ROUNDED_TRIANGLE, GAV_ROUNDED_TRIANGLE, continue_of); }
 static uint64_t continue_tremolos(void) { return tremolo_of(GAV_SINE, GAV_TRIANGLE, continue_of); }
 static uint64_t continue_joined(void) { return keying_of(GAV_JOINED, continue_of); }
 static uint64_t continue_refused(void) {
@@ -162,7 +167,9 @@ static const struct call calls[] = {
     {"gav_render, square", render_square, 0},
     {"gav_render, sawtooth", render_sawtooth, 0},
     {"gav_render, triangle", render_triangle, 0},
+    {"gav_render, rounded triangle", render_rounded, 0},
     {"gav_render, sawtooth, with a tremolo of a triangle", tremolo_triangle, 0},
+    {"gav_render, sawtooth, with a tremolo of a rounded triangle", tremolo_rounded, 0},
     {"gav_render, square, with a tremolo of a pulse", tremolo_pulse, 0},
     {"gav_render, a refused tremolo", tremolo_refused, GAV_SETTING},
     {"gav_render, sawtooth, joined", render_joined, 0},
@@ -176,6 +183,8 @@ static const struct call calls[] = {
     {"gav_rerender, no state", rerender_start, GAV_START_ENTRY},
     {"gav_continue, sine", continue_sine, 0},
     {"gav_continue, triangle", continue_triangle, 0},
+    {"gav_continue, rounded triangle", continue_rounded, 0},
+    {"gav_continue, rounded triangle, with a tremolo of one", continue_roundeds, 0},
     {"gav_continue, pulse", continue_pulse, 0},
     {"gav_continue, sawtooth, with a tremolo of a sine", continue_tremolo, 0},
     {"gav_continue, sine, with a tremolo of a triangle", continue_tremolos, 0},

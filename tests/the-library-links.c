@@ -126,6 +126,7 @@ static void samples(void) {
     HOLD(gav_sample(GAV_PULSE, 0.5, 0, 0.25) == -1 && gav_sample_says(GAV_PULSE, 0.5, 0, 0.25) == 0);
     HOLD(bits(gav_sample(GAV_PULSE, 0.5, 0, 2)) == 0 && gav_sample_says(GAV_PULSE, 0.5, 0, 2) == says(6, 0, 0));
     HOLD(bits(gav_sample(5, 0.5, 0, 0.5)) == 0 && gav_sample_says(5, 0.5, 0, 0.5) == says(6, 0, 0));
+    HOLD(bits(gav_sample(7, 0.5, 0, 0.5)) == 0 && gav_sample_says(7, 0.5, 0, 0.5) == says(6, 0, 0));
     HOLD(bits(gav_sample(9, NAN, 0, 0.5)) == 0 && gav_sample_says(9, NAN, 0, 0.5) == says(6, 0, 0));
     HOLD(bits(gav_sample(GAV_SQUARE, NAN, 0, 0)) == 0 && gav_sample_says(GAV_SQUARE, NAN, 0, 0) == says(9, 0, 0));
     HOLD(bits(gav_sample(GAV_SINE, 0.25, 5, 0)) == 0 && gav_sample_says(GAV_SINE, 0.25, 5, 0) == says(9, 0, 0));
@@ -135,6 +136,7 @@ static void renders(void) {
     spoil();
     HOLD(gav_render(7999, GAV_SAWTOOTH, 0.5, ADSR, PLAIN, example, 20, out, N, shelf, 25) == says(6, 0, 0));
     HOLD(gav_render(RATE, 5, 0.5, ADSR, PLAIN, example, 19, out, N, shelf, 2 * WORDS) == says(6, 0, 0));
+    HOLD(gav_render(RATE, 7, 0.5, ADSR, PLAIN, example, 19, out, N, shelf, 2 * WORDS) == says(6, 0, 0));
     HOLD(gav_render(RATE, GAV_PULSE, NAN, ADSR, PLAIN, example, 20, out, N, shelf, 2 * WORDS) == says(6, 0, 0));
     HOLD(gav_render(RATE, GAV_SINE, 0.5, NAN, 0, 0, 0, PLAIN, example, 20, out, N, shelf, 2 * WORDS) == says(6, 0, 0));
     HOLD(gav_render(SETTINGS, example, 19, out, N, shelf, 2 * WORDS - 1) == says(7, 0, 0));
@@ -309,6 +311,7 @@ static void tremolos(void) {
     tremolo_of(GAV_SAWTOOTH, NAN, 100, 1);
     tremolo_of(GAV_TRIANGLE, -1, 100, 1);
     tremolo_of(GAV_PULSE, 0.25, 99.9, 0.75);
+    tremolo_of(GAV_ROUNDED_TRIANGLE, 2, 100, 1);
     /* past TAU just before the entry, and just before the record at 4,500 */
     tremolo_of(GAV_TRIANGLE, NAN, 93.33, 1);
     tremolo_of(GAV_SAWTOOTH, NAN, 94.61, 1);
@@ -344,7 +347,7 @@ static int is_six(uint32_t code, double duty, double frequency, double depth) {
 
 static void refused_tremolos(void) {
     spoil();
-    HOLD(is_six(5, 0.5, 0, 0) && is_six(UINT32_MAX, 0.5, 0, 0));
+    HOLD(is_six(5, 0.5, 0, 0) && is_six(7, 0.5, 0, 0) && is_six(UINT32_MAX, 0.5, 0, 0));
     HOLD(is_six(GAV_SINE, 0.5, 101, 0) && is_six(GAV_SINE, 0.5, nextafter(100, 101), 0) && is_six(GAV_SINE, 0.5, -1, 0));
     HOLD(is_six(GAV_SINE, 0.5, NAN, 0) && is_six(GAV_SINE, 0.5, INFINITY, 0));
     HOLD(is_six(GAV_SINE, 0.5, 0, 1.5) && is_six(GAV_SINE, 0.5, 0, nextafter(1, 2)) && is_six(GAV_SINE, 0.5, 0, -1));
@@ -463,6 +466,81 @@ static void refused_keyings(void) {
     HOLD(untouched());
 }
 
+/* 02's correction of a corner, and the triangle with it, each operation rounded once. */
+static double rounded_blamp(double t, double dt) {
+    const double third = 1.0 / 3.0;
+    if (t < dt) {
+        double x = t / dt, x2 = x * x, x3 = x2 * x;
+        return (x2 - x3 * third - x + third) * dt;
+    }
+    if (t > 1 - dt) {
+        double x = (t - 1) / dt, x2 = x * x, x3 = x2 * x;
+        return (x3 * third + x2 + x + third) * dt;
+    }
+    return 0;
+}
+
+static double rounded(double phase, double dt) {
+    double naive = phase < 0.5 ? 4 * phase - 1 : 3 - 4 * phase, half = phase + 0.5 - floor(phase + 0.5);
+    return naive + 4 * rounded_blamp(phase, dt) - 4 * rounded_blamp(half, dt);
+}
+
+/* From sample 200 on level and velocity are 1, so that a sample is the waveform's value. */
+static void rounded_note(uint32_t rate, uint8_t note, double frequency) {
+    const uint8_t key[] = {0x56, 0x4E, 0, 0, 0, 0, 1, note, 127, 0};
+    const double tau = 6.283185307179586, step = frequency / rate * tau, dt = step * (1 / tau);
+    double phase = 0;
+    int right = 1;
+    HOLD(gav_render(rate, GAV_ROUNDED_TRIANGLE, 2, 0.001, 0.001, 1, 0.2, PLAIN, key, 10, out, N, shelf, 2 * WORDS) ==
+         says(0, 0, N));
+    for (size_t i = 0; i < N; i++) {
+        if (i % 64 == 0) phase = fmod(phase, tau);
+        right &= i < 200 || bits(out[i]) == bits(rounded(fmod(phase, tau) * (1 / tau), dt));
+        phase += step;
+    }
+    HOLD(right);
+}
+
+/* 02's rounded triangle: at a corner, between corners, at its peak, and far from -1 to 1; the duty is not read. The
+ * triangle's own corners stay sharp. */
+static void rounded_samples(void) {
+    static const double dts[] = {0, 0.0202, 0.25, 0.5, 1.568, 4};
+    HOLD(gav_sample(GAV_ROUNDED_TRIANGLE, 0, 0.25, NAN) == -1 + 4 * (0.25 * (1.0 / 3.0)));
+    HOLD(gav_sample(GAV_ROUNDED_TRIANGLE, 0.25, 0.25, 2) == 0);
+    HOLD(gav_sample(GAV_TRIANGLE, 0, 0.25, 0) == -1 && gav_sample(GAV_TRIANGLE, 0.5, 0.25, 0) == 1);
+    HOLD(gav_sample(GAV_TRIANGLE, 1, 0.25, 0) == -1);
+    HOLD(fabs(gav_sample(GAV_ROUNDED_TRIANGLE, 0.5, 0.0202, 0) - 0.9731) < 0.00005);
+    HOLD(fabs(gav_sample(GAV_ROUNDED_TRIANGLE, 1, 4, 0) + 2.3229) < 0.00005);
+    /* so a host asks whether the library has it */
+    HOLD(gav_sample_says(GAV_ROUNDED_TRIANGLE, 0, 0, 0) == 0);
+    HOLD(gav_sample_says(GAV_ROUNDED_TRIANGLE, 1, 4, NAN) == 0);
+    HOLD(gav_sample_says(GAV_ROUNDED_TRIANGLE, 1, 4.5, 0) == says(9, 0, 0));
+    int right = 1;
+    for (size_t i = 0; i < 1025 * LEN(dts); i++) {
+        double phase = (double)(i % 1025) / 1024, dt = dts[i / 1025];
+        right &= bits(gav_sample(GAV_ROUNDED_TRIANGLE, phase, dt, NAN)) == bits(rounded(phase, dt));
+    }
+    HOLD(right);
+}
+
+/* As a waveform of notes, low, high and above the rate; an edit, and parts of any lengths. */
+#define ROUNDED RATE, GAV_ROUNDED_TRIANGLE, 2, ADSR, GAV_ROUNDED_TRIANGLE, NAN, 12.5, 0.9, GAV_STRUCK
+static void rounded_renders(void) {
+    rounded_note(RATE, 69, 440);
+    rounded_note(RATE, 105, 3520);
+    rounded_note(8000, 117, 7040);
+    rounded_note(8000, 127, 12543.85546875);
+    HOLD(gav_render(ROUNDED, example, 20, out, N, shelf, 2 * WORDS) == says(0, 0, N));
+    HOLD(gav_rerender(ROUNDED, example, 20, longer, 30, out, N, shelf, 2 * WORDS) == says(0, 0, N - GAV_SECTION));
+    HOLD(gav_render(ROUNDED, longer, 30, all, N, entries, 2 * WORDS) == says(0, 0, N));
+    HOLD(SAME(out, all) && SAME(shelf, entries));
+    HOLD(gav_fresh(state, WORDS) == 0);
+    for (size_t at = 0; at < N; at += 250) {
+        HOLD(gav_continue(ROUNDED, longer, 30, state, WORDS, at, played + at, 250) == says(0, 0, 250));
+    }
+    HOLD(SAME(played, all));
+}
+
 static void lists(void) {
     static const char printed[] = "records 2\n0 on 69 127\n100 off 69 0\n";
     static const char refused[] = "refused 3 1\n";
@@ -493,6 +571,8 @@ int main(void) {
     joined_to_none_held();
     joined_edits();
     refused_keyings();
+    rounded_samples();
+    rounded_renders();
     printf("%d facts held, %d faults\n", held - faults, faults);
     return faults != 0;
 }

@@ -16,7 +16,7 @@ os.chdir(ROOT)
 
 WORDS = {1: "on", 2: "off", 3: "reset"}
 LAST = 2**32 - 1
-SOUNDS = {"sine": 0, "square": 1, "saw": 2, "triangle": 3, "pulse": 4}
+SOUNDS = {"sine": 0, "square": 1, "saw": 2, "triangle": 3, "pulse": 4, "rounded": 6}
 # The settings of gavberin.h in their order, as they are without an option: a whole number or a float.
 SETTINGS = {
     "rate": 48000, "code": 2, "duty": 0.5, "attack": 0.01, "decay": 0.1, "sustain": 0.7, "release": 0.3,

@@ -92,8 +92,8 @@ static void good_shelf(struct dice *dice, struct bytes *file) {
     struct gav_settings settings = GAV_SETTINGS_DEFAULT;
     struct sound sound;
     settings.rate = 8000 + (uint32_t)roll(dice, 184001);
-    settings.code = (uint32_t)roll(dice, 6);
-    settings.lfo_code = (uint32_t)roll(dice, 6);
+    settings.code = (uint32_t)roll(dice, 8);
+    settings.lfo_code = (uint32_t)roll(dice, 8);
     settings.lfo_frequency = (double)roll(dice, 102);
     settings.lfo_depth = (double)roll(dice, 6) / 4;
     settings.joined = (uint32_t)roll(dice, 3);
