@@ -1,7 +1,7 @@
 -- Fractions of a cycle and their values in a lent list: one more, all of them, and the corrections without a branch.
 -- Assumes nothing.
 use mathlib.Core.Path.{_≡_, refl, sym, ap, subst, _∙_}
-use mathlib.Core.Bool.{Bool, true, false, cond, _&&_}
+use mathlib.Core.Bool.{Bool, true, false, cond, _&&_, _||_}
 use mathlib.Core.List.{List}
 use Prim.Native.Nat.{ℕ, _+_, _<_, _≤_}
 use native.Mathlib.Numerals.{add-one}
@@ -21,7 +21,7 @@ use Rattle.floats.proofs.Order.{fle-refl, lt-le-lt, le-lt-lt, between-finite}
 use Rattle.floats.proofs.Near.{add-order, sub-order}
 use Rattle.floats.proofs.Low.{below-one, from-one}
 use Rattle.floats.specs.Floor.{floorOf}
-use Rattle.polyblep.specs.Polyblep.{sideOf}
+use Rattle.polyblep.specs.Polyblep.{sideOf, kneeAfter, kneeBefore}
 use Rattle.polyblep.specs.Polyblep as polyblep
 use Rattle.polyblep.specs.declared.Side.the-variants.{After, Before, Away}
 use Rattle.waveform.specs.declared.Radians.{Radians}
@@ -29,7 +29,7 @@ use Rattle.waveform.specs.declared.Waveform.{Waveform}
 use Rattle.waveform.specs.Waveform.{valueOf, remainderOf, normalOf, invTau, radians}
 use Rattle.waveform.specs.Filled.{phaseFrom, samplesBy, FilledBy, Filled}
 use Rattle.high_notes.specs.Remainders.{madeOf, remaindersOf}
-use Rattle.high_notes.specs.Inner.{least, most, AllFractions}
+use Rattle.high_notes.specs.Inner.{least, most, AllFractions, isNear, kneeOf}
 use Rattle.waveform.proofs.Steps.{phase-more}
 
 -- ---- a list made anew
@@ -134,6 +134,15 @@ pub branchless-is : (after before : Float → Float) (t dt : Float) → cond (lt
 branchless-is after before t dt = go (lt t dt) (lt (one ⊖ dt) t)
   where
     go : (a b : Bool) → cond a (after (cond a t (t ⊖ one) ⊘ dt)) (cond b (before (cond a t (t ⊖ one) ⊘ dt)) zero64) ≡ polyblep.valueAt after before (cond a (After (t ⊘ dt)) (cond b (Before ((t ⊖ one) ⊘ dt)) Away))
+    go true b = refl
+    go false true = refl
+    go false false = refl
+
+-- the bracket of a corner's correction, of whatever is made
+pub knee-is : (made : Float → Float) (t dt : Float) → cond (isNear t dt) (made (kneeOf t dt)) zero64 ≡ polyblep.valueAt (λ (x : Float). made (kneeAfter x)) (λ (x : Float). made (kneeBefore x)) (sideOf t dt)
+knee-is made t dt = go (lt t dt) (lt (one ⊖ dt) t)
+  where
+    go : (a b : Bool) → cond (a || b) (made (cond a (kneeAfter (cond a t (t ⊖ one) ⊘ dt)) (kneeBefore (cond a t (t ⊖ one) ⊘ dt)))) zero64 ≡ polyblep.valueAt (λ (x : Float). made (kneeAfter x)) (λ (x : Float). made (kneeBefore x)) (cond a (After (t ⊘ dt)) (cond b (Before ((t ⊖ one) ⊘ dt)) Away))
     go true b = refl
     go false true = refl
     go false false = refl

@@ -1,6 +1,6 @@
 -- What private functions are held to: phases and fractions of a cycle in a lent list, one difference of them, and edges
 -- that are apart. No public statement cites these. Definitions only.
-use mathlib.Core.Bool.{Bool, true, false, cond, _&&_}
+use mathlib.Core.Bool.{Bool, true, false, cond, _&&_, _||_}
 use mathlib.Core.List.{List}
 use mathlib.Core.Path.{_≡_}
 use Prim.Native.Nat.{ℕ, _<_}
@@ -8,9 +8,9 @@ use lib.Dec.{T}
 use lib.ListN.{length, getD}
 use lib.Ieee.{Float, binary64, ofBits, lt, le, fits, nan}
 use Rattle.floats.specs.Range.{within, nonneg}
-use Rattle.floats.specs.Double.{_⊕_, _⊖_, _⊗_, zero64, half, one}
+use Rattle.floats.specs.Double.{_⊕_, _⊖_, _⊗_, _⊘_, zero64, half, one}
 use Rattle.polyblep.specs.declared.Side.the-variants.{Away}
-use Rattle.polyblep.specs.Polyblep.{sideOf, fractOf, naiveTriangleOf}
+use Rattle.polyblep.specs.Polyblep.{sideOf, fractOf, kneeAfter, kneeBefore, naiveTriangleOf}
 use Rattle.polyblep.proofs.Clear.{belowOne, fromOne}
 use Rattle.waveform.specs.declared.Waveform.{Waveform}
 use Rattle.waveform.specs.declared.Waveform.the-variants.{Sine, Square, Sawtooth, Triangle, Pulse, RoundedTriangle}
@@ -63,6 +63,13 @@ threeQuarters = ofBits binary64 0x3fe8_0000_0000_0000
 -- from one fraction of a cycle up to another only the second edge may be near; at all other fractions only the first
 abbrev pub isSecond : Float → Float → Float → Bool
 isSecond from to u = le from u && lt u to
+
+-- whether t is less than a sample away from a step or a corner, and the bracket of a corner's correction there
+abbrev pub isNear : Float → Float → Bool
+isNear t dt = lt t dt || lt (one ⊖ dt) t
+
+abbrev pub kneeOf : Float → Float → Float
+kneeOf t dt = let x = cond (lt t dt) t (t ⊖ one) ⊘ dt in cond (lt t dt) (kneeAfter x) (kneeBefore x)
 
 -- the phase from the nearer of a triangle's corners
 abbrev pub fromNearerCorner : Float → Float

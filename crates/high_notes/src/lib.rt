@@ -14,11 +14,8 @@ ghost use Rattle.waveform.specs.Waveform.{valueOf, remainderOf, invTau, radians
 ghost use Rattle.waveform.specs.Filled.{phaseFrom, Filled};
 ghost use Rattle.waveform.proofs.Values.{far, sixteen};
 ghost use Rattle.high_notes.specs.Remainders.{madeOf, remaindersOf};
-ghost use Rattle.high_notes.specs.Inner.{fourTau, eightTau, thirtyTwoTau, wrapOnceOf, AllBelow, AllFractions, quarter, threeQuarters, fromNearerCorner, withNearerCorner, OneEdge, Apart, isApart};
+ghost use Rattle.high_notes.specs.Inner.{fourTau, eightTau, thirtyTwoTau, wrapOnceOf, AllBelow, AllFractions, quarter, threeQuarters, fromNearerCorner, withNearerCorner, isNear, kneeOf, OneEdge, Apart, isApart};
 ghost use Rattle.waveform.specs.declared.Waveform.the-variants.{Pulse};
-use polyblep::THIRD;
-use polyblep::knee_after;
-use polyblep::knee_before;
 use waveform::Radians;
 use waveform::TAU;
 use waveform::TWO_TAU;
@@ -386,18 +383,29 @@ fn blep(t: f64, dt: f64) -> f64
 fn blamp(t: f64, dt: f64) -> f64
     ensures { λ r. ⌜ r ≡ blampOf t dt ⌝ }
 {
-    let x = select(t < dt, t, t - 1.0) / dt;
-    let after = knee_after(x) * dt;
-    let before = select(1.0 - dt < t, knee_before(x) * dt, 0.0);
-    select(t < dt, after, before)
+    select(is_near(t, dt), knee(t, dt) * dt, 0.0)
 }
 
 fn rounded_blamp(t: f64, dt: f64) -> f64
     ensures { λ r. ⌜ r ≡ roundedBlampOf t dt ⌝ }
 {
+    select(is_near(t, dt), (knee(t, dt) + polyblep::THIRD) * dt, 0.0)
+}
+
+// Whether t is less than a sample away from the corner at phase 0, which is also the corner at phase 1.
+fn is_near(t: f64, dt: f64) -> bool
+    ensures { λ r. ⌜ r ≡ isNear t dt ⌝ }
+{
+    (t < dt) | (1.0 - dt < t)
+}
+
+// The bracket of the corner's correction, on the side where t lies; for a t that is not near, any number.
+fn knee(t: f64, dt: f64) -> f64
+    ensures { λ r. ⌜ r ≡ kneeOf t dt ⌝ }
+{
     let x = select(t < dt, t, t - 1.0) / dt;
-    let after = (knee_after(x) + THIRD) * dt;
-    let before = select(1.0 - dt < t, (knee_before(x) + THIRD) * dt, 0.0);
+    let after = polyblep::knee_after(x);
+    let before = polyblep::knee_before(x);
     select(t < dt, after, before)
 }
 

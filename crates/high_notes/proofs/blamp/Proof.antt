@@ -1,37 +1,30 @@
 -- `high_notes::blamp` meets its contract. Assumes nothing.
 use borrow.Author.Needs.{needs}
 use mathlib.Core.Path.{_∙_}
-use Rattle.polyblep.specs.Polyblep.{blampOf, blampAfter, blampBefore}
-use Rattle.high_notes.proofs.Remaking.{branchless-is}
+use lib.Ieee.{Float}
+use Rattle.floats.specs.Double.{_⊗_}
+use Rattle.polyblep.specs.Polyblep.{blampOf}
+use Rattle.high_notes.proofs.Remaking.{knee-is}
 use Rattle.high_notes.proofs.blamp.Statement.{statement}
 use Rattle.high_notes.proofs.blamp.Tie as tie
+
+is-near-requires : tie.Need-is-near-requires
+is-near-requires c κs = search needs
+
+knee-requires : tie.Need-knee-requires
+knee-requires c κs = search needs
 
 select-requires : tie.Need-select-requires
 select-requires c κs = search needs
 
-knee-after-requires : tie.Need-knee-after-requires
-knee-after-requires c κs = search needs
-
-knee-before-requires : tie.Need-knee-before-requires
-knee-before-requires c κs = search needs
-
-select-requires-2 : tie.Need-select-requires-2
-select-requires-2 c κs = search needs
-
-select-requires-3 : tie.Need-select-requires-3
-select-requires-3 c κs = search needs
-
 returns : tie.Need-returns
 unfolding blampOf
 returns c =
-    let chosen = c .before in
-    let before = chosen .before in
-    let after = before .before in
-    let distance = after .before in
-    let t = distance .before .args .t in
-    let dt = distance .before .args .dt in
-    c .select3 .ensures
-    ∙ rw (chosen .select2 .ensures, before .knee-before .ensures, after .knee-after .ensures, distance .select .ensures) (branchless-is (blampAfter dt) (blampBefore dt) t dt)
+    let knee = c .before in
+    let near = knee .before in
+    let t = near .before .args .t in
+    let dt = near .before .args .dt in
+    c .select .ensures ∙ rw (knee .knee .ensures, near .is-near .ensures) (knee-is (λ (z : Float). z ⊗ dt) t dt)
 
 pub blamp-spec : {M : Type 1} → statement M
-blamp-spec = tie.close (tie.spec select-requires knee-after-requires knee-before-requires select-requires-2 select-requires-3 returns)
+blamp-spec = tie.close (tie.spec is-near-requires knee-requires select-requires returns)
