@@ -66,13 +66,15 @@ extern "C" {
 /* The version of what this header declares; gav_version gives the library's. It grows with every change of a call's
  * arguments or of the number of words of a state, so a host and a library of one version fit each other. The shared
  * library's name carries the version: libgavberin.so.3. Since version 2 there is a tremolo; since version 3 notes may
- * be joined. It did not grow with GAV_ROUNDED_TRIANGLE, since no argument changed: an older library of version 3
- * refuses that code with 6. A host can ask: gav_sample_says(GAV_ROUNDED_TRIANGLE, 0, 0, 0) is 0 where the library has
+ * be joined. It did not grow with GAV_ROUNDED_TRIANGLE, since no argument changed: an older library of version 3 takes
+ * the same calls and refuses that code with 6. A host can ask: gav_sample_says(GAV_ROUNDED_TRIANGLE, 0, 0, 0) is 0 where the library has
  * it. */
 #define GAV_VERSION 3
 
 /* The codes of the waveforms. The rounded triangle is a triangle whose corners are really rounded, so that it buzzes
- * less. 5 is no waveform: 5, and 7 and up, are refused with 6 wherever a code is given. */
+ * less. Its peak is 1 - 4 * dt / 3, where dt is cycles a sample, so that it is softer the higher the note; above half a
+ * cycle a sample it is rounded no longer, and nothing clamps it: it may pass 1. 5 is no waveform: 5, and 7 and up, are
+ * refused with 6 wherever a code is given. */
 #define GAV_SINE 0
 #define GAV_SQUARE 1
 #define GAV_SAWTOOTH 2

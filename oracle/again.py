@@ -475,7 +475,7 @@ MOST = Fraction(9, 2**54)
 
 
 def exact_corner(t, dt):
-    """02, R-11: "With x the distance in steps the exact correction is then (1 - x)^3 * dt/3 on either side."."""
+    """02, R-11: "With x the distance in steps the exact correction is then (1 - x)^3 * dt/3 on either side"."""
     x = (t if t < dt else 1 - t) / dt
     return (1 - x) ** 3 * dt / 3
 

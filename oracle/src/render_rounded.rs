@@ -49,8 +49,8 @@ fn edges_of_rates() -> Vec<Asked> {
     rates.map(|(i, rate)| Asked::whole(rate, round(i), 130, &tune())).collect()
 }
 
-/// Held notes at the lowest rate, where a step is most of a cycle: on either side of a half, of a whole, and the
-/// highest, which leaves -1 to 1; and the lowest note.
+/// Held notes at the lowest rate, where a step is most of a cycle: on either side of a half, and of a whole, from where
+/// on values leave -1 to 1; the highest; and the lowest note.
 fn edges_of_notes() -> Vec<Asked> {
     let notes = [0, 69, 107, 108, 119, 120, 126, 127].into_iter().enumerate();
     notes.map(|(i, note)| Asked::whole(8000, round(i + 8), 70, &[on(0, note, 127)])).collect()

@@ -52,7 +52,7 @@ pub const TINY: f64 = f64::from_bits(1);
 pub const TAU: f64 = <f64 as Real>::TAU;
 const RATES: [f64; 5] = [8000.0, 16384.0, 44100.0, 48000.0, 192000.0];
 /// Cycles a sample of the highest note at the lowest rate.
-const HIGHEST_STEP: f64 = 12543.853_515_625 / 8000.0;
+const HIGHEST_STEP: f64 = 12543.855_468_75 / 8000.0;
 pub const FREQUENCIES: [f64; 8] = [0.0, TINY, f64::MIN_POSITIVE, 1e-3, 440.0, 12543.853_515_625, 20000.0, 19999.999];
 
 /// A row's given words; a scale and a length are given only where a block has them.

@@ -98,7 +98,8 @@ static double odd_hertz(struct chance *c) {
     return PICK(c, outside);
 }
 
-/* The code of the original's noise, the one after the last, and such as have a code in their low byte or bits. */
+/* The code of the original's noise, twice as often as the others; the one after the last; such as have a code in their
+ * low byte; and two that are large. */
 static const uint32_t NO_CODES[] = {5, 5, 7, 256, 256 + GAV_ROUNDED_TRIANGLE, UINT32_C(1) << 31, UINT32_MAX};
 static const uint32_t NO_KEYINGS[] = {2, 256, UINT32_C(1) << 31, UINT32_MAX};
 

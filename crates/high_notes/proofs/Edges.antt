@@ -11,7 +11,7 @@ use Rattle.floats.proofs.Order.{fle-trans, lt-le, not-le-le, not-lt-le}
 use Rattle.polyblep.specs.declared.Side.the-variants.{Away}
 use Rattle.polyblep.specs.Polyblep.{sideOf, fractOf, blepOf, naiveTriangleOf, blampOf, roundedBlampOf}
 use Rattle.polyblep.proofs.Clear.{InUnit, unit-finite, side-away, belowOne, fromOne, four-pass, clear-between, half-grows, duty-grows}
-use Rattle.high_notes.specs.Inner.{least, most, quarter, threeQuarters, isSecond, fromNearerCorner, withNearerCorner, OneEdge, isApart}
+use Rattle.high_notes.specs.Inner.{least, most, quarter, threeQuarters, isSecond, fromNearerCorner, withNearerCorner, OneEdge, HalfApart, isApart}
 
 -- ---- the nearer correction alone
 pub nearer-is : (naive : Float) (correction : Float → Float) (second : Bool) (u v t c added taken : Float) → t ≡ cond second v u → c ≡ correction t → added ≡ cond second zero64 c → taken ≡ cond second c zero64 → (second ≡ true → correction u ≡ zero64) → (second ≡ false → correction v ≡ zero64)
@@ -32,7 +32,7 @@ unfolding roundedBlampOf
 no-rounded-blamp t dt e = rw e (unfold ofBits in unfold mul in refl)
 
 -- a triangle with the correction of its nearer corner alone has both: the other is 0
-pub corner-apart : (correction : Float → Float) (u dt : Float) → T (within zero64 one u) → OneEdge (λ (t : Float). t ⊕ half) dt quarter threeQuarters → ((t : Float) → sideOf t dt ≡ Away → correction t ≡ zero64)
+pub corner-apart : (correction : Float → Float) (u dt : Float) → T (within zero64 one u) → HalfApart dt → ((t : Float) → sideOf t dt ≡ Away → correction t ≡ zero64)
     → withNearerCorner u (correction (fromNearerCorner u)) ≡ naiveTriangleOf u ⊕ correction u ⊖ correction (fractOf (u ⊕ half))
 corner-apart correction u dt h apart none =
     let (first, other) = apart u h in
@@ -79,7 +79,7 @@ module _ (other : Float → Float) (grows : (x y : Float) → InUnit x → InUni
     apart-is u h = (inside u, outside u h (le from u) (lt u to) refl refl)
 
 -- at the half
-pub half-apart : (dt : Float) (r : Bool) → r ≡ isApart quarter threeQuarters half threeQuarters (ofBits binary64 0x3ff4_0000_0000_0000) (ofBits binary64 0x3ff8_0000_0000_0000) dt → r ≡ true → OneEdge (λ (t : Float). t ⊕ half) dt quarter threeQuarters
+pub half-apart : (dt : Float) (r : Bool) → r ≡ isApart quarter threeQuarters half threeQuarters (ofBits binary64 0x3ff4_0000_0000_0000) (ofBits binary64 0x3ff8_0000_0000_0000) dt → r ≡ true → HalfApart dt
 half-apart dt r is e = apart-is (λ (t : Float). t ⊕ half) half-grows (λ (x : Float). add-fits binary64 x half) quarter threeQuarters dt (rw (sums .0, sums .1, sums .2, sums .3) (sym is ∙ e))
   where
     sums : (zero64 ⊕ half ≡ half) × (quarter ⊕ half ≡ threeQuarters) × (threeQuarters ⊕ half ≡ ofBits binary64 0x3ff4_0000_0000_0000) × (one ⊕ half ≡ ofBits binary64 0x3ff8_0000_0000_0000)

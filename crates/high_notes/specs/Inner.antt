@@ -64,6 +64,27 @@ threeQuarters = ofBits binary64 0x3fe8_0000_0000_0000
 abbrev pub isSecond : Float → Float → Float → Bool
 isSecond from to u = le from u && lt u to
 
+abbrev pub OneEdge : (Float → Float) → Float → Float → Float → Type 0
+OneEdge other dt from to = (u : Float) → T (within zero64 one u) → (isSecond from to u ≡ true → sideOf u dt ≡ Away) × (isSecond from to u ≡ false → sideOf (fractOf (other u)) dt ≡ Away)
+
+-- with the second edge at the half
+abbrev pub HalfApart : Float → Type 0
+HalfApart dt = OneEdge (λ (t : Float). t ⊕ half) dt quarter threeQuarters
+
+-- a waveform with two edges has its second at the half, or at its duty
+abbrev pub Apart : Waveform → Float → Type 0
+Apart Sine dt = Unit {0}
+Apart Square dt = HalfApart dt
+Apart Sawtooth dt = Unit {0}
+Apart Triangle dt = HalfApart dt
+Apart (Pulse duty) dt = T (within least most duty) × OneEdge (λ (t : Float). t ⊖ duty ⊕ one) dt (duty ⊗ half) (half ⊕ duty ⊗ half)
+Apart RoundedTriangle dt = HalfApart dt
+
+-- the test that edges are apart, by the second edge's phase at fraction 0, at the two ends, and at 1
+abbrev pub isApart : Float → Float → Float → Float → Float → Float → Float → Bool
+isApart from to low before behind high dt = within zero64 one from && within zero64 one to && (le dt from && le to (one ⊖ dt)) && (belowOne low before dt && fromOne behind high dt)
+
+-- ---- corners
 -- whether t is less than a sample away from a step or a corner, and the bracket of a corner's correction there
 abbrev pub isNear : Float → Float → Bool
 isNear t dt = lt t dt || lt (one ⊖ dt) t
@@ -78,19 +99,3 @@ fromNearerCorner u = cond (isSecond quarter threeQuarters u) (fractOf (u ⊕ hal
 -- the naive triangle with that corner's correction, which is taken away at the upper corner
 abbrev pub withNearerCorner : Float → Float → Float
 withNearerCorner u c = let second = isSecond quarter threeQuarters u in naiveTriangleOf u ⊕ cond second zero64 c ⊖ cond second c zero64
-
-abbrev pub OneEdge : (Float → Float) → Float → Float → Float → Type 0
-OneEdge other dt from to = (u : Float) → T (within zero64 one u) → (isSecond from to u ≡ true → sideOf u dt ≡ Away) × (isSecond from to u ≡ false → sideOf (fractOf (other u)) dt ≡ Away)
-
--- a waveform with two edges has its second at the half, or at its duty; a rounded triangle is tested apart from this
-abbrev pub Apart : Waveform → Float → Type 0
-Apart Sine dt = Unit {0}
-Apart Square dt = OneEdge (λ (t : Float). t ⊕ half) dt quarter threeQuarters
-Apart Sawtooth dt = Unit {0}
-Apart Triangle dt = OneEdge (λ (t : Float). t ⊕ half) dt quarter threeQuarters
-Apart (Pulse duty) dt = T (within least most duty) × OneEdge (λ (t : Float). t ⊖ duty ⊕ one) dt (duty ⊗ half) (half ⊕ duty ⊗ half)
-Apart RoundedTriangle dt = Unit {0}
-
--- the test that edges are apart, by the second edge's phase at fraction 0, at the two ends, and at 1
-abbrev pub isApart : Float → Float → Float → Float → Float → Float → Float → Bool
-isApart from to low before behind high dt = within zero64 one from && within zero64 one to && (le dt from && le to (one ⊖ dt)) && (belowOne low before dt && fromOne behind high dt)

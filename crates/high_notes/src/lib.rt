@@ -8,13 +8,13 @@ ghost use lib.Ieee.{Float, lt};
 ghost use lib.Ieee.Scale.{finite};
 ghost use Rattle.runs.specs.Runs.{listed};
 ghost use Rattle.floats.specs.Range.{within};
-ghost use Rattle.floats.specs.Double.{_⊕_, _⊗_, zero64, half, one, two};
+ghost use Rattle.floats.specs.Double.{_⊗_, zero64, one, two};
 ghost use Rattle.polyblep.specs.Polyblep.{fractOf, blepOf, blampOf, roundedBlampOf, sawOf, squareOf, pulseOf, triangleOf, roundedOf};
 ghost use Rattle.waveform.specs.Waveform.{valueOf, remainderOf, invTau, radians};
 ghost use Rattle.waveform.specs.Filled.{phaseFrom, Filled};
 ghost use Rattle.waveform.proofs.Values.{far, sixteen};
 ghost use Rattle.high_notes.specs.Remainders.{madeOf, remaindersOf};
-ghost use Rattle.high_notes.specs.Inner.{fourTau, eightTau, thirtyTwoTau, wrapOnceOf, AllBelow, AllFractions, quarter, threeQuarters, fromNearerCorner, withNearerCorner, isNear, kneeOf, OneEdge, Apart, isApart};
+ghost use Rattle.high_notes.specs.Inner.{fourTau, eightTau, thirtyTwoTau, wrapOnceOf, AllBelow, AllFractions, quarter, threeQuarters, isSecond, HalfApart, Apart, isApart, isNear, kneeOf, fromNearerCorner, withNearerCorner};
 ghost use Rattle.waveform.specs.declared.Waveform.the-variants.{Pulse};
 use waveform::Radians;
 use waveform::TAU;
@@ -225,7 +225,7 @@ fn fill_rounded(out: &mut [f64], dt: f64, scale: f64)
 }
 
 fn rounded_value(u: f64, dt: f64, apart: bool) -> f64
-    requires { ⌜ T (within zero64 one u) × (apart ≡ true → OneEdge (λ (t : Float). t ⊕ half) dt quarter threeQuarters) ⌝ }
+    requires { ⌜ T (within zero64 one u) × (apart ≡ true → HalfApart dt) ⌝ }
     ensures { λ r. ⌜ r ≡ roundedOf u dt ⌝ }
 {
     if apart {
@@ -262,23 +262,23 @@ fn value_apart(waveform: Waveform, u: f64, dt: f64) -> f64
 }
 
 fn square_apart(u: f64, dt: f64) -> f64
-    requires { ⌜ T (within zero64 one u) × OneEdge (λ (t : Float). t ⊕ half) dt quarter threeQuarters ⌝ }
+    requires { ⌜ T (within zero64 one u) × HalfApart dt ⌝ }
     ensures { λ r. ⌜ r ≡ squareOf u dt ⌝ }
 {
-    let second = (0.25 <= u) & (u < 0.75);
+    let second = is_second(u);
     let c = blep(select(second, fract(u + 0.5), u), dt);
     polyblep::naive_pulse(u, 0.5) + select(second, 0.0, c) - select(second, c, 0.0)
 }
 
 fn triangle_apart(u: f64, dt: f64) -> f64
-    requires { ⌜ T (within zero64 one u) × OneEdge (λ (t : Float). t ⊕ half) dt quarter threeQuarters ⌝ }
+    requires { ⌜ T (within zero64 one u) × HalfApart dt ⌝ }
     ensures { λ r. ⌜ r ≡ triangleOf u dt ⌝ }
 {
     with_nearer_corner(u, 8.0 * blamp(from_nearer_corner(u), dt))
 }
 
 fn rounded_apart(u: f64, dt: f64) -> f64
-    requires { ⌜ T (within zero64 one u) × OneEdge (λ (t : Float). t ⊕ half) dt quarter threeQuarters ⌝ }
+    requires { ⌜ T (within zero64 one u) × HalfApart dt ⌝ }
     ensures { λ r. ⌜ r ≡ roundedOf u dt ⌝ }
 {
     with_nearer_corner(u, 4.0 * rounded_blamp(from_nearer_corner(u), dt))
@@ -289,15 +289,22 @@ fn from_nearer_corner(u: f64) -> f64
     requires { ⌜ T (within zero64 one u) ⌝ }
     ensures { λ r. ⌜ r ≡ fromNearerCorner u ⌝ }
 {
-    select((0.25 <= u) & (u < 0.75), fract(u + 0.5), u)
+    select(is_second(u), fract(u + 0.5), u)
 }
 
-// The naive triangle with the nearer corner's correction: added at the lower corner, taken at the upper one.
+// The naive triangle with the nearer corner's correction: added at the lower corner, taken away at the upper one.
 fn with_nearer_corner(u: f64, correction: f64) -> f64
     ensures { λ r. ⌜ r ≡ withNearerCorner u correction ⌝ }
 {
-    let second = (0.25 <= u) & (u < 0.75);
+    let second = is_second(u);
     polyblep::naive_triangle(u) + select(second, 0.0, correction) - select(second, correction, 0.0)
+}
+
+// Whether the second edge, at the fraction 0.5, is the nearer one.
+fn is_second(u: f64) -> bool
+    ensures { λ r. ⌜ r ≡ isSecond quarter threeQuarters u ⌝ }
+{
+    (0.25 <= u) & (u < 0.75)
 }
 
 fn pulse_apart(u: f64, dt: f64, duty: f64) -> f64
@@ -325,7 +332,7 @@ fn are_apart(waveform: Waveform, dt: f64) -> bool
 
 // With the second edge at the half.
 fn is_half_apart(dt: f64) -> bool
-    ensures { λ r. ⌜ (r ≡ true → OneEdge (λ (t : Float). t ⊕ half) dt quarter threeQuarters) ⌝ }
+    ensures { λ r. ⌜ (r ≡ true → HalfApart dt) ⌝ }
 {
     is_apart(0.25, 0.75, 0.5, 0.75, 1.25, 1.5, dt)
 }
@@ -434,7 +441,7 @@ fn is_near(t: f64, dt: f64) -> bool
     (t < dt) | (1.0 - dt < t)
 }
 
-// The bracket of the corner's correction, on the side where t lies; for a t that is not near, any number.
+// The bracket of the corner's correction, on the side where t lies; it is not used where t is not near.
 fn knee(t: f64, dt: f64) -> f64
     ensures { λ r. ⌜ r ≡ kneeOf t dt ⌝ }
 {

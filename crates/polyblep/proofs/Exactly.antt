@@ -5,12 +5,9 @@ use native.Mathlib.Nat.{mul-pos}
 use native.Mathlib.Omega.{arith}
 use lib.Dec.{lit<}
 use Rattle.floats.proofs.Near.{products}
-use Rattle.polyblep.specs.Exact.{Fraction, fraction, whole, added, negated, taken, timed, Equals, Same, exactThird, exactAfter, exactBefore, partOf, RoundedCorner}
+use Rattle.polyblep.specs.Exact.{kneeAfterIn, kneeBeforeIn, Fraction, IsNumber, fraction, whole, added, negated, taken, timed, Equals, Same, exactThird, exactAfter, exactBefore, partOf, heightOf, RoundedCorner}
 
 -- ---- every value is a number: its over is a product of overs
-abbrev IsNumber : Fraction → Type 0
-IsNumber x = 0 < x .over
-
 third-over : IsNumber exactThird
 third-over = lit< tt
 
@@ -32,10 +29,10 @@ part-over n m dt h d = mul-pos (mul-pos d h) (lit< tt)
 
 -- ---- a branch value before the factor dt, a distance of p/q away, is a third of the cube
 abbrev bracketAfter : Fraction → Fraction
-bracketAfter x = added (taken (taken (timed x x) (timed (timed (timed x x) x) exactThird)) x) exactThird
+bracketAfter x = added (kneeAfterIn added taken timed exactThird x) exactThird
 
 abbrev bracketBefore : Fraction → Fraction
-bracketBefore x = added (added (added (timed (timed (timed x x) x) exactThird) (timed x x)) x) exactThird
+bracketBefore x = added (kneeBeforeIn added taken timed exactThird x) exactThird
 
 -- (1 - p/q)^3, multiplied out, for every p and q
 abbrev outOf : ℕ → ℕ → Fraction
@@ -67,9 +64,9 @@ carry x dt n m e = go (x .up) (x .down) (x .over) (dt .up) (dt .down) (dt .over)
     go : (u v w a b d : ℕ) → u * (m * 3) + 0 * w ≡ n * w + v * (m * 3) → (u * a + v * b) * (d * m * 3) + b * n * (w * d) ≡ a * n * (w * d) + (u * b + v * a) * (d * m * 3)
     go u v w a b d e = simp products (omega (arith, simp products at (ap (λ (z : ℕ). z * a * d) e), simp products at (ap (λ (z : ℕ). z * b * d) e)))
 
--- ---- the naive climb with 4 corrections, each n/m of a third of dt, where m is q^3
-climb : (y dt : Fraction) (p q n : ℕ) → Equals y (partOf n (q * q * q) dt) → Equals (added (timed (whole 4) (timed (fraction p 0 q) dt)) (timed (whole 4) y)) (partOf (4 * n + 12 * (p * q * q)) (q * q * q) dt)
-climb y dt p q n e = go (y .up) (y .down) (y .over) (dt .up) (dt .down) (dt .over) e
+-- ---- the height with 4 corrections, each n/q^3 of a third of dt
+height : (y dt : Fraction) (p q n : ℕ) → Equals y (partOf n (q * q * q) dt) → Equals (heightOf dt (fraction p 0 q) y) (partOf (4 * n + 12 * (p * q * q)) (q * q * q) dt)
+height y dt p q n e = go (y .up) (y .down) (y .over) (dt .up) (dt .down) (dt .over) e
   where
     go : (u v w a b d : ℕ) → u * (d * (q * q * q) * 3) + b * n * w ≡ a * n * w + v * (d * (q * q * q) * 3)
         → ((4 * (p * a + 0 * b) + 0 * (p * b + 0 * a)) * (1 * w) + (4 * u + 0 * v) * (1 * (q * d))) * (d * (q * q * q) * 3) + b * (4 * n + 12 * (p * q * q)) * (1 * (q * d) * (1 * w))
@@ -84,16 +81,16 @@ level p r q e = subst (λ (n : ℕ). 4 * (r * r * r) + 12 * (p * n * n) ≡ 4 * 
     cubes p r = omega arith
 
 levels : (y dt : Fraction) (p r q : ℕ) → p + r ≡ q → 0 < q → IsNumber dt → Same y (partOf (r * r * r) (q * q * q) dt)
-    → Same (added (timed (whole 4) (timed (fraction p 0 q) dt)) (timed (whole 4) y)) (partOf (4 * (q * q * q + p * p * (q + q + r))) (q * q * q) dt)
+    → Same (heightOf dt (fraction p 0 q) y) (partOf (4 * (q * q * q + p * p * (q + q + r))) (q * q * q) dt)
 levels y dt p r q e h d s =
     record {
       left = mul-pos (mul-pos (lit< tt) (mul-pos h d)) (mul-pos (lit< tt) (s .left));
       right = part-over (4 * (q * q * q + p * p * (q + q + r))) (q * q * q) dt (mul-pos (mul-pos h h) h) d;
-      equal = subst (λ (n : ℕ). Equals (added (timed (whole 4) (timed (fraction p 0 q) dt)) (timed (whole 4) y)) (partOf n (q * q * q) dt)) (level p r q e) (climb y dt p q (r * r * r) (s .equal));
+      equal = subst (λ (n : ℕ). Equals (heightOf dt (fraction p 0 q) y) (partOf n (q * q * q) dt)) (level p r q e) (height y dt p q (r * r * r) (s .equal));
     }
 
 -- ---- the claim
-module _ (dt : Fraction) (d : 0 < dt .over) where
+module _ (dt : Fraction) (d : IsNumber dt) where
   cubed-after : (p r q : ℕ) → p + r ≡ q → 0 < q → Same (exactAfter dt (fraction p 0 q)) (partOf (r * r * r) (q * q * q) dt)
   cubed-after p r q e h =
       let x = fraction p 0 q in

@@ -8,27 +8,37 @@
 use mathlib.Core.Path.{_≡_}
 use Prim.Native.Nat.{ℕ, _+_, _*_, _<_}
 
--- ---- the branch values, by the operations and the third of any arithmetic
+-- ---- the branches, by the operations and the third of any arithmetic
 module _ {A : Type 0} (plus minus times : A → A → A) (third : A) where
-  -- (x2 - x3*third - x + third)*dt
+  -- the brackets of `poly_blamp`: x2 - x3*third - x after the corner, x3*third + x2 + x before it
+  abbrev pub kneeAfterIn : A → A
+  kneeAfterIn x =
+      let x2 = times x x in
+      let x3 = times x2 x in
+      minus (minus x2 (times x3 third)) x
+
+  abbrev pub kneeBeforeIn : A → A
+  kneeBeforeIn x =
+      let x2 = times x x in
+      let x3 = times x2 x in
+      plus (plus (times x3 third) x2) x
+
+  -- the rounded corner's values: the bracket plus the third, times dt
   abbrev pub afterIn : A → A → A
-  afterIn dt x =
-      let x2 = times x x in
-      let x3 = times x2 x in
-      times (plus (minus (minus x2 (times x3 third)) x) third) dt
+  afterIn dt x = times (plus (kneeAfterIn x) third) dt
 
-  -- (x3*third + x2 + x + third)*dt
   abbrev pub beforeIn : A → A → A
-  beforeIn dt x =
-      let x2 = times x x in
-      let x3 = times x2 x in
-      times (plus (plus (plus (times x3 third) x2) x) third) dt
+  beforeIn dt x = times (plus (kneeBeforeIn x) third) dt
 
--- ---- fractions: (up - down) / over, which is a number only where over is above 0
+-- ---- fractions: (up - down) / over
 pub record Fraction : Type 0 where
   pub up : ℕ
   pub down : ℕ
   pub over : ℕ
+
+-- with 0 below the line it is none
+abbrev pub IsNumber : Fraction → Type 0
+IsNumber x = 0 < x .over
 
 abbrev pub fraction : ℕ → ℕ → ℕ → Fraction
 fraction up down over = record { up = up; down = down; over = over }
@@ -52,14 +62,13 @@ taken x y = added x (negated y)
 abbrev pub timed : Fraction → Fraction → Fraction
 timed x y = fraction (x .up * y .up + x .down * y .down) (x .up * y .down + x .down * y .up) (x .over * y .over)
 
--- equal cross products, which tell equal numbers only where neither over is 0
+-- equal cross products, by which fractions that are numbers are one number
 abbrev pub Equals : Fraction → Fraction → Type 0
 Equals x y = x .up * y .over + y .down * x .over ≡ y .up * x .over + x .down * y .over
 
--- two fractions that are one number
 pub record Same (x y : Fraction) : Type 0 where
-  pub left : 0 < x .over
-  pub right : 0 < y .over
+  pub left : IsNumber x
+  pub right : IsNumber y
   pub equal : Equals x y
 
 -- ---- the branch values of the rounded corner, exactly
@@ -72,11 +81,17 @@ exactAfter dt x = afterIn added taken timed exactThird dt x
 abbrev pub exactBefore : Fraction → Fraction → Fraction
 exactBefore dt x = beforeIn added taken timed exactThird dt x
 
--- ---- the claim, in plain numbers: not with `exactThird`, since with another number in its place both ends would still
--- be 0, and the corner still that number times dt; nor with `timed`, which might be 0 everywhere
+-- ---- the claim. What a value is the same as stands in plain numbers: not with `exactThird`, since with another number
+-- in its place both ends would still be 0, and the corner still that number times dt; nor with `timed`, which might be
+-- 0 everywhere
+
 -- n/m of a third of dt
 abbrev pub partOf : ℕ → ℕ → Fraction → Fraction
 partOf n m dt = fraction (dt .up * n) (dt .down * n) (dt .over * m * 3)
+
+-- 4*d*dt + 4*c: how far a naive triangle with 4 corrections c is above -1, at a distance d from its lower corner
+abbrev pub heightOf : Fraction → Fraction → Fraction → Fraction
+heightOf dt d c = added (timed (whole 4) (timed d dt)) (timed (whole 4) c)
 
 pub record RoundedCorner (dt : Fraction) : Type 0 where
   -- 1/3 of dt at the corner, on either side
@@ -85,10 +100,10 @@ pub record RoundedCorner (dt : Fraction) : Type 0 where
   -- 0 at both ends, one sample away
   pub far-after : Same (exactAfter dt (whole 1)) (whole 0)
   pub far-before : Same (exactBefore dt (negated (whole 1))) (whole 0)
-  -- at a distance of p/q, where p + r = q, so that it is r/q less than one sample: (r/q)^3 * dt/3 on either side
+  -- between them, at a distance p/q where p + r = q, (1 - p/q)^3 * dt/3, which is (r/q)^3 * dt/3
   pub cube-after : (p r q : ℕ) → p + r ≡ q → 0 < q → Same (exactAfter dt (fraction p 0 q)) (partOf (r * r * r) (q * q * q) dt)
   pub cube-before : (p r q : ℕ) → p + r ≡ q → 0 < q → Same (exactBefore dt (negated (fraction p 0 q))) (partOf (r * r * r) (q * q * q) dt)
-  -- why the factor is 4: at a distance d on either side of its lower corner the naive triangle is 4*d*dt above -1. With
-  -- 4 corrections it is (1 + 3*d^2 - d^3) * 4*dt/3 above -1, which has no term in d alone: it is level at the corner
-  pub level-after : (p r q : ℕ) → p + r ≡ q → 0 < q → let d = fraction p 0 q in Same (added (timed (whole 4) (timed d dt)) (timed (whole 4) (exactAfter dt d))) (partOf (4 * (q * q * q + p * p * (q + q + r))) (q * q * q) dt)
-  pub level-before : (p r q : ℕ) → p + r ≡ q → 0 < q → let d = fraction p 0 q in Same (added (timed (whole 4) (timed d dt)) (timed (whole 4) (exactBefore dt (negated d)))) (partOf (4 * (q * q * q + p * p * (q + q + r))) (q * q * q) dt)
+  -- why the factor is 4: at a distance d = p/q the height is (1 + 3*d^2 - d^3) * 4*dt/3. It has no term in d alone, so
+  -- that the wave is level at the corner. In numbers 3*d^2 - d^3 is p^2 * (3q - p) / q^3, and 3q - p is q + q + r
+  pub level-after : (p r q : ℕ) → p + r ≡ q → 0 < q → Same (heightOf dt (fraction p 0 q) (exactAfter dt (fraction p 0 q))) (partOf (4 * (q * q * q + p * p * (q + q + r))) (q * q * q) dt)
+  pub level-before : (p r q : ℕ) → p + r ≡ q → 0 < q → Same (heightOf dt (fraction p 0 q) (exactBefore dt (negated (fraction p 0 q)))) (partOf (4 * (q * q * q + p * p * (q + q + r))) (q * q * q) dt)

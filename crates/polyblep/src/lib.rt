@@ -30,7 +30,7 @@ pub fn poly_blep(t: f64, dt: f64) -> Value
     answers::value_if(domain::is_phase(t, dt), Refusal::Argument, blep(t, dt))
 }
 
-// The correction at a corner, the integrated form of that at a step; t and dt are in cycles.
+// The correction at a corner, that at a step integrated but for its constant; t and dt are in cycles.
 pub fn poly_blamp(t: f64, dt: f64) -> Value
     ensures { λ r. ⌜ r ≡ polyBlampOf t dt ⌝ }
 {

@@ -1,5 +1,4 @@
 -- `high_notes::rounded_value` meets its contract. Assumes nothing.
-use borrow.Author.Needs.{needs}
 use Rattle.high_notes.proofs.rounded_value.Statement.{statement}
 use Rattle.high_notes.proofs.rounded_value.Tie as tie
 
