@@ -16,8 +16,8 @@ impl Chance {
     pub fn apart(&self) -> Self {
         Self(self.0 ^ 1 << 48)
     }
-    /// And others once more, as are those `beside` them.
-    pub fn aloof(&self) -> Self {
+    /// Others than all of these, for one kind of row more.
+    pub fn elsewhere(&self) -> Self {
         Self(self.0 ^ 1 << 49)
     }
     pub fn word(&mut self) -> u64 {

@@ -29,31 +29,31 @@ pub fn edges() -> Vec<Vec<u64>> {
 
 /// After four others one with a rounded triangle, from numbers of its own.
 pub fn in_turn(chance: Chance) -> Rows {
-    one_in(5, among(random_rounded, chance.aloof()), render_joined::in_turn(chance))
+    one_in(5, among(random_rounded, chance.elsewhere()), render_joined::in_turn(chance))
 }
 
 /// One with a duty that would be refused of a pulse, or with any other: none is read.
-fn round(number: usize) -> Wave {
+fn rounded_wave(number: usize) -> Wave {
     let odd = [not_a_unit(), duties()].concat();
     (ROUNDED, odd[number % odd.len()])
 }
 
 /// As fast and as deep as an LFO can be.
-fn strongly(number: usize) -> Lfo {
-    Lfo { wave: round(number), ..strong(0) }
+fn rounded_lfo(number: usize) -> Lfo {
+    Lfo { wave: rounded_wave(number), ..strong(0) }
 }
 
 /// The oscillator at every rate: the tune has the highest note and the lowest.
 fn edges_of_rates() -> Vec<Asked> {
     let rates = RATES.into_iter().chain([8001, 96000, 191999]).enumerate();
-    rates.map(|(i, rate)| Asked::whole(rate, round(i), 130, &tune())).collect()
+    rates.map(|(i, rate)| Asked::whole(rate, rounded_wave(i), 130, &tune())).collect()
 }
 
 /// Held notes at the lowest rate, where a step is most of a cycle: on either side of a half, and of a whole, from where
 /// on values leave -1 to 1; the highest; and the lowest note.
 fn edges_of_notes() -> Vec<Asked> {
     let notes = [0, 69, 107, 108, 119, 120, 126, 127].into_iter().enumerate();
-    notes.map(|(i, note)| Asked::whole(8000, round(i + 8), 70, &[on(0, note, 127)])).collect()
+    notes.map(|(i, note)| Asked::whole(8000, rounded_wave(i + 8), 70, &[on(0, note, 127)])).collect()
 }
 
 /// The LFO under every oscillator: still, fast and between, deep, not at all, and a step that passes a corner; both
@@ -62,13 +62,13 @@ fn edges_of_lfo() -> Vec<Asked> {
     let score = [on(0, 69, 127), on(20, 100, 90), reset(37), on(37, 60, 100), off(50, 60)];
     let ends = [(100.0, 1.0), (near(100.0, -1), near(1.0, -1)), (-0.0, 0.5), (5.5, -0.0)];
     let mut list = Vec::new();
-    for wave in WAVES.into_iter().chain([round(1)]) {
+    for wave in WAVES.into_iter().chain([rounded_wave(1)]) {
         for (frequency, depth) in ends {
-            let lfo = Lfo { wave: round(list.len()), frequency, depth };
+            let lfo = Lfo { wave: rounded_wave(list.len()), frequency, depth };
             list.push(Asked::whole(8000, wave, 85, &score).with_lfo(lfo));
         }
     }
-    let least = Lfo { wave: round(0), frequency: TINY, depth: TINY };
+    let least = Lfo { wave: rounded_wave(0), frequency: TINY, depth: TINY };
     list.push(Asked::whole(192000, SAW, 20, &score).with_lfo(least));
     list
 }
@@ -76,15 +76,15 @@ fn edges_of_lfo() -> Vec<Asked> {
 /// Struck and joined, with both; over the start of a section.
 fn edges_of_keys() -> Vec<Asked> {
     let overlapping = [on(0, 60, 100), on(20, 127, 90), on(40, 62, 80), off(50, 127), off(64, 62), on(70, 40, 127)];
-    let struck = Asked::whole(8000, round(2), 100, &overlapping).with_lfo(strongly(3));
-    let over = Asked::whole(44100, round(4), 4160, &over_marks()).with_lfo(strongly(5));
+    let struck = Asked::whole(8000, rounded_wave(2), 100, &overlapping).with_lfo(rounded_lfo(3));
+    let over = Asked::whole(44100, rounded_wave(4), 4160, &over_marks()).with_lfo(rounded_lfo(5));
     vec![struck.clone().joined(), struck, over.joined()]
 }
 
 /// Parts of a render, beside multiples of 64 and where a record acts, struck and joined.
 fn edges_of_cuts() -> Vec<Asked> {
-    let render = Asked::whole(16384, round(6), 0, &tune()).with_lfo(strongly(7));
-    let long = Asked::whole(8000, round(8), 0, &over_marks()).with_lfo(strongly(9));
+    let render = Asked::whole(16384, rounded_wave(6), 0, &tune()).with_lfo(rounded_lfo(7));
+    let long = Asked::whole(8000, rounded_wave(8), 0, &over_marks()).with_lfo(rounded_lfo(9));
     let mut list = Vec::new();
     for (render, long) in [(render.clone(), long.clone()), (render.joined(), long.joined())] {
         list.extend([(0, 3), (3, 61), (64, 32), (96, 4), (97, 40)].map(|(at, samples)| render.part(at, samples)));
@@ -95,7 +95,7 @@ fn edges_of_cuts() -> Vec<Asked> {
 
 /// Given phases of both, at their limits and past them, and given frequencies.
 fn edges_of_states() -> Vec<Asked> {
-    let render = Asked::whole(8000, round(10), 0, &tune()).with_lfo(strongly(11));
+    let render = Asked::whole(8000, rounded_wave(10), 0, &tune()).with_lfo(rounded_lfo(11));
     let part = render.part(65, 20);
     let mut list = Vec::new();
     let mut add = |word: usize, value: f64| {
@@ -118,9 +118,9 @@ fn edges_of_states() -> Vec<Asked> {
 fn edges_of_edits() -> Vec<Asked> {
     let mut list = Vec::new();
     for render in [
-        Asked::whole(44100, round(12), 70, &tune()).with_lfo(strongly(13)),
-        Asked::whole(8000, round(14), 70, &tune()).with_lfo(strong(3)).joined(),
-        Asked::whole(8000, SAW, 70, &tune()).with_lfo(strongly(15)),
+        Asked::whole(44100, rounded_wave(12), 70, &tune()).with_lfo(rounded_lfo(13)),
+        Asked::whole(8000, rounded_wave(14), 70, &tune()).with_lfo(strong(3)).joined(),
+        Asked::whole(8000, SAW, 70, &tune()).with_lfo(rounded_lfo(15)),
     ] {
         let new = |record: Record| render.edited(&with(&tune(), record));
         list.extend([new(on(0, 50, 77)), new(on(64, 127, 77)), new(reset(69)), new(on(70, 50, 77))]);
@@ -132,7 +132,7 @@ fn edges_of_edits() -> Vec<Asked> {
 
 /// Refused as the others are: another setting, the pulse beside it, the shelf, the score.
 fn edges_of_refusals() -> Vec<Asked> {
-    let usual = Asked::whole(44100, round(0), 3, &tune()).with_lfo(strongly(1));
+    let usual = Asked::whole(44100, rounded_wave(0), 3, &tune()).with_lfo(rounded_lfo(1));
     let mut list = vec![usual.clone(); 5];
     list[0].settings.rate = 7999;
     list[1].settings.wave = (PULSE, 2.0);

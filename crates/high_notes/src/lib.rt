@@ -224,6 +224,7 @@ fn fill_rounded(out: &mut [f64], dt: f64, scale: f64)
     }
 }
 
+// With the nearer corner's correction alone where the corners are apart, else with both.
 fn rounded_value(u: f64, dt: f64, apart: bool) -> f64
     requires { ⌜ T (within zero64 one u) × (apart ≡ true → HalfApart dt) ⌝ }
     ensures { λ r. ⌜ r ≡ roundedOf u dt ⌝ }
