@@ -15,3 +15,6 @@ is-within-unique low high x r t p q = p ∙ sym q
 
 pub is-finite-f32-unique : (x : Float) (r t : Bool) → r ≡ finite x → t ≡ finite x → r ≡ t
 is-finite-f32-unique x r t p q = p ∙ sym q
+
+pub is-finite-f64-unique : (x : Float) (r t : Bool) → r ≡ finite x → t ≡ finite x → r ≡ t
+is-finite-f64-unique x r t p q = p ∙ sym q

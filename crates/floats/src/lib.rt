@@ -10,7 +10,10 @@ ghost use Rattle.floats.specs.Floor.{floorOf, wholeOf};
 ghost use Rattle.floats.specs.Range.{within};
 
 // The largest finite f32, 2^128 - 2^104.
-const LARGEST: f32 = 340282346638528859811704183484516925440.0;
+const LARGEST_F32: f32 = 340282346638528859811704183484516925440.0;
+
+// The largest finite f64, 2^1024 - 2^971.
+const LARGEST_F64: f64 = 1.7976931348623157e308;
 
 // Whether low <= x <= high; false for a NaN.
 pub fn is_within(low: f64, high: f64, x: f64) -> bool
@@ -23,7 +26,13 @@ pub fn is_within(low: f64, high: f64, x: f64) -> bool
 pub fn is_finite_f32(x: f32) -> bool
     ensures { λ r. ⌜ r ≡ finite x ⌝ }
 {
-    (-LARGEST <= x) & (x <= LARGEST)
+    (-LARGEST_F32 <= x) & (x <= LARGEST_F32)
+}
+
+pub fn is_finite_f64(x: f64) -> bool
+    ensures { λ r. ⌜ r ≡ finite x ⌝ }
+{
+    (-LARGEST_F64 <= x) & (x <= LARGEST_F64)
 }
 
 // The greatest whole number not above x, with the sign of x: floor(-0) is -0. An infinity or a NaN comes back as it is.

@@ -1,0 +1,218 @@
+// The simd half of polyblep.rs, in f64: the two corrections and the four calls that apply them, on four numbers at a
+// time, its lanes. A lane works out both values of a correction and then chooses: the test before the step comes last
+// and wins, where the single form (`polyblep`) takes the first test that holds. Renders keep the single form. Left out:
+// the simd paths of waveform.rs, oscillator.rs and lfo.rs, which also add their phases differently.
+ghost use mathlib.Core.Path.{_≡_};
+ghost use lib.Ieee.{Float, binary64};
+ghost use Rattle.floats.specs.Floor.{floorOf};
+ghost use Rattle.floats.specs.Double.{_⊕_, _⊖_, _⊗_, half, one, eight};
+ghost use Rattle.answers.specs.Order.{unless};
+ghost use Rattle.answers.specs.declared.Refusal.the-variants.{Argument};
+ghost use Rattle.polyblep.specs.Polyblep.{valueAt, fractOf};
+ghost use Rattle.lanes.specs.Lanes.{laneSide, blepLane, blampLane, each, both};
+ghost use Rattle.lanes.specs.Calls.{arePhases, areFinite, lanesOr, polyBlepSimdOf, polyBlampSimdOf, applyPolyblepSawOf, applyPolyblepSquareOf, applyPolyblepPulseOf, applyPolyblampTriangleOf};
+use answers::Answer;
+use answers::Refusal;
+
+// Four numbers beside their answer.
+pub struct Lanes {
+    pub answer: Answer,
+    pub values: [f64; 4],
+}
+
+// The corrections at a step: a lane has the phase t from the step and the phase dt of one sample, both in cycles.
+pub fn poly_blep_simd(t: [f64; 4], dt: [f64; 4]) -> Lanes
+    ensures { λ r. ⌜ r ≡ polyBlepSimdOf t dt ⌝ }
+{
+    lanes_if(are_phases(t, dt), [0.0; 4], bleps(t, dt))
+}
+
+// The corrections at a corner.
+pub fn poly_blamp_simd(t: [f64; 4], dt: [f64; 4]) -> Lanes
+    ensures { λ r. ⌜ r ≡ polyBlampSimdOf t dt ⌝ }
+{
+    lanes_if(are_phases(t, dt), [0.0; 4], blamps(t, dt))
+}
+
+// Four naive samples of a sawtooth, corrected at its step.
+pub fn apply_polyblep_saw(samples: [f64; 4], phases: [f64; 4], phase_inc: f64) -> Lanes
+    ensures { λ r. ⌜ r ≡ applyPolyblepSawOf samples phases «phase_inc» ⌝ }
+{
+    let dt = [phase_inc; 4];
+    let ok = are_phases(phases, dt) & are_finite(samples);
+    lanes_if(ok, samples, less(samples, bleps(phases, dt)))
+}
+
+// Four naive samples of a square, corrected where it rises and where it falls, half a cycle on.
+pub fn apply_polyblep_square(samples: [f64; 4], phases: [f64; 4], phase_inc: f64) -> Lanes
+    ensures { λ r. ⌜ r ≡ applyPolyblepSquareOf samples phases «phase_inc» ⌝ }
+{
+    let dt = [phase_inc; 4];
+    let ok = are_phases(phases, dt) & are_finite(samples);
+    let rise = bleps(phases, dt);
+    let fall = bleps(from_half(phases), dt);
+    lanes_if(ok, samples, less(plus(samples, rise), fall))
+}
+
+// Four naive samples of a pulse, corrected where it rises and where it falls, at the duty.
+pub fn apply_polyblep_pulse(
+    samples: [f64; 4],
+    phases: [f64; 4],
+    phase_inc: f64,
+    duty_cycle: f64,
+) -> Lanes
+    ensures { λ r. ⌜ r ≡ applyPolyblepPulseOf samples phases «phase_inc» «duty_cycle» ⌝ }
+{
+    let dt = [phase_inc; 4];
+    let ok = are_phases(phases, dt) & are_finite(samples) & domain::is_duty(duty_cycle);
+    let rise = bleps(phases, dt);
+    let fall = bleps(from_duty(phases, duty_cycle), dt);
+    lanes_if(ok, samples, less(plus(samples, rise), fall))
+}
+
+// Four naive samples of a triangle, corrected at its lower corner and at its upper one, half a cycle on.
+pub fn apply_polyblamp_triangle(samples: [f64; 4], phases: [f64; 4], phase_inc: f64) -> Lanes
+    ensures { λ r. ⌜ r ≡ applyPolyblampTriangleOf samples phases «phase_inc» ⌝ }
+{
+    let dt = [phase_inc; 4];
+    let ok = are_phases(phases, dt) & are_finite(samples);
+    let low = eightfold(blamps(phases, dt));
+    let high = eightfold(blamps(from_half(phases), dt));
+    lanes_if(ok, samples, less(plus(samples, low), high))
+}
+
+// One lane of a correction at a step.
+fn blep_lane(t: f64, dt: f64) -> f64
+    ensures { λ r. ⌜ r ≡ blepLane t dt ⌝ }
+{
+    let x = t / dt;
+    let y = (t - 1.0) / dt;
+    let after = 2.0 * x - x * x - 1.0;
+    let before = y * y + 2.0 * y + 1.0;
+    chosen(t, dt, after, before)
+}
+
+// One lane of a correction at a corner.
+fn blamp_lane(t: f64, dt: f64) -> f64
+    ensures { λ r. ⌜ r ≡ blampLane t dt ⌝ }
+{
+    let after = polyblep::knee_after(t / dt) * dt;
+    let before = polyblep::knee_before((t - 1.0) / dt) * dt;
+    chosen(t, dt, after, before)
+}
+
+// The value on the side where t lies; the later test wins. The value that is not chosen may be a NaN: 0/0 where t and
+// dt are 0.
+fn chosen(t: f64, dt: f64, after: f64, before: f64) -> f64
+    ensures { λ r. ⌜ r ≡ valueAt (λ (x : Float). after) (λ (x : Float). before) (laneSide t dt) ⌝ }
+{
+    let earlier = if t < dt { after } else { 0.0 };
+    if t > 1.0 - dt { before } else { earlier }
+}
+
+fn bleps(t: [f64; 4], dt: [f64; 4]) -> [f64; 4]
+    ensures { λ r. ⌜ r ≡ both blepLane t dt ⌝ }
+{
+    [
+        blep_lane(t[0], dt[0]),
+        blep_lane(t[1], dt[1]),
+        blep_lane(t[2], dt[2]),
+        blep_lane(t[3], dt[3]),
+    ]
+}
+
+fn blamps(t: [f64; 4], dt: [f64; 4]) -> [f64; 4]
+    ensures { λ r. ⌜ r ≡ both blampLane t dt ⌝ }
+{
+    [
+        blamp_lane(t[0], dt[0]),
+        blamp_lane(t[1], dt[1]),
+        blamp_lane(t[2], dt[2]),
+        blamp_lane(t[3], dt[3]),
+    ]
+}
+
+// The phases from the edge half a cycle on.
+fn from_half(phases: [f64; 4]) -> [f64; 4]
+    ensures { λ r. ⌜ r ≡ each (λ (p : Float). fractOf (p ⊕ half)) phases ⌝ }
+{
+    fracts(plus(phases, [0.5; 4]))
+}
+
+// The phases from the edge at the duty.
+fn from_duty(phases: [f64; 4], duty: f64) -> [f64; 4]
+    ensures { λ r. ⌜ r ≡ each (λ (p : Float). fractOf (p ⊖ duty ⊕ one)) phases ⌝ }
+{
+    fracts(plus(less(phases, [duty; 4]), [1.0; 4]))
+}
+
+fn fracts(x: [f64; 4]) -> [f64; 4]
+    ensures { λ r. ⌜ r ≡ each fractOf x ⌝ }
+{
+    less(x, floors(x))
+}
+
+// The lanes' own floor, that of each lane.
+fn floors(x: [f64; 4]) -> [f64; 4]
+    ensures { λ r. ⌜ r ≡ each (floorOf binary64) x ⌝ }
+{
+    [
+        floats::floor_f64(x[0]),
+        floats::floor_f64(x[1]),
+        floats::floor_f64(x[2]),
+        floats::floor_f64(x[3]),
+    ]
+}
+
+fn plus(x: [f64; 4], y: [f64; 4]) -> [f64; 4]
+    ensures { λ r. ⌜ r ≡ both _⊕_ x y ⌝ }
+{
+    [x[0] + y[0], x[1] + y[1], x[2] + y[2], x[3] + y[3]]
+}
+
+fn less(x: [f64; 4], y: [f64; 4]) -> [f64; 4]
+    ensures { λ r. ⌜ r ≡ both _⊖_ x y ⌝ }
+{
+    [x[0] - y[0], x[1] - y[1], x[2] - y[2], x[3] - y[3]]
+}
+
+fn eightfold(x: [f64; 4]) -> [f64; 4]
+    ensures { λ r. ⌜ r ≡ each (λ (a : Float). eight ⊗ a) x ⌝ }
+{
+    [8.0 * x[0], 8.0 * x[1], 8.0 * x[2], 8.0 * x[3]]
+}
+
+// Whether every lane's t and dt are in the domain.
+fn are_phases(t: [f64; 4], dt: [f64; 4]) -> bool
+    ensures { λ r. ⌜ r ≡ arePhases t dt ⌝ }
+{
+    domain::is_phase(t[0], dt[0])
+        & domain::is_phase(t[1], dt[1])
+        & domain::is_phase(t[2], dt[2])
+        & domain::is_phase(t[3], dt[3])
+}
+
+fn are_finite(x: [f64; 4]) -> bool
+    ensures { λ r. ⌜ r ≡ areFinite x ⌝ }
+{
+    floats::is_finite_f64(x[0])
+        & floats::is_finite_f64(x[1])
+        & floats::is_finite_f64(x[2])
+        & floats::is_finite_f64(x[3])
+}
+
+// Done, with the values, where ok is true; else refused, with what is kept.
+fn lanes_if(ok: bool, kept: [f64; 4], values: [f64; 4]) -> Lanes
+    ensures { λ r. ⌜ r ≡ lanesOr (unless ok Argument) kept values ⌝ }
+{
+    if ok {
+        return Lanes {
+            answer: Answer::Done(0),
+            values,
+        };
+    }
+    Lanes {
+        answer: Answer::Refused(Refusal::Argument),
+        values: kept,
+    }
+}
