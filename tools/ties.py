@@ -22,7 +22,7 @@ from wrong import FORM  # noqa: E402
 
 ROOT = Path(__file__).resolve().parent.parent
 PROMISES = "docs/PROMISES.md"
-KINDS = ("call of 01", "ported, answers nothing", "addition")
+KINDS = ("call of 01", "call of 02", "ported, answers nothing", "addition")
 HELPER = "helper"
 
 # Two widths that share a theorem; every other function has its own.

@@ -2,7 +2,7 @@
 -- 1 - dt is below 0.5, so that both tests hold at t = 0.5. Assumes nothing.
 use mathlib.Core.Path.{_≡_, refl}
 use mathlib.Core.Bool.{true, false}
-use Prim.Native.Nat.{ℕ, suc, _+_, _*_, _^_, _≤_, _<_}
+use Prim.Native.Nat.{ℕ, suc, _*_, _^_, _≤_, _<_}
 use native.Mathlib.Nat as nat
 use native.Mathlib.Omega.{arith}
 use lib.IntN.{pos, negsuc}
@@ -19,7 +19,7 @@ use Rattle.floats.proofs.Near.{sub-order}
 use Rattle.floats.proofs.Held.{fits-small}
 use Rattle.floats.proofs.Largest.{finite-at-most, finite-at-least}
 use Rattle.floats.proofs.Bounded.{Size, size-finite, size-own, size-sub}
-use Rattle.lanes.specs.Single.{bothHold, Bound}
+use Rattle.lanes.specs.Single.{Bound}
 
 -- 0.5 + 2^-53
 abbrev next : Float

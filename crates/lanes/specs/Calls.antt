@@ -3,8 +3,8 @@
 -- to 1"; number 9: "any other argument of a ported call outside its domain; the accumulator's rate and
 -- `polyblep_pulse`'s duty belong here, not to 6".
 --
--- A refused correction gives four +0. A refused apply call gives its samples as they came: the original lends them to be
--- changed, and a refusal leaves what is lent as it was. Definitions only.
+-- A refused correction gives four +0. A refused apply call gives its samples as they came: the original is lent them to
+-- change, and a refusal leaves what is lent as it was. Definitions only.
 use mathlib.Core.Bool.{Bool, _&&_}
 use mathlib.Core.List.{List, [], _∷_}
 use lib.Ieee.{Float}

@@ -1,5 +1,5 @@
--- Four lanes of polyblep.rs. 02, R-10: "Port the simd corrections and the four apply calls of polyblep.rs over arrays of
--- four numbers, with their own floor."; "Above 0.5 the two part, since the later test wins".
+-- Four lanes of polyblep.rs. 02, R-10: "Port the simd corrections and the four apply calls of polyblep.rs over arrays
+-- of four numbers, with their own floor."; "Above 0.5 the two part, since the later test wins".
 --
 -- A lane has the two values of the single form (`polyblep`), and its two tests the other way round: the test before the
 -- step is the later one in the text, and wins where both hold. The apply calls correct samples that are given, in the

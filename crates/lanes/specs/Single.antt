@@ -1,13 +1,13 @@
--- A lane beside the single form. 02, R-10: "Prove once over the lane that for dt at most 0.5 each correction has the bits
--- of the single one. Above 0.5 the two part, since the later test wins: at t = 0.5, dt = 1 the lane gives +0.25 where
--- the single form gives -0.25. State that rule exactly and put it on file."
+-- A lane beside the single form. 02, R-10: "Prove once over the lane that for dt at most 0.5 each correction has the
+-- bits of the single one. Above 0.5 the two part, since the later test wins: at t = 0.5, dt = 1 the lane gives +0.25
+-- where the single form gives -0.25. State that rule exactly and put it on file."
 --
 -- The claims, which proofs/ proves. Definitions only.
 use mathlib.Core.Path.{_≡_}
 use mathlib.Core.Bool.{Bool, not, _&&_}
 use mathlib.Core.List.{List}
 use lib.Dec.{T}
-use lib.Ieee.{Float, binary64, ofBits, neg, lt, fits}
+use lib.Ieee.{Float, binary64, lt, fits}
 use lib.Ieee.Scale.{finite}
 use Rattle.floats.specs.Range.{within}
 use Rattle.floats.specs.Double.{_⊖_, _⊘_, zero64, half, one}
