@@ -1,4 +1,4 @@
--- In the domain every answer is finite: a lane's correction is at most 16 in size, as the single one is, and a given
+-- In the domain every lane's value is finite: a correction is at most 16 in size, as the single one is, and a given
 -- sample, however large, stays finite under corrections of that size. Assumes nothing.
 use mathlib.Core.Path.{_≡_, sym, subst}
 use mathlib.Core.Bool.{Bool, true, false, not}

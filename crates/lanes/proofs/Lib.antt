@@ -1,9 +1,11 @@
 -- What holds of the lanes beyond their contracts.
 -- a lane beside the single form
 pub mod Rules
+-- the calls, lane by lane
+pub mod Lanewise
 -- 0.5 is the exact bound
 pub mod Bounds
--- every answer in the domain is finite
+-- in the domain every lane's value is finite
 pub mod Finite
 -- the calls beside the single ones, for dt at most 0.5
 pub mod Same

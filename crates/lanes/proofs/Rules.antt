@@ -1,4 +1,4 @@
--- A lane beside the single form: the rule by which they part, and that they do not for dt at most 0.5, where
+-- A lane beside the single form: the rule on where they may part, and that they do not for dt at most 0.5, where
 -- t < dt ≤ 0.5 ≤ 1 - dt. Assumes nothing.
 use mathlib.Core.Path.{_≡_, refl}
 use mathlib.Core.Bool.{Bool, true, false, cond, not, _&&_}
@@ -13,7 +13,7 @@ use Rattle.floats.proofs.Near.{sub-order}
 use Rattle.polyblep.specs.declared.Side.the-variants.{After, Before, Away}
 use Rattle.polyblep.specs.Polyblep.{sideOf, valueAt, blepAfter, blepBefore, blampAfter, blampBefore, blepOf, blampOf}
 use Rattle.lanes.specs.Lanes.{laneSide, blepLane, blampLane}
-use Rattle.lanes.specs.Single.{bothHold, Rule, Beside}
+use Rattle.lanes.specs.Single.{bothHold, Rule, LaneAndSingle}
 
 -- ---- the value at x after the step, at y before it, by the two tests: t < dt first, and t > 1 - dt last
 module _ (after before : Float → Float) (x y : Float) where
@@ -86,8 +86,8 @@ module _ (t dt : Float) where
     pub blamp-same : blampLane t dt ≡ blampOf t dt
     blamp-same = blamp-rule .elsewhere never
 
-pub beside : (t dt : Float) → Beside t dt
-beside t dt =
+pub lane-and-single : (t dt : Float) → LaneAndSingle t dt
+lane-and-single t dt =
     record {
       blep = blep-rule t dt;
       blamp = blamp-rule t dt;

@@ -1,8 +1,9 @@
 -- The calls for dt at most 0.5: each lane of a correction has the bits of the single one, and so each lane of an apply
 -- call on the naive samples of its waveform those of the single waveform. Assumes nothing.
 use mathlib.Core.Path.{_≡_, refl, _∙_}
-use mathlib.Core.Bool.{Bool, true, _&&_}
+use mathlib.Core.Bool.{Bool, _&&_}
 use mathlib.Core.List.{List}
+use Prim.Native.Nat.{ℕ, _<_}
 use lib.Dec.{T}
 use lib.Ieee.{Float}
 use lib.Ieee.Fits.{and-i, and-l}
@@ -14,16 +15,12 @@ use Rattle.domain.specs.Domain.{isPhase, isDuty}
 use Rattle.answers.specs.Order.{unless}
 use Rattle.answers.specs.declared.Refusal.the-variants.{Argument}
 use Rattle.polyblep.specs.Polyblep.{fractOf, naiveSawOf, naivePulseOf, naiveTriangleOf, sawBy, squareBy, pulseBy, triangleBy, sawOf, squareOf, pulseOf, triangleOf}
-use Rattle.polyblep.proofs.Clear.{four-pass}
 use Rattle.polyblep.proofs.Finite.{unit-size, line-size, step-size, ramp-size}
-use Rattle.lanes.specs.Lanes.{lane, each, both, blepLane, blampLane}
-use Rattle.lanes.specs.Calls.{arePhases, areFinite, areGiven, spread, lanesOr}
+use Rattle.lanes.specs.Lanes.{lane, each, blepLane, blampLane}
+use Rattle.lanes.specs.Calls.{arePhases, areFinite, areTaken, spread, lanesOr}
 use Rattle.lanes.specs.Single.{done, Corrections, Waveforms}
 use Rattle.lanes.proofs.Rules.{blep-same, blamp-same}
-
--- a call whose test passes is done
-is-done : (ok : Bool) (kept values : List Float) → T ok → lanesOr (unless ok Argument) kept values ≡ done values
-is-done true kept values t = refl
+use Rattle.lanes.proofs.Lanewise.{is-done, all-of, each-of, lane-by-lane}
 
 -- ---- one lane of a waveform
 module _ (q dt : Float) (r : T (within zero64 half dt)) where
@@ -45,32 +42,20 @@ module _ (q dt : Float) (r : T (within zero64 half dt)) where
 
 -- ---- the corrections
 pub corrections : Corrections
-corrections t dt a k =
-    let (s₀, s₁, s₂, s₃) = four-pass (within zero64 half (lane dt 0)) (within zero64 half (lane dt 1)) (within zero64 half (lane dt 2)) (within zero64 half (lane dt 3)) k in
+corrections t dt a i l k =
+    let inside : (j : ℕ) → j < 4 → T (isPhase (lane t j) (lane dt j)) = each-of (λ (j : ℕ). isPhase (lane t j) (lane dt j)) a in
     record {
-      blep =
-          is-done (arePhases t dt) (spread zero64) (both blepLane t dt) a
-          ∙ rw (blep-same (lane t 0) (lane dt 0) s₀, blep-same (lane t 1) (lane dt 1) s₁, blep-same (lane t 2) (lane dt 2) s₂, blep-same (lane t 3) (lane dt 3) s₃) refl;
-      blamp =
-          is-done (arePhases t dt) (spread zero64) (both blampLane t dt) a
-          ∙ rw (blamp-same (lane t 0) (lane dt 0) s₀, blamp-same (lane t 1) (lane dt 1) s₁, blamp-same (lane t 2) (lane dt 2) s₂, blamp-same (lane t 3) (lane dt 3) s₃) refl;
+      blep = lane-by-lane .blep t dt .done inside .1 i l ∙ blep-same (lane t i) (lane dt i) k;
+      blamp = lane-by-lane .blamp t dt .done inside .1 i l ∙ blamp-same (lane t i) (lane dt i) k;
     }
 
 -- ---- the apply calls, of four lanes
-four-in : (a b c d : Bool) → T a → T b → T c → T d → T (a && b && c && d)
-four-in true true true true p q r s = tt
-
 module _ (p : List Float) (dt : Float) (a : T (arePhases p (spread dt))) where
   -- a naive value that is finite wherever the phase is in the domain
   all-finite : (f : Float → Float) → ((q : Float) → T (within zero64 one q) → T (finite (f q))) → T (areFinite (each f p))
-  all-finite f h =
-      let (k₀, k₁, k₂, k₃) = four-pass (isPhase (lane p 0) dt) (isPhase (lane p 1) dt) (isPhase (lane p 2) dt) (isPhase (lane p 3) dt) a in
-      four-in (finite (f (lane p 0))) (finite (f (lane p 1))) (finite (f (lane p 2))) (finite (f (lane p 3))) (at (lane p 0) k₀) (at (lane p 1) k₁) (at (lane p 2) k₂) (at (lane p 3) k₃)
-    where
-      at : (q : Float) → T (isPhase q dt) → T (finite (f q))
-      at q k = h q (and-l (within zero64 one q) (within zero64 four dt) k)
+  all-finite f h = all-of (λ (i : ℕ). finite (f (lane p i))) (λ (i : ℕ) (l : i < 4). h (lane p i) (and-l (within zero64 one (lane p i)) (within zero64 four dt) (each-of (λ (j : ℕ). isPhase (lane p j) dt) a i l)))
 
-  given : (f : Float → Float) → ((q : Float) → T (within zero64 one q) → T (finite (f q))) → T (areGiven (each f p) p dt)
+  given : (f : Float → Float) → ((q : Float) → T (within zero64 one q) → T (finite (f q))) → T (areTaken (each f p) p dt)
   given f h = and-i (arePhases p (spread dt)) (areFinite (each f p)) a (all-finite f h)
 
   -- a call on the naive samples of f that is done, and makes g of them
@@ -91,16 +76,16 @@ pub waveforms : Waveforms
 waveforms p dt a r =
     record {
       saw =
-          on-naive p dt a (areGiven (each naiveSawOf p) p dt) naiveSawOf (λ (q : Float). sawBy blepLane (naiveSawOf q) q dt) (λ (q : Float). sawOf q dt)
+          on-naive p dt a (areTaken (each naiveSawOf p) p dt) naiveSawOf (λ (q : Float). sawBy blepLane (naiveSawOf q) q dt) (λ (q : Float). sawOf q dt)
           (given p dt a naiveSawOf line-finite) (λ (q : Float). saw-same q dt r);
       square =
           let f : Float → Float = λ (q : Float). naivePulseOf q half in
-          on-naive p dt a (areGiven (each f p) p dt) f (λ (q : Float). squareBy blepLane (f q) q dt) (λ (q : Float). squareOf q dt) (given p dt a f (step-finite half)) (λ (q : Float). square-same q dt r);
+          on-naive p dt a (areTaken (each f p) p dt) f (λ (q : Float). squareBy blepLane (f q) q dt) (λ (q : Float). squareOf q dt) (given p dt a f (step-finite half)) (λ (q : Float). square-same q dt r);
       pulse = λ (duty : Float) (d : T (isDuty duty)).
           let f : Float → Float = λ (q : Float). naivePulseOf q duty in
-          on-naive p dt a (areGiven (each f p) p dt && isDuty duty) f (λ (q : Float). pulseBy blepLane (f q) q dt duty) (λ (q : Float). pulseOf q dt duty)
-          (and-i (areGiven (each f p) p dt) (isDuty duty) (given p dt a f (step-finite duty)) d) (λ (q : Float). pulse-same q dt r duty);
+          on-naive p dt a (areTaken (each f p) p dt && isDuty duty) f (λ (q : Float). pulseBy blepLane (f q) q dt duty) (λ (q : Float). pulseOf q dt duty)
+          (and-i (areTaken (each f p) p dt) (isDuty duty) (given p dt a f (step-finite duty)) d) (λ (q : Float). pulse-same q dt r duty);
       triangle =
-          on-naive p dt a (areGiven (each naiveTriangleOf p) p dt) naiveTriangleOf (λ (q : Float). triangleBy eight blampLane (naiveTriangleOf q) q dt) (λ (q : Float). triangleOf q dt)
+          on-naive p dt a (areTaken (each naiveTriangleOf p) p dt) naiveTriangleOf (λ (q : Float). triangleBy eight blampLane (naiveTriangleOf q) q dt) (λ (q : Float). triangleOf q dt)
           (given p dt a naiveTriangleOf ramp-finite) (λ (q : Float). triangle-same q dt r);
     }

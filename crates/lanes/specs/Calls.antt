@@ -6,7 +6,8 @@
 -- A refused correction gives four +0. A refused apply call gives its samples as they came: the original is lent them to
 -- change, and a refusal leaves what is lent as it was. Definitions only.
 use mathlib.Core.Bool.{Bool, _&&_}
-use mathlib.Core.List.{List, [], _∷_}
+use mathlib.Core.List.{List}
+use Prim.Native.Nat.{ℕ}
 use lib.Ieee.{Float}
 use lib.Ieee.Scale.{finite}
 use Rattle.floats.specs.Double.{zero64}
@@ -16,21 +17,25 @@ use Rattle.answers.specs.declared.Answer.the-variants.{Done, Refused}
 use Rattle.answers.specs.declared.Refusal.{Refusal}
 use Rattle.answers.specs.declared.Refusal.the-variants.{Argument}
 use Rattle.lanes.specs.declared.Lanes.{Lanes}
-use Rattle.lanes.specs.Lanes.{lane, both, blepLane, blampLane, sawLanes, squareLanes, pulseLanes, triangleLanes}
+use Rattle.lanes.specs.Lanes.{lane, fourOf, both, blepLane, blampLane, sawLanes, squareLanes, pulseLanes, triangleLanes}
 
 -- ---- the domain: every lane
+abbrev pub allFour : (ℕ → Bool) → Bool
+allFour f = f 0 && f 1 && f 2 && f 3
+
 abbrev pub arePhases : List Float → List Float → Bool
-arePhases t dt = isPhase (lane t 0) (lane dt 0) && isPhase (lane t 1) (lane dt 1) && isPhase (lane t 2) (lane dt 2) && isPhase (lane t 3) (lane dt 3)
+arePhases t dt = allFour (λ (i : ℕ). isPhase (lane t i) (lane dt i))
 
 abbrev pub areFinite : List Float → Bool
-areFinite x = finite (lane x 0) && finite (lane x 1) && finite (lane x 2) && finite (lane x 3)
+areFinite x = allFour (λ (i : ℕ). finite (lane x i))
 
+-- one number in all lanes
 abbrev pub spread : Float → List Float
-spread x = x ∷ x ∷ x ∷ x ∷ []
+spread x = fourOf (λ (i : ℕ). x)
 
--- what an apply call is given, with one dt for all lanes
-abbrev pub areGiven : List Float → List Float → Float → Bool
-areGiven samples phases dt = arePhases phases (spread dt) && areFinite samples
+-- what an apply call takes, with one dt for all lanes
+abbrev pub areTaken : List Float → List Float → Float → Bool
+areTaken samples phases dt = arePhases phases (spread dt) && areFinite samples
 
 -- ---- the calls
 -- done, with the values, unless the call is refused: then with what is kept
@@ -44,13 +49,13 @@ abbrev pub polyBlampSimdOf : List Float → List Float → Lanes
 polyBlampSimdOf t dt = lanesOr (unless (arePhases t dt) Argument) (spread zero64) (both blampLane t dt)
 
 abbrev pub applyPolyblepSawOf : List Float → List Float → Float → Lanes
-applyPolyblepSawOf samples phases dt = lanesOr (unless (areGiven samples phases dt) Argument) samples (sawLanes samples phases dt)
+applyPolyblepSawOf samples phases dt = lanesOr (unless (areTaken samples phases dt) Argument) samples (sawLanes samples phases dt)
 
 abbrev pub applyPolyblepSquareOf : List Float → List Float → Float → Lanes
-applyPolyblepSquareOf samples phases dt = lanesOr (unless (areGiven samples phases dt) Argument) samples (squareLanes samples phases dt)
+applyPolyblepSquareOf samples phases dt = lanesOr (unless (areTaken samples phases dt) Argument) samples (squareLanes samples phases dt)
 
 abbrev pub applyPolyblepPulseOf : List Float → List Float → Float → Float → Lanes
-applyPolyblepPulseOf samples phases dt duty = lanesOr (unless (areGiven samples phases dt && isDuty duty) Argument) samples (pulseLanes samples phases dt duty)
+applyPolyblepPulseOf samples phases dt duty = lanesOr (unless (areTaken samples phases dt && isDuty duty) Argument) samples (pulseLanes samples phases dt duty)
 
 abbrev pub applyPolyblampTriangleOf : List Float → List Float → Float → Lanes
-applyPolyblampTriangleOf samples phases dt = lanesOr (unless (areGiven samples phases dt) Argument) samples (triangleLanes samples phases dt)
+applyPolyblampTriangleOf samples phases dt = lanesOr (unless (areTaken samples phases dt) Argument) samples (triangleLanes samples phases dt)

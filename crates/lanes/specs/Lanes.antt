@@ -1,9 +1,10 @@
 -- Four lanes of polyblep.rs. 02, R-10: "Port the simd corrections and the four apply calls of polyblep.rs over arrays
 -- of four numbers, with their own floor."; "Above 0.5 the two part, since the later test wins".
 --
--- A lane has the two values of the single form (`polyblep`), and its two tests the other way round: the test before the
--- step is the later one in the text, and wins where both hold. The apply calls correct samples that are given, in the
--- order of operations of the single waveforms. All is defined for every float, in the domain or not. Definitions only.
+-- A lane has the two values of the single form (`polyblep`) and makes its two tests. Where both hold, the later one in
+-- the text wins, that for the side before the step. The apply calls correct samples that are given, in the order of
+-- operations of the single waveforms; their floor is std::simd's, lane by lane, which is `floorOf` too. All is defined
+-- for every float, in the domain or not. Definitions only.
 use mathlib.Core.Bool.{cond}
 use mathlib.Core.List.{List, [], _∷_}
 use Prim.Native.Nat.{ℕ}
@@ -24,15 +25,20 @@ blepLane t dt = valueAt blepAfter blepBefore (laneSide t dt)
 unfoldable pub blampLane : Float → Float → Float
 blampLane t dt = valueAt (blampAfter dt) (blampBefore dt) (laneSide t dt)
 
--- ---- four of them: number i of an array, and a function of each number, or of two arrays' numbers
+-- ---- four of them
+-- number i of an array
 abbrev pub lane : List Float → ℕ → Float
 lane x i = getD x i nan
 
+abbrev pub fourOf : (ℕ → Float) → List Float
+fourOf f = f 0 ∷ f 1 ∷ f 2 ∷ f 3 ∷ []
+
+-- a function of each number, and of the numbers of two arrays
 abbrev pub each : (Float → Float) → List Float → List Float
-each f x = f (lane x 0) ∷ f (lane x 1) ∷ f (lane x 2) ∷ f (lane x 3) ∷ []
+each f x = fourOf (λ (i : ℕ). f (lane x i))
 
 abbrev pub both : (Float → Float → Float) → List Float → List Float → List Float
-both f x y = f (lane x 0) (lane y 0) ∷ f (lane x 1) (lane y 1) ∷ f (lane x 2) (lane y 2) ∷ f (lane x 3) (lane y 3) ∷ []
+both f x y = fourOf (λ (i : ℕ). f (lane x i) (lane y i))
 
 -- ---- four samples, corrected
 abbrev pub sawLanes : List Float → List Float → Float → List Float

@@ -1,7 +1,7 @@
 // The simd half of polyblep.rs, in f64: the two corrections and the four calls that apply them, on four numbers at a
-// time, its lanes. A lane works out both values of a correction and then chooses: the test before the step comes last
-// and wins, where the single form (`polyblep`) takes the first test that holds. Renders keep the single form. Left out:
-// the simd paths of waveform.rs, oscillator.rs and lfo.rs, which also add their phases differently.
+// time, its lanes. A lane works out both values of a correction and then chooses: the test for the side before the step
+// comes last and wins, where the single form (`polyblep`) takes the first test that holds. Renders keep the single
+// form. Left out: the simd paths of waveform.rs, oscillator.rs and lfo.rs, which also add their phases differently.
 ghost use mathlib.Core.Path.{_≡_};
 ghost use lib.Ieee.{Float, binary64};
 ghost use Rattle.floats.specs.Floor.{floorOf};
@@ -34,7 +34,7 @@ pub fn poly_blamp_simd(t: [f64; 4], dt: [f64; 4]) -> Lanes
     lanes_if(are_phases(t, dt), [0.0; 4], blamps(t, dt))
 }
 
-// Four naive samples of a sawtooth, corrected at its step.
+// Four samples of a sawtooth, corrected at its step.
 pub fn apply_polyblep_saw(samples: [f64; 4], phases: [f64; 4], phase_inc: f64) -> Lanes
     ensures { λ r. ⌜ r ≡ applyPolyblepSawOf samples phases «phase_inc» ⌝ }
 {
@@ -43,7 +43,7 @@ pub fn apply_polyblep_saw(samples: [f64; 4], phases: [f64; 4], phase_inc: f64) -
     lanes_if(ok, samples, less(samples, bleps(phases, dt)))
 }
 
-// Four naive samples of a square, corrected where it rises and where it falls, half a cycle on.
+// Four samples of a square, corrected where it rises and where it falls, half a cycle on.
 pub fn apply_polyblep_square(samples: [f64; 4], phases: [f64; 4], phase_inc: f64) -> Lanes
     ensures { λ r. ⌜ r ≡ applyPolyblepSquareOf samples phases «phase_inc» ⌝ }
 {
@@ -54,7 +54,7 @@ pub fn apply_polyblep_square(samples: [f64; 4], phases: [f64; 4], phase_inc: f64
     lanes_if(ok, samples, less(plus(samples, rise), fall))
 }
 
-// Four naive samples of a pulse, corrected where it rises and where it falls, at the duty.
+// Four samples of a pulse, corrected where it rises and where it falls, at the duty.
 pub fn apply_polyblep_pulse(
     samples: [f64; 4],
     phases: [f64; 4],
@@ -70,7 +70,7 @@ pub fn apply_polyblep_pulse(
     lanes_if(ok, samples, less(plus(samples, rise), fall))
 }
 
-// Four naive samples of a triangle, corrected at its lower corner and at its upper one, half a cycle on.
+// Four samples of a triangle, corrected at its lower corner and at its upper one, half a cycle on.
 pub fn apply_polyblamp_triangle(samples: [f64; 4], phases: [f64; 4], phase_inc: f64) -> Lanes
     ensures { λ r. ⌜ r ≡ applyPolyblampTriangleOf samples phases «phase_inc» ⌝ }
 {
@@ -101,8 +101,8 @@ fn blamp_lane(t: f64, dt: f64) -> f64
     chosen(t, dt, after, before)
 }
 
-// The value on the side where t lies; the later test wins. The value that is not chosen may be a NaN: 0/0 where t and
-// dt are 0.
+// The value on the side that t is taken to be on: the later test wins. The value that is not chosen may be a NaN: 0/0
+// where t and dt are 0.
 fn chosen(t: f64, dt: f64, after: f64, before: f64) -> f64
     ensures { λ r. ⌜ r ≡ valueAt (λ (x : Float). after) (λ (x : Float). before) (laneSide t dt) ⌝ }
 {
