@@ -35,11 +35,11 @@ module _ (after before : Float → Float) (x y : Float) where
   same-else false true n = refl
   same-else false false n = refl
 
--- a lane chooses between two values that are worked out already
-pub chosen-is : (after before : Float → Float) (t dt : Float) → valueAt (λ (x : Float). after (t ⊘ dt)) (λ (x : Float). before ((t ⊖ one) ⊘ dt)) (laneSide t dt) ≡ valueAt after before (laneSide t dt)
+-- a lane works out one distance, of the side that t is taken to be on, and both values there, and chooses
+pub chosen-is : (after before : Float → Float) (t dt : Float) → valueAt (λ (x : Float). after (cond (lt (one ⊖ dt) t) (t ⊖ one) t ⊘ dt)) (λ (x : Float). before (cond (lt (one ⊖ dt) t) (t ⊖ one) t ⊘ dt)) (laneSide t dt) ≡ valueAt after before (laneSide t dt)
 chosen-is after before t dt = go (lt t dt) (lt (one ⊖ dt) t)
   where
-    go : (a b : Bool) → laned (λ (x : Float). after (t ⊘ dt)) (λ (x : Float). before ((t ⊖ one) ⊘ dt)) (t ⊘ dt) ((t ⊖ one) ⊘ dt) a b ≡ laned after before (t ⊘ dt) ((t ⊖ one) ⊘ dt) a b
+    go : (a b : Bool) → laned (λ (x : Float). after (cond b (t ⊖ one) t ⊘ dt)) (λ (x : Float). before (cond b (t ⊖ one) t ⊘ dt)) (t ⊘ dt) ((t ⊖ one) ⊘ dt) a b ≡ laned after before (t ⊘ dt) ((t ⊖ one) ⊘ dt) a b
     go true true = refl
     go true false = refl
     go false true = refl

@@ -1,11 +1,12 @@
 // The simd half of polyblep.rs, in f64: the two corrections and the four calls that apply them, on four numbers at a
-// time, its lanes. A lane works out both values of a correction and then chooses: the test for the side before the step
+// time, its lanes. A lane chooses between the two values of a correction: the test for the side before the step
 // comes last and wins, where the single form (`polyblep`) takes the first test that holds. Renders keep the single
 // form. Left out: the simd paths of waveform.rs, oscillator.rs and lfo.rs, which also add their phases differently.
 ghost use mathlib.Core.Path.{_≡_};
-ghost use lib.Ieee.{Float, binary64};
+ghost use mathlib.Core.Bool.{cond};
+ghost use lib.Ieee.{Float, binary64, lt};
 ghost use Rattle.floats.specs.Floor.{floorOf};
-ghost use Rattle.floats.specs.Double.{_⊕_, _⊖_, _⊗_, half, one, eight};
+ghost use Rattle.floats.specs.Double.{_⊕_, _⊖_, _⊗_, _⊘_, half, one, eight};
 ghost use Rattle.answers.specs.Order.{unless};
 ghost use Rattle.answers.specs.declared.Refusal.the-variants.{Argument};
 ghost use Rattle.polyblep.specs.Polyblep.{valueAt, fractOf};
@@ -85,10 +86,9 @@ pub fn apply_polyblamp_triangle(samples: [f64; 4], phases: [f64; 4], phase_inc: 
 fn blep_lane(t: f64, dt: f64) -> f64
     ensures { λ r. ⌜ r ≡ blepLane t dt ⌝ }
 {
-    let x = t / dt;
-    let y = (t - 1.0) / dt;
+    let x = distance(t, dt);
     let after = 2.0 * x - x * x - 1.0;
-    let before = y * y + 2.0 * y + 1.0;
+    let before = x * x + 2.0 * x + 1.0;
     chosen(t, dt, after, before)
 }
 
@@ -96,13 +96,22 @@ fn blep_lane(t: f64, dt: f64) -> f64
 fn blamp_lane(t: f64, dt: f64) -> f64
     ensures { λ r. ⌜ r ≡ blampLane t dt ⌝ }
 {
-    let after = polyblep::knee_after(t / dt) * dt;
-    let before = polyblep::knee_before((t - 1.0) / dt) * dt;
+    let x = distance(t, dt);
+    let after = polyblep::knee_after(x) * dt;
+    let before = polyblep::knee_before(x) * dt;
     chosen(t, dt, after, before)
 }
 
-// The value on the side that t is taken to be on: the later test wins. The value that is not chosen may be a NaN: 0/0
-// where t and dt are 0.
+// The distance from the step in samples, on the side that t is taken to be on: one division, where the original makes
+// two. It is 0/0 where t and dt are 0, and is not used there.
+fn distance(t: f64, dt: f64) -> f64
+    ensures { λ r. ⌜ r ≡ cond (lt (one ⊖ dt) t) (t ⊖ one) t ⊘ dt ⌝ }
+{
+    let far = if t > 1.0 - dt { t - 1.0 } else { t };
+    far / dt
+}
+
+// The value on the side that t is taken to be on: the later test wins.
 fn chosen(t: f64, dt: f64, after: f64, before: f64) -> f64
     ensures { λ r. ⌜ r ≡ valueAt (λ (x : Float). after) (λ (x : Float). before) (laneSide t dt) ⌝ }
 {
