@@ -1,6 +1,6 @@
 // polyblep.rs of the original, in f64: corrections for the steps (`poly_blep`) and the corners (`poly_blamp`) of a
 // naive waveform, and four corrected waveforms. The calls of 01 judge their arguments; the functions under them take
-// any number, and a waveform's inner loop uses these. Left out: the simd lanes. Ours is the rounded triangle, whose
+// any number, and a waveform's inner loop uses these. The simd half is in `lanes`. Ours is the rounded triangle, whose
 // correction has the constant of integration that the original's lacks.
 ghost use mathlib.Core.Path.{_≡_};
 ghost use Rattle.polyblep.specs.Polyblep.{sideOf, kneeAfter, kneeBefore, blepOf, blampOf, roundedBlampOf, fractOf, naivePulseOf, naiveSawOf, riseOf, fallOf, naiveTriangleOf, sawOf, squareOf, pulseOf, triangleOf, roundedOf};

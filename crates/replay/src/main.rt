@@ -9,6 +9,7 @@ use nearness::Finding;
 mod block_rows;
 mod envelope_rows;
 mod fields;
+mod lane_rows;
 mod nearness;
 mod phase_rows;
 mod pitch_rows;
@@ -45,6 +46,8 @@ const VOICE: u64 = 0x65_6369_6f76;
 const BLOCKS: u64 = 0x736b_636f_6c62;
 
 const RENDER: u64 = 0x7265_646e_6572;
+
+const LANES: u64 = 0x73_656e_616c;
 
 fn main() {
     let mut row = [0u8; LONGEST];
@@ -129,6 +132,7 @@ fn first_of(name: u64) -> usize {
         VOICE => voice_rows::ROW,
         BLOCKS => block_rows::ROW,
         RENDER => render_rows::ROW,
+        LANES => lane_rows::ROW,
         _ => 0,
     }
 }
@@ -145,6 +149,7 @@ fn compared(name: u64, row: &[u8]) -> Finding {
         VOICE => voice_rows::is_equal(row),
         BLOCKS => return block_rows::compared(row),
         RENDER => return render_rows::compared(row),
+        LANES => lane_rows::is_equal(row),
         _ => false,
     };
     Finding {
@@ -157,7 +162,7 @@ fn compared(name: u64, row: &[u8]) -> Finding {
 fn tell_head(name: u64, rows: u64, row: &[u8]) {
     let letters = match name {
         SINE => 4,
-        PHASE | PITCH | VOICE => 5,
+        PHASE | PITCH | VOICE | LANES => 5,
         BLOCKS | RENDER => 6,
         _ => 8,
     };
