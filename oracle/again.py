@@ -3,10 +3,10 @@
 
 Every operation is done without rounding and then rounded once by `rounded` below, so the result depends neither on the
 processor's floats nor on the original's text. Says how many rows agree, exits 1 if one does not. The parts are the
-leaves: phase, polyblep, envelope, waveform and voice, whose pitches are those of the definition's list, and sine, which
-is measured, and whose rows must also be sines by Python's library. Of `blocks` the rows of a rounded triangle alone are
-taken; all its rows and the renders are compared with the reference voice (tests/reference). `corner`, of a file of
-polyblep, measures how far the rounded triangle's correction, in floats, is from 02's exact one.
+leaves: phase, polyblep, lanes, envelope, waveform and voice, whose pitches are those of the definition's list, and
+sine, which is measured, and whose rows must also be sines by Python's library. Of `blocks` the rows of a rounded
+triangle alone are taken; all its rows and the renders are compared with the reference voice (tests/reference).
+`corner`, of a file of polyblep, measures how far the rounded triangle's correction, in floats, is from 02's exact one.
 """
 
 import functools
@@ -221,6 +221,59 @@ def polyblep_answer(op, phase_bits, dt_bits, duty_bits):
         return (9, 0)
     calls = [blep, blamp, saw, square, lambda p, d: pulse(p, d, duty), triangle]
     return (0, bits_of(calls[op](phase, dt), True))
+
+
+# The lanes.
+
+
+def chosen(t, dt, after, before):
+    """02, R-10: "the later test wins". The value that is not chosen, which may be none (0/0), is not worked out."""
+    if t > sub(1.0, dt):
+        return before(div(sub(t, 1.0), dt))
+    return after(div(t, dt)) if t < dt else 0.0
+
+
+def blep_lane(t, dt):
+    return chosen(
+        t,
+        dt,
+        lambda x: sub(sub(mul(2.0, x), mul(x, x)), 1.0),
+        lambda x: add(add(mul(x, x), mul(2.0, x)), 1.0),
+    )
+
+
+def blamp_lane(t, dt):
+    def after(x):
+        return mul(sub(sub(mul(x, x), mul(mul(mul(x, x), x), THIRD)), x), dt)
+
+    def before(x):
+        return mul(add(add(mul(mul(mul(x, x), x), THIRD), mul(x, x)), x), dt)
+
+    return chosen(t, dt, after, before)
+
+
+def lane_value(op, t, dt, duty, sample):
+    """One lane of a call; the numbers of the apply calls are those of the waveforms."""
+    if op < 2:
+        return (blep_lane, blamp_lane)[op](t, dt)
+    if op == 2:
+        return sub(sample, blep_lane(t, dt))
+    other = DOUBLE.fraction(add(sub(t, duty), 1.0) if op == 4 else add(t, 0.5))
+    if op == 5:
+        return sub(add(sample, mul(8.0, blamp_lane(t, dt))), mul(8.0, blamp_lane(other, dt)))
+    return sub(add(sample, blep_lane(t, dt)), blep_lane(other, dt))
+
+
+def lanes_answer(op, *given):
+    ts, dts, (duty, *samples) = ([float_of(w, True) for w in words] for words in (given[:4], given[4:8], given[8:]))
+    if op > 1:
+        dts = 4 * dts[:1]
+    accepted = all(0 <= t <= 1 for t in ts) and all(0 <= dt <= 4 for dt in dts)
+    accepted = accepted and (op != 4 or 0 <= duty <= 1) and (op < 2 or all(finite(x) for x in samples))
+    if not accepted:
+        return (9,) + (4 * (0,) if op < 2 else given[9:])
+    lanes = zip(ts, dts, samples)
+    return (0,) + tuple(bits_of(lane_value(op, t, dt, duty, sample), True) for t, dt, sample in lanes)
 
 
 # The envelope.
@@ -500,6 +553,7 @@ ROUNDED_OPS = {"rounded 0": {0}, "rounded 1": {0}, "rounded 2": {0, 9}}
 PARTS = {
     "phase": ("<9I", 5, phase_answer, {op: {0, 9} if op < 7 else {0} for op in range(8)}),
     "polyblep": ("<6Q", 4, polyblep_answer, {op: {0, 9} if op < 6 else {0} for op in range(8)}),
+    "lanes": ("<19Q", 14, lanes_answer, {op: {0, 9} for op in range(6)}),
     "envelope": ("<24Q", 11, envelope_answer, {0: {0, 9}, 1: {0, 9}, 2: {0, 9}, 3: {0, 6, 9}, 4: {0}}),
     "waveform": ("<17Q", 7, waveform_answer, {0: {0}, 1: {0}, 2: {0, 6, 9}, 3: {9}} | ROUNDED_OPS),
     "voice": ("<31I", 16, voice_answer, {op: {0, 9} if op < 5 else {0} for op in range(6)}),

@@ -20,6 +20,7 @@ SHAPES = {
     "voice": (4, 31, 16),
     "blocks": (8, 10, 8),
     "render": (8, 45, 31),
+    "lanes": (8, 19, 14),
 }
 # A row of these goes on: this word of it says by how many.
 MORE = {"blocks": 7, "render": 1}

@@ -4,6 +4,7 @@ use std::path::Path;
 
 use crate::chance::Chance;
 use crate::check_copies::{self, run};
+use crate::check_lanes;
 use crate::math::Real;
 use crate::opened::lfo::LfoBlock;
 use crate::polyblep::{poly_blamp, polyblamp_triangle};
@@ -24,6 +25,7 @@ pub fn all() {
     overshoot();
     rounded();
     crests();
+    check_lanes::all();
     check_copies::all();
 }
 
@@ -34,8 +36,13 @@ fn files(folder: &Path) {
         assert!(there == bytes, "{name} is not what was compiled");
         assert!(opened.is_none_or(|longer| longer.starts_with(bytes)), "{name}: its opened copy differs inside");
     }
+    for &(name, bytes) in lanes::COMPILED {
+        let there = std::fs::read(folder.join(name)).unwrap_or_default();
+        assert!(there == bytes, "{name} is not what was compiled for the lanes");
+    }
     let opened = COMPILED.iter().filter(|file| file.2.is_some()).count();
     println!("{} files compiled byte for byte, {opened} of them once more with an opening at the end", COMPILED.len());
+    println!("{} of them compiled once more byte for byte for the lanes, with the switch simd", lanes::COMPILED.len());
 }
 
 /// The two constants that 01 takes from the built Rust, the three notes where libm's powf has bits of its own, and
@@ -68,7 +75,7 @@ fn overshoot() {
     println!("the LFO's triangle reaches {largest} at depth 1 and a step of 0.0125 cycles");
 }
 
-fn same(x: f64, y: f64) -> bool {
+pub fn same(x: f64, y: f64) -> bool {
     x.to_bits() == y.to_bits() || x.is_nan() && y.is_nan()
 }
 

@@ -14,7 +14,9 @@ mod block_rows;
 mod chance;
 mod check;
 mod check_copies;
+mod check_lanes;
 mod envelope_rows;
+mod lane_rows;
 mod patterns;
 mod phase_rows;
 mod pitch_rows;
@@ -37,7 +39,7 @@ mod waveform_rows;
 use std::process::exit;
 
 /// One entry a part of the voice; a later part is a module and a line here.
-const PARTS: [rows::Part; 9] = [
+const PARTS: [rows::Part; 10] = [
     phase_rows::PART,
     polyblep_rows::PART,
     pitch_rows::PART,
@@ -47,6 +49,7 @@ const PARTS: [rows::Part; 9] = [
     voice_rows::PART,
     block_rows::PART,
     render_rows::PART,
+    lane_rows::PART,
 ];
 
 const USAGE: &str = "\

@@ -30,14 +30,14 @@ pub const PART: Part = Part {
     answer,
 };
 
-const PULSE: u64 = 4;
-/// Those of the original.
-const OPS: u64 = 6;
+pub const PULSE: u64 = 4;
+/// Those of the original, and of its lanes.
+pub const OPS: u64 = 6;
 const ROUNDED_BLAMP: u64 = 6;
 const ROUNDED: u64 = 7;
 
-const TINY: f64 = f64::from_bits(1);
-const LARGEST_SUBNORMAL: f64 = f64::from_bits(0x000F_FFFF_FFFF_FFFF);
+pub const TINY: f64 = f64::from_bits(1);
+pub const LARGEST_SUBNORMAL: f64 = f64::from_bits(0x000F_FFFF_FFFF_FFFF);
 
 fn given(op: u64, t: f64, dt: f64, duty: f64) -> Vec<u64> {
     let read = if op == PULSE { duty } else { 0.0 };
@@ -95,6 +95,11 @@ fn rounded_answer(op: u64, t: f64, dt: f64) -> f64 {
 
 // The edges.
 
+/// Where other things than the duty are crossed.
+pub const DUTY: f64 = 0.25;
+/// What a duty is crossed with.
+pub const PULSE_STEPS: [f64; 7] = [0.0, two_to(-53), 440.0 / 48000.0, 0.5, 0.75, 1.0, 4.0];
+
 fn phases_inside() -> Vec<f64> {
     let mut list = vec![0.0, -0.0, TINY, LARGEST_SUBNORMAL, f64::MIN_POSITIVE, two_to(-60)];
     // One float above 2^-54 the sum with 0.5 rounds up, where - 0.5 + 1 rounds down: square is not pulse.
@@ -103,13 +108,13 @@ fn phases_inside() -> Vec<f64> {
     list
 }
 
-fn phases_outside() -> Vec<f64> {
+pub fn phases_outside() -> Vec<f64> {
     let mut list = vec![-TINY, -two_to(-53), -1.0, near(1.0, 1), 2.0, f64::MAX];
     list.extend(not_finite());
     list
 }
 
-fn steps_inside() -> Vec<f64> {
+pub fn steps_inside() -> Vec<f64> {
     let mut list = vec![0.0, -0.0, TINY, LARGEST_SUBNORMAL, f64::MIN_POSITIVE];
     // 1 - 2^-54 is half way and rounds to 1; from the next float on 1 - dt lies below 1.
     list.extend([two_to(-54), near(two_to(-54), 1), two_to(-53), two_to(-52), 440.0 / 48000.0]);
@@ -118,20 +123,20 @@ fn steps_inside() -> Vec<f64> {
     list
 }
 
-fn steps_outside() -> Vec<f64> {
+pub fn steps_outside() -> Vec<f64> {
     let mut list = vec![-TINY, -0.25, near(4.0, 1), 5.0, f64::MAX, -f64::MAX];
     list.extend(not_finite());
     list
 }
 
-fn duties_inside() -> Vec<f64> {
+pub fn duties_inside() -> Vec<f64> {
     let mut list = vec![0.0, -0.0, TINY, f64::MIN_POSITIVE, two_to(-53), 0.25, near(0.5, -1), 0.5, near(0.5, 1)];
     list.extend([near(1.0, -1), 1.0]);
     list
 }
 
 /// Not finite, with several of the patterns that are NaN.
-fn not_finite() -> Vec<f64> {
+pub fn not_finite() -> Vec<f64> {
     let mut list = vec![f64::INFINITY, f64::NEG_INFINITY];
     let patterns = [0x7FF8_0000_0000_0000, 0xFFF8_0000_0000_0000, 0x7FF0_0000_0000_0001, u64::MAX];
     list.extend(patterns.map(f64::from_bits));
@@ -154,13 +159,21 @@ fn around(points: &[f64]) -> Vec<f64> {
     all.filter(|t| (0.0..=1.0).contains(t)).collect()
 }
 
+/// The phases at which a call is asked with this dt, those of every range and its own.
+pub fn phases_at(op: u64, dt: f64) -> Vec<f64> {
+    [phases_inside(), around(&turning_points(op, dt, DUTY))].concat()
+}
+
+/// Those at which a pulse is asked with this dt and duty.
+pub fn phases_of_pulse(dt: f64, duty: f64) -> Vec<f64> {
+    [vec![0.0, -0.0, TINY, 0.125, 1.0], around(&turning_points(PULSE, dt, duty))].concat()
+}
+
 fn edges() -> Vec<Vec<u64>> {
     let mut rows: Vec<_> = (0..OPS).flat_map(edges_of).collect();
     for duty in duties_inside() {
-        for dt in [0.0, two_to(-53), 440.0 / 48000.0, 0.5, 0.75, 1.0, 4.0] {
-            for t in [0.0, -0.0, TINY, 0.125, 1.0].into_iter().chain(around(&turning_points(PULSE, dt, duty))) {
-                rows.push(given(PULSE, t, dt, duty));
-            }
+        for dt in PULSE_STEPS {
+            rows.extend(phases_of_pulse(dt, duty).into_iter().map(|t| given(PULSE, t, dt, duty)));
         }
     }
     for duty in phases_outside() {
@@ -173,15 +186,13 @@ fn edges() -> Vec<Vec<u64>> {
 fn edges_of(op: u64) -> Vec<Vec<u64>> {
     let mut rows = Vec::new();
     for dt in steps_inside() {
-        for t in phases_inside().into_iter().chain(around(&turning_points(op, dt, 0.25))) {
-            rows.push(given(op, t, dt, 0.25));
-        }
+        rows.extend(phases_at(op, dt).into_iter().map(|t| given(op, t, dt, DUTY)));
     }
     for t in phases_outside() {
-        rows.extend([0.0, 0.25, 1.0, f64::NAN].map(|dt| given(op, t, dt, 0.25)));
+        rows.extend([0.0, 0.25, 1.0, f64::NAN].map(|dt| given(op, t, dt, DUTY)));
     }
     for dt in steps_outside() {
-        rows.extend([-0.0, 0.125, 1.0, near(1.0, 1)].map(|t| given(op, t, dt, 0.25)));
+        rows.extend([-0.0, 0.125, 1.0, near(1.0, 1)].map(|t| given(op, t, dt, DUTY)));
     }
     rows
 }
@@ -215,17 +226,21 @@ fn random_rounded(chance: &mut Chance) -> Vec<u64> {
 fn inside(op: u64, chance: &mut Chance) -> Vec<u64> {
     let dt = random_step(chance);
     let duty = random_phase(chance);
-    let t = match chance.below(3) {
+    given(op, phase_about(op, dt, duty, chance), dt, duty)
+}
+
+/// Also below 0 and above 1, where a turning point lies there.
+pub fn phase_about(op: u64, dt: f64, duty: f64, chance: &mut Chance) -> f64 {
+    match chance.below(3) {
         // A few floats beside such a phase, or anywhere within dt / 2 of it, where a correction may act.
         0 => near(chance.pick(&turning_points(op, dt, duty)), chance.between(-3, 3)),
         1 => chance.pick(&turning_points(op, dt, duty)) + dt * (chance.unit() - 0.5),
         _ => random_phase(chance),
-    };
-    given(op, t, dt, duty)
+    }
 }
 
 /// 0 to 1; also what a duty is drawn by.
-fn random_phase(chance: &mut Chance) -> f64 {
+pub fn random_phase(chance: &mut Chance) -> f64 {
     match chance.below(8) {
         0..=3 => chance.dense(),
         4 => chance.scaled(-60, -1),
@@ -237,7 +252,7 @@ fn random_phase(chance: &mut Chance) -> f64 {
 }
 
 /// 0 to 4; the first line is what notes and rates give.
-fn random_step(chance: &mut Chance) -> f64 {
+pub fn random_step(chance: &mut Chance) -> f64 {
     match chance.below(8) {
         0..=2 => 20000.0 * chance.dense() * chance.dense() / chance.pick(&[8000.0, 44100.0, 48000.0, 192000.0]),
         3 => 0.5 * chance.dense(),
@@ -248,16 +263,21 @@ fn random_step(chance: &mut Chance) -> f64 {
     }
 }
 
-/// One field moved out of its range; the caller draws again where that field is not read by the call.
-fn spoil(row: &mut [u64], chance: &mut Chance) {
+/// Outside 0 to 1, mostly outside 0 to 4 too.
+pub fn random_outside(chance: &mut Chance) -> u64 {
     // Any pattern but the positive ones up to the limit: negative, above, infinity, NaN.
     let limit = if chance.below(2) == 0 { 0x3FF0_0000_0000_0000 } else { 0x4010_0000_0000_0000 };
     let anything = chance.between(limit + 1, i64::MAX) as u64 | (chance.below(2) << 63);
-    let bad = match chance.below(3) {
+    match chance.below(3) {
         0 => chance.pick(&phases_outside()).to_bits(),
         1 => chance.pick(&steps_outside()).to_bits(),
         _ => anything,
-    };
+    }
+}
+
+/// One field moved out of its range; the caller draws again where that field is not read by the call.
+fn spoil(row: &mut [u64], chance: &mut Chance) {
+    let bad = random_outside(chance);
     match chance.below(3) {
         0 => row[1] = bad,
         1 => row[2] = bad,
