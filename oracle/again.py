@@ -265,12 +265,12 @@ def lane_value(op, t, dt, duty, sample):
 
 
 def lanes_answer(op, *given):
-    ts, dts, (duty, *samples) = ([float_of(w, True) for w in words] for words in (given[:4], given[4:8], given[8:]))
-    if op > 1:
-        dts = 4 * dts[:1]
-    accepted = all(0 <= t <= 1 for t in ts) and all(0 <= dt <= 4 for dt in dts)
-    accepted = accepted and (op != 4 or 0 <= duty <= 1) and (op < 2 or all(finite(x) for x in samples))
-    if not accepted:
+    floats = [float_of(word, True) for word in given]
+    ts, duty, samples = floats[:4], floats[8], floats[9:]
+    dts = floats[4:8] if op < 2 else 4 * [floats[4]]
+    phases_fit = all(0 <= t <= 1 for t in ts) and all(0 <= dt <= 4 for dt in dts)
+    samples_fit = op < 2 or all(finite(x) for x in samples)
+    if not (phases_fit and samples_fit and (op != 4 or 0 <= duty <= 1)):
         return (9,) + (4 * (0,) if op < 2 else given[9:])
     lanes = zip(ts, dts, samples)
     return (0,) + tuple(bits_of(lane_value(op, t, dt, duty, sample), True) for t, dt, sample in lanes)

@@ -1,4 +1,4 @@
-"""What ties the promises together: contracts, theorems that two outcomes are equal, 01's calls, and wrong programs.
+"""What ties the promises together: contracts, theorems that two outcomes are equal, the calls, and wrong programs.
 
 A public function of a library crate has one `ensures` and no `requires`. Its theorem is the one in its crate's
 proofs/Unique.antt that has its name (`set-phase-unique` for `set_phase`), or the one that SHARED names. The theorem has

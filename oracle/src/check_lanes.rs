@@ -22,7 +22,8 @@ fn before(t: f64, dt: f64) -> [f64; 2] {
     [x2 + 2.0 * x + 1.0, (x3 * (1.0 / 3.0) + x2 + x) * dt]
 }
 
-/// How many points pass both tests, and at how many of these a blep, and a blamp, is another than the single form's.
+/// How many points there are, and how many pass both tests; at how many of these a blep, and a blamp, is another than
+/// the single form's; how many lanes of waveforms there are.
 #[derive(Default)]
 struct Seen {
     points: usize,
@@ -42,6 +43,7 @@ pub fn all() {
         }
     }
     let Seen { points, both, parted: [bleps, blamps], waves } = seen;
+    assert!(points > both && bleps > 0 && blamps > 0 && waves > 0, "the lanes were not compared");
     println!("a lane is the single form at {} points; at {both}, where both tests hold,", points - both);
     println!("  it has the value before the step: {bleps} bleps and {blamps} blamps are other than the single form's");
     println!("an apply call on naive samples, dt at most 0.5, is the single waveform in {waves} lanes");
@@ -65,8 +67,8 @@ impl Seen {
             for (kind, lane) in [bleps[i], blamps[i]].into_iter().enumerate() {
                 let want = if is_after && is_before { later[kind] } else { single[kind] };
                 assert!(same(lane, want), "a lane at {t} and {dt} is {lane}, not {want}");
-                let is_held = is_after || !is_before || same(single[kind], later[kind]);
-                assert!(is_held, "the later branch at {t} and {dt} is {}, not {}", single[kind], later[kind]);
+                let is_single = is_after || !is_before || same(single[kind], later[kind]);
+                assert!(is_single, "the later branch at {t} and {dt} is {}, not {}", single[kind], later[kind]);
                 self.parted[kind] += !same(lane, single[kind]) as usize;
             }
         }

@@ -1,8 +1,8 @@
 //! Rows of the lanes, the simd half of polyblep: op, four t or phases, four dt (of an apply call phase_inc and three
 //! zeros), duty, four samples; then answer and four values. 19 u64 a row, every float as its bits.
 //!
-//! What a call does not take is 0. A refused call leaves its samples as they came, and of a correction, which takes
-//! none, four +0. A NaN among given samples is 7FF8000000000000; the replay cannot see the payload of another.
+//! What a call does not take is 0. A refused apply call gives its samples as they came; a refused correction gives four
+//! +0. A NaN among given samples is 7FF8000000000000; the replay cannot see the payload of another.
 
 use std::array::from_fn;
 use std::collections::HashSet;
@@ -158,8 +158,8 @@ fn corrections(op: u64) -> Vec<Call> {
     turned.map(|group: [_; 4]| Call { t: group.map(|p| p.0), dt: group.map(|p| p.1), ..plain(op) }).collect()
 }
 
-/// Four phases at each dt, and of a pulse at each duty, on naive samples; the former also on samples of all kinds, each
-/// kind in each place. A large sample hides its correction.
+/// Four phases at each dt, and of a pulse at each duty, on naive samples; where the duty is the plain one also on
+/// samples of all kinds, each kind in each place. A large sample hides its correction.
 fn applied(op: u64) -> Vec<Call> {
     let mut given: Vec<_> = steps_inside().into_iter().map(|dt| (dt, DUTY, phases_at(op, dt))).collect();
     if op == PULSE {
@@ -181,7 +181,13 @@ fn applied(op: u64) -> Vec<Call> {
             calls.push(turned(turn + 1));
         }
     }
+    calls.push(uncorrected(op));
     calls
+}
+
+/// Where no correction is due: a sample of -0 becomes +0 where 0 is added to it.
+fn uncorrected(op: u64) -> Call {
+    Call { t: [0.1875, 0.3125, 0.6875, 0.8125], dt: [0.03125; 4], samples: [-0.0, 0.0, -0.0, -TINY], ..plain(op) }
 }
 
 /// One lane outside in each place, by its t, its dt or its sample, and two in any two places; a dt and a duty of all.

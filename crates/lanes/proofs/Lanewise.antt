@@ -18,7 +18,7 @@ use Rattle.polyblep.proofs.Clear.{four-pass}
 use Rattle.lanes.specs.declared.Lanes.{Lanes}
 use Rattle.lanes.specs.Lanes.{lane, fourOf, blepLane, blampLane}
 use Rattle.lanes.specs.Calls.{allFour, arePhases, areFinite, areTaken, spread, lanesOr}
-use Rattle.lanes.specs.ByLane.{ByLane, isTaken, LaneByLane}
+use Rattle.lanes.specs.LaneByLane.{EachLane, isTaken, LaneByLane}
 
 -- ---- four lanes, and one of them
 by-four : (P : ℕ → Type 0) → P 0 → P 1 → P 2 → P 3 → (i : ℕ) → i < 4 → P i
@@ -54,7 +54,7 @@ lane-is : (f : ℕ → Float) (i : ℕ) → i < 4 → lane (fourOf f) i ≡ f i
 lane-is f = by-four (λ (i : ℕ). lane (fourOf f) i ≡ f i) refl refl refl refl
 
 by-lane : (inside : ℕ → Bool) (value : ℕ → Float) (kept : List Float) (ok : Bool) → (((i : ℕ) → i < 4 → T (inside i)) → T ok) → (T ok → (i : ℕ) → i < 4 → T (inside i))
-    → ByLane inside value kept (lanesOr (unless ok Argument) kept (fourOf value))
+    → EachLane inside value kept (lanesOr (unless ok Argument) kept (fourOf value))
 by-lane inside value kept ok all one =
     record {
       done = λ (h : (i : ℕ) → i < 4 → T (inside i)).

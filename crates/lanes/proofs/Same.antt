@@ -1,5 +1,5 @@
--- The calls for dt at most 0.5: each lane of a correction has the bits of the single one, and so each lane of an apply
--- call on the naive samples of its waveform those of the single waveform. Assumes nothing.
+-- For dt at most 0.5 each lane of a correction has the bits of the single one. So each lane of an apply call on the
+-- naive samples of its waveform has the bits of the single waveform. Assumes nothing.
 use mathlib.Core.Path.{_≡_, refl, _∙_}
 use mathlib.Core.Bool.{Bool, _&&_}
 use mathlib.Core.List.{List}

@@ -1,4 +1,4 @@
 pub mod Lanes
 pub mod Calls
-pub mod ByLane
+pub mod LaneByLane
 pub mod Single

@@ -1,7 +1,7 @@
-// The simd half of polyblep.rs, in f64: the two corrections and the four calls that apply them, on four numbers at a
-// time, its lanes. A lane chooses between the two values of a correction: the test for the side before the step
-// comes last and wins, where the single form (`polyblep`) takes the first test that holds. Renders keep the single
-// form. Left out: the simd paths of waveform.rs, oscillator.rs and lfo.rs, which also add their phases differently.
+// The simd half of polyblep.rs, in f64: the two corrections, and the four calls that apply them, on four numbers at a
+// time. Each of the four is a lane. A lane chooses between the two values of a correction: the test for the side before
+// the step comes last and wins, where the single form (`polyblep`) takes the first test that holds. Renders keep the
+// single form. Left out: the simd paths of waveform.rs, oscillator.rs and lfo.rs.
 ghost use mathlib.Core.Path.{_≡_};
 ghost use mathlib.Core.Bool.{cond};
 ghost use lib.Ieee.{Float, binary64, lt};
@@ -11,7 +11,7 @@ ghost use Rattle.answers.specs.Order.{unless};
 ghost use Rattle.answers.specs.declared.Refusal.the-variants.{Argument};
 ghost use Rattle.polyblep.specs.Polyblep.{valueAt, fractOf};
 ghost use Rattle.lanes.specs.Lanes.{laneSide, blepLane, blampLane, each, both};
-ghost use Rattle.lanes.specs.Calls.{arePhases, areFinite, lanesOr, polyBlepSimdOf, polyBlampSimdOf, applyPolyblepSawOf, applyPolyblepSquareOf, applyPolyblepPulseOf, applyPolyblampTriangleOf};
+ghost use Rattle.lanes.specs.Calls.{arePhases, areFinite, areTaken, lanesOr, polyBlepSimdOf, polyBlampSimdOf, applyPolyblepSawOf, applyPolyblepSquareOf, applyPolyblepPulseOf, applyPolyblampTriangleOf};
 use answers::Answer;
 use answers::Refusal;
 
@@ -40,8 +40,8 @@ pub fn apply_polyblep_saw(samples: [f64; 4], phases: [f64; 4], phase_inc: f64) -
     ensures { λ r. ⌜ r ≡ applyPolyblepSawOf samples phases «phase_inc» ⌝ }
 {
     let dt = [phase_inc; 4];
-    let ok = are_phases(phases, dt) & are_finite(samples);
-    lanes_if(ok, samples, less(samples, bleps(phases, dt)))
+    let ok = are_taken(samples, phases, phase_inc);
+    lanes_if(ok, samples, minus(samples, bleps(phases, dt)))
 }
 
 // Four samples of a square, corrected where it rises and where it falls, half a cycle on.
@@ -49,10 +49,10 @@ pub fn apply_polyblep_square(samples: [f64; 4], phases: [f64; 4], phase_inc: f64
     ensures { λ r. ⌜ r ≡ applyPolyblepSquareOf samples phases «phase_inc» ⌝ }
 {
     let dt = [phase_inc; 4];
-    let ok = are_phases(phases, dt) & are_finite(samples);
+    let ok = are_taken(samples, phases, phase_inc);
     let rise = bleps(phases, dt);
     let fall = bleps(from_half(phases), dt);
-    lanes_if(ok, samples, less(plus(samples, rise), fall))
+    lanes_if(ok, samples, minus(plus(samples, rise), fall))
 }
 
 // Four samples of a pulse, corrected where it rises and where it falls, at the duty.
@@ -65,10 +65,10 @@ pub fn apply_polyblep_pulse(
     ensures { λ r. ⌜ r ≡ applyPolyblepPulseOf samples phases «phase_inc» «duty_cycle» ⌝ }
 {
     let dt = [phase_inc; 4];
-    let ok = are_phases(phases, dt) & are_finite(samples) & domain::is_duty(duty_cycle);
+    let ok = are_taken(samples, phases, phase_inc) & domain::is_duty(duty_cycle);
     let rise = bleps(phases, dt);
     let fall = bleps(from_duty(phases, duty_cycle), dt);
-    lanes_if(ok, samples, less(plus(samples, rise), fall))
+    lanes_if(ok, samples, minus(plus(samples, rise), fall))
 }
 
 // Four samples of a triangle, corrected at its lower corner and at its upper one, half a cycle on.
@@ -76,10 +76,10 @@ pub fn apply_polyblamp_triangle(samples: [f64; 4], phases: [f64; 4], phase_inc: 
     ensures { λ r. ⌜ r ≡ applyPolyblampTriangleOf samples phases «phase_inc» ⌝ }
 {
     let dt = [phase_inc; 4];
-    let ok = are_phases(phases, dt) & are_finite(samples);
+    let ok = are_taken(samples, phases, phase_inc);
     let low = eightfold(blamps(phases, dt));
     let high = eightfold(blamps(from_half(phases), dt));
-    lanes_if(ok, samples, less(plus(samples, low), high))
+    lanes_if(ok, samples, minus(plus(samples, low), high))
 }
 
 // One lane of a correction at a step.
@@ -103,12 +103,12 @@ fn blamp_lane(t: f64, dt: f64) -> f64
 }
 
 // The distance from the step in samples, on the side that t is taken to be on: one division, where the original makes
-// two. It is 0/0 where t and dt are 0, and is not used there.
+// two. Where dt is 0 it is infinite or a NaN; then neither value is chosen.
 fn distance(t: f64, dt: f64) -> f64
     ensures { λ r. ⌜ r ≡ cond (lt (one ⊖ dt) t) (t ⊖ one) t ⊘ dt ⌝ }
 {
-    let far = if t > 1.0 - dt { t - 1.0 } else { t };
-    far / dt
+    let from_step = if t > 1.0 - dt { t - 1.0 } else { t };
+    from_step / dt
 }
 
 // The value on the side that t is taken to be on: the later test wins.
@@ -152,13 +152,13 @@ fn from_half(phases: [f64; 4]) -> [f64; 4]
 fn from_duty(phases: [f64; 4], duty: f64) -> [f64; 4]
     ensures { λ r. ⌜ r ≡ each (λ (p : Float). fractOf (p ⊖ duty ⊕ one)) phases ⌝ }
 {
-    fracts(plus(less(phases, [duty; 4]), [1.0; 4]))
+    fracts(plus(minus(phases, [duty; 4]), [1.0; 4]))
 }
 
 fn fracts(x: [f64; 4]) -> [f64; 4]
     ensures { λ r. ⌜ r ≡ each fractOf x ⌝ }
 {
-    less(x, floors(x))
+    minus(x, floors(x))
 }
 
 // The lanes' own floor, that of each lane.
@@ -179,7 +179,7 @@ fn plus(x: [f64; 4], y: [f64; 4]) -> [f64; 4]
     [x[0] + y[0], x[1] + y[1], x[2] + y[2], x[3] + y[3]]
 }
 
-fn less(x: [f64; 4], y: [f64; 4]) -> [f64; 4]
+fn minus(x: [f64; 4], y: [f64; 4]) -> [f64; 4]
     ensures { λ r. ⌜ r ≡ both _⊖_ x y ⌝ }
 {
     [x[0] - y[0], x[1] - y[1], x[2] - y[2], x[3] - y[3]]
@@ -189,6 +189,13 @@ fn eightfold(x: [f64; 4]) -> [f64; 4]
     ensures { λ r. ⌜ r ≡ each (λ (a : Float). eight ⊗ a) x ⌝ }
 {
     [8.0 * x[0], 8.0 * x[1], 8.0 * x[2], 8.0 * x[3]]
+}
+
+// Whether an apply call takes the samples and phases, with one dt for all lanes.
+fn are_taken(samples: [f64; 4], phases: [f64; 4], dt: f64) -> bool
+    ensures { λ r. ⌜ r ≡ areTaken samples phases dt ⌝ }
+{
+    are_phases(phases, [dt; 4]) & are_finite(samples)
 }
 
 // Whether every lane's t and dt are in the domain.

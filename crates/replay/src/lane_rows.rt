@@ -14,16 +14,14 @@ pub fn is_equal(row: &[u8]) -> bool {
     };
     let answer = got.answer;
     let values = got.values;
-    (op < 6) & fields::says(answer, words::u64_at(row, 112)) & are_values(row, &values)
-}
-
-fn are_values(row: &[u8], values: &[f64; 4]) -> bool {
-    fields::compared(true, row, false, 120, 0, 0, values).equal
+    (op < 6) & fields::says(answer, words::u64_at(row, 112)) & fields::are_floats(row, 120, &values)
 }
 
 fn corrections(op: u64, row: &[u8]) -> Lanes {
-    let t = four_at(row, 8);
-    let dt = four_at(row, 40);
+    let mut t = [0.0; 4];
+    fields::put_floats(row, 8, &mut t);
+    let mut dt = [0.0; 4];
+    fields::put_floats(row, 40, &mut dt);
     match op {
         0 => lanes::poly_blep_simd(t, dt),
         _ => lanes::poly_blamp_simd(t, dt),
@@ -32,23 +30,15 @@ fn corrections(op: u64, row: &[u8]) -> Lanes {
 
 // Of the four dt only the first is given: it is the phase of one sample in every lane.
 fn applied(op: u64, row: &[u8]) -> Lanes {
-    let phases = four_at(row, 8);
+    let mut phases = [0.0; 4];
+    fields::put_floats(row, 8, &mut phases);
+    let mut samples = [0.0; 4];
+    fields::put_floats(row, 80, &mut samples);
     let phase_inc = fields::float_at(row, 40);
-    let samples = four_at(row, 80);
     match op {
         2 => lanes::apply_polyblep_saw(samples, phases, phase_inc),
         3 => lanes::apply_polyblep_square(samples, phases, phase_inc),
         4 => lanes::apply_polyblep_pulse(samples, phases, phase_inc, fields::float_at(row, 72)),
         _ => lanes::apply_polyblamp_triangle(samples, phases, phase_inc),
     }
-}
-
-// The four floats from a byte of the row on, by their bits.
-fn four_at(row: &[u8], at: usize) -> [f64; 4] {
-    [
-        fields::float_at(row, at),
-        fields::float_at(row, std::num::wrapping_add_usize(at, 8)),
-        fields::float_at(row, std::num::wrapping_add_usize(at, 16)),
-        fields::float_at(row, std::num::wrapping_add_usize(at, 24)),
-    ]
 }

@@ -4,11 +4,8 @@ use mathlib.Core.Path.{refl}
 use Rattle.lanes.proofs.apply_polyblamp_triangle.Statement.{statement}
 use Rattle.lanes.proofs.apply_polyblamp_triangle.Tie as tie
 
-are-phases-requires : tie.Need-are-phases-requires
-are-phases-requires c κs = search needs
-
-are-finite-requires : tie.Need-are-finite-requires
-are-finite-requires c κs = search needs
+are-taken-requires : tie.Need-are-taken-requires
+are-taken-requires c κs = search needs
 
 blamps-requires : tie.Need-blamps-requires
 blamps-requires c κs = search needs
@@ -28,27 +25,26 @@ eightfold-requires-2 c κs = search needs
 plus-requires : tie.Need-plus-requires
 plus-requires c κs = search needs
 
-less-requires : tie.Need-less-requires
-less-requires c κs = search needs
+minus-requires : tie.Need-minus-requires
+minus-requires c κs = search needs
 
 lanes-if-requires : tie.Need-lanes-if-requires
 lanes-if-requires c κs = search needs
 
 returns : tie.Need-returns
-returns c = rw (c .lanes-if .ensures, c .before .less .ensures, c .before .before .plus .ensures, c .before .before .before .eightfold2 .ensures, c .before .before .before .before .blamps2 .ensures, c .before .before .before .before .before .from-half .ensures, c .before .before .before .before .before .before .eightfold .ensures, c .before .before .before .before .before .before .before .blamps .ensures, c .before .before .before .before .before .before .before .before .are-finite .ensures, c .before .before .before .before .before .before .before .before .before .are-phases .ensures) refl
+returns c = rw (c .lanes-if .ensures, c .before .minus .ensures, c .before .before .plus .ensures, c .before .before .before .eightfold2 .ensures, c .before .before .before .before .blamps2 .ensures, c .before .before .before .before .before .from-half .ensures, c .before .before .before .before .before .before .eightfold .ensures, c .before .before .before .before .before .before .before .blamps .ensures, c .before .before .before .before .before .before .before .before .are-taken .ensures) refl
 
 pub apply-polyblamp-triangle-spec : {M : Type 1} → statement M
 apply-polyblamp-triangle-spec =
     tie.close
     (tie.spec
-    are-phases-requires
-    are-finite-requires
+    are-taken-requires
     blamps-requires
     eightfold-requires
     from-half-requires
     blamps-requires-2
     eightfold-requires-2
     plus-requires
-    less-requires
+    minus-requires
     lanes-if-requires
     returns)
