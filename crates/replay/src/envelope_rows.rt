@@ -32,7 +32,7 @@ pub fn is_equal(row: &[u8]) -> bool {
     (op < 5)
         & fields::says(answer, words::u64_at(row, 88))
         & is_state(row, after)
-        & fields::are_floats(row, 128, &slots)
+        & fields::are_slots(row, 128, &slots)
 }
 
 fn is_state(row: &[u8], after: Envelope) -> bool {

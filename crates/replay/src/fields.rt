@@ -74,9 +74,9 @@ pub fn are_words(row: &[u8], first: usize, kept: &[u64]) -> bool {
     equal
 }
 
-// Whether the words from a byte of the row on are the bits of the numbers.
-pub fn are_floats(row: &[u8], first: usize, numbers: &[f64]) -> bool {
-    compared(true, row, false, first, 0, 0, numbers).equal
+// Whether the words from a byte of the row on are the bits of the eight numbers, the first of which were lent.
+pub fn are_slots(row: &[u8], first: usize, slots: &[f64; 8]) -> bool {
+    compared(true, row, false, first, 0, 0, slots).equal
 }
 
 // Whether all else is equal, and the samples are those from a byte of the row on. Where a sine is heard, a sample may

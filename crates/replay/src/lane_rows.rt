@@ -14,7 +14,11 @@ pub fn is_equal(row: &[u8]) -> bool {
     };
     let answer = got.answer;
     let values = got.values;
-    (op < 6) & fields::says(answer, words::u64_at(row, 112)) & fields::are_floats(row, 120, &values)
+    (op < 6) & fields::says(answer, words::u64_at(row, 112)) & are_values(row, &values)
+}
+
+fn are_values(row: &[u8], values: &[f64; 4]) -> bool {
+    fields::compared(true, row, false, 120, 0, 0, values).equal
 }
 
 fn corrections(op: u64, row: &[u8]) -> Lanes {

@@ -32,7 +32,7 @@ pub fn is_equal(row: &[u8]) -> bool {
     (op < 4)
         & fields::says(answer, words::u64_at(row, 56))
         & (words::u64_at(row, 64) == 0)
-        & fields::are_floats(row, 72, &slots)
+        & fields::are_slots(row, 72, &slots)
 }
 
 // Call 0 is the inner loop alone; only a block reduces the phase after it.
@@ -49,5 +49,5 @@ fn is_block(op: u64, row: &[u8]) -> bool {
     }
     (words::u64_at(row, 56) == 0)
         & (words::f64_bits(after.0) == words::u64_at(row, 64))
-        & fields::are_floats(row, 72, &slots)
+        & fields::are_slots(row, 72, &slots)
 }
