@@ -1,4 +1,4 @@
--- The calls, lane by lane: what all four lanes have each has, and the other way round. Assumes nothing.
+-- The calls, lane by lane: what holds of all four lanes holds of each, and the other way round. Assumes nothing.
 use mathlib.Core.Path.{_≡_, refl, ap, _∙_}
 use mathlib.Core.Bool.{Bool, true, false, not, _&&_}
 use mathlib.Core.List.{List}

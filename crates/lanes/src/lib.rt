@@ -103,7 +103,7 @@ fn blamp_lane(t: f64, dt: f64) -> f64
 }
 
 // The distance from the step in samples, on the side that t is taken to be on: one division, where the original makes
-// two. Where dt is 0 it is infinite or a NaN; then neither value is chosen.
+// two. Where dt is 0 it is infinite or a NaN; inside the domain neither value is chosen then.
 fn distance(t: f64, dt: f64) -> f64
     ensures { λ r. ⌜ r ≡ cond (lt (one ⊖ dt) t) (t ⊖ one) t ⊘ dt ⌝ }
 {
