@@ -1,11 +1,11 @@
 -- The refusals case by case, and what is true of a call that has none of them. Assumes nothing.
 use mathlib.Core.Path.{_≡_, refl, sym, subst, _∙_}
-use mathlib.Core.Bool.{Bool, true, false}
+use mathlib.Core.Bool.{Bool, true, false, _&&_}
 use mathlib.Core.List.{List, [], _∷_, _++_, map}
 use Prim.Native.Nat.{ℕ, _+_, _-_, _≤_, _<_}
 use native.Mathlib.Omega.{arith}
 use lib.Dec.{leb, eqb}
-use borrow.Author.Tests.{le-leb, lt-leb, leb-true, leb-false, eqb-true}
+use borrow.Author.Tests.{le-leb, lt-leb, leb-true, leb-false, eq-eqb, eqb-true}
 use Rattle.answers.specs.Order.{unless, firstOf}
 use Rattle.answers.specs.declared.Answer.{Answer}
 use Rattle.answers.specs.declared.Answer.the-variants.{Refused}
@@ -20,7 +20,7 @@ use Rattle.score.specs.Below.{Sorted}
 use Rattle.score.proofs.Codec.{both}
 use Rattle.score.proofs.Cuts.{accepted-sorted}
 use Rattle.score.proofs.Verdicts.{accepted-faults, none-accepted, faulty-faults, accepted-first, faulty-first}
-use Rattle.shelf.specs.Shelf.{wordsFor}
+use Rattle.shelf.specs.Shelf.{entriesFor, wordsFor}
 use Rattle.state.specs.declared.Settings.{Settings}
 use Rattle.state.specs.Settings.{settingsOk}
 use Rattle.judging.specs.Judging.{refusalsOf, Passed, newRefusalsOf, mostSamples, sizesFit, partFits}
@@ -121,12 +121,22 @@ module _ (s : List ℕ) where
   new-first fault h = map-leads NewScore fault (faultsOf s) (faulty-faults s fault h)
 
 -- ---- sizes
-pub record Roomy (n words : ℕ) : Type 0 where
+pub record Roomy (n words magnitudes numbers : ℕ) : Type 0 where
   pub short : n ≤ mostSamples
   pub fits : words ≡ wordsFor n
+  pub magnitudes-fit : magnitudes ≡ entriesFor n
+  pub numbers-fit : numbers ≡ entriesFor n
 
-pub roomy : (n words : ℕ) → sizesFit n words ≡ true → Roomy n words
-roomy n words h = let b = both (leb n mostSamples) (eqb words (wordsFor n)) h in record { short = leb-true n mostSamples (b .0); fits = eqb-true words (wordsFor n) (b .1) }
+pub roomy : (n words magnitudes numbers : ℕ) → sizesFit n words magnitudes numbers ≡ true → Roomy n words magnitudes numbers
+roomy n words magnitudes numbers h =
+    let a = both (leb n mostSamples && eqb words (wordsFor n) && eqb magnitudes (entriesFor n)) (eqb numbers (entriesFor n)) h in
+    let b = both (leb n mostSamples && eqb words (wordsFor n)) (eqb magnitudes (entriesFor n)) (a .0) in
+    let c = both (leb n mostSamples) (eqb words (wordsFor n)) (b .0) in
+    record { short = leb-true n mostSamples (c .0); fits = eqb-true words (wordsFor n) (c .1); magnitudes-fit = eqb-true magnitudes (entriesFor n) (b .1); numbers-fit = eqb-true numbers (entriesFor n) (a .1) }
+
+pub fits-roomy : (n words magnitudes numbers : ℕ) → Roomy n words magnitudes numbers → sizesFit n words magnitudes numbers ≡ true
+fits-roomy n words magnitudes numbers r =
+    rw (le-leb n mostSamples (r .short), eq-eqb words (wordsFor n) (r .fits), eq-eqb magnitudes (entriesFor n) (r .magnitudes-fit), eq-eqb numbers (entriesFor n) (r .numbers-fit)) refl
 
 -- p + n <= most is tested as p <= most and n <= most - p, so that no sum overflows
 pub stretch-late : (p n : ℕ) → mostSamples < p → false ≡ partFits p n

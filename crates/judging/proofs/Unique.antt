@@ -15,8 +15,8 @@ judged-unique g room s rest r t p q = p ∙ sym q
 pub judged-new-unique : (s : List ℕ) (r t : Answer) → r ≡ firstOf (newRefusalsOf s) Refused (Done 0) → t ≡ firstOf (newRefusalsOf s) Refused (Done 0) → r ≡ t
 judged-new-unique s r t p q = p ∙ sym q
 
-pub sizes-fit-unique : (n words : ℕ) (r t : Bool) → r ≡ sizesFit n words → t ≡ sizesFit n words → r ≡ t
-sizes-fit-unique n words r t p q = p ∙ sym q
+pub sizes-fit-unique : (n words magnitudes numbers : ℕ) (r t : Bool) → r ≡ sizesFit n words magnitudes numbers → t ≡ sizesFit n words magnitudes numbers → r ≡ t
+sizes-fit-unique n words magnitudes numbers r t p q = p ∙ sym q
 
 pub part-fits-unique : (p n : ℕ) (r t : Bool) → r ≡ partFits p n → t ≡ partFits p n → r ≡ t
 part-fits-unique p n r t x y = x ∙ sym y

@@ -2,7 +2,7 @@
 -- 01, "What a call says": "Order: 6, 7, the old or only score, the new score (same numbers plus 16), then 8 or 10"; "6
 -- | rate, waveform's duty or an ADSR setting outside the domain"; "7 | N above 16,777,216, or shelf not 12 words per
 -- entry"; "A continuing call that would pass 16,777,216 is 7". 02, R-7: "6 covers the new settings, 7 asks for 13 words
--- an entry".
+-- an entry". 02, R-3: "7 also when the summary has not one entry a section".
 -- The first of a call's refusals decides its outcome (`firstOf` of `answers`). Definitions only.
 use mathlib.Core.Path.{_≡_}
 use mathlib.Core.Bool.{Bool, true, _&&_}
@@ -15,7 +15,7 @@ use Rattle.answers.specs.declared.Refusal.the-variants.{Score, NewScore, Settin
 use Rattle.score.specs.declared.Verdict.the-variants.{Accepted}
 use Rattle.score.specs.Record.{countOf}
 use Rattle.score.specs.Score.{faultsOf, verdictOf}
-use Rattle.shelf.specs.Shelf.{wordsFor}
+use Rattle.shelf.specs.Shelf.{entriesFor, wordsFor}
 use Rattle.state.specs.declared.Settings.{Settings}
 use Rattle.state.specs.Settings.{settingsOk}
 
@@ -39,9 +39,10 @@ newRefusalsOf s = map NewScore (faultsOf s)
 abbrev pub mostSamples : ℕ
 mostSamples = 16777216
 
--- n samples are not too many, and the shelf's words are thirteen for each entry of n samples
-abbrev pub sizesFit : ℕ → ℕ → Bool
-sizesFit n words = leb n mostSamples && eqb words (wordsFor n)
+-- n samples are not too many, the shelf's words are thirteen for each section of n samples, and the summary has one
+-- magnitude and one number for each
+abbrev pub sizesFit : ℕ → ℕ → ℕ → ℕ → Bool
+sizesFit n words magnitudes numbers = leb n mostSamples && eqb words (wordsFor n) && eqb magnitudes (entriesFor n) && eqb numbers (entriesFor n)
 
 -- n samples from position p on end at or before position 16,777,216
 abbrev pub partFits : ℕ → ℕ → Bool

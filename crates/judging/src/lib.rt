@@ -38,11 +38,16 @@ pub fn judged_new(new: &[u8]) -> Answer
     }
 }
 
-// Whether samples <= 16,777,216 and the shelf has thirteen words for each entry of so many samples.
-pub fn sizes_fit(samples: usize, words: usize) -> bool
-    ensures { λ r. ⌜ r ≡ sizesFit samples words ⌝ }
+// Whether samples <= 16,777,216, the shelf has thirteen words for each section of so many samples, and the summary one
+// magnitude and one number.
+pub fn sizes_fit(samples: usize, words: usize, magnitudes: usize, numbers: usize) -> bool
+    ensures { λ r. ⌜ r ≡ sizesFit samples words magnitudes numbers ⌝ }
 {
-    (samples as u64 <= MOST_SAMPLES) & (words == shelf::words_for(samples))
+    let sections = shelf::entries(samples);
+    (samples as u64 <= MOST_SAMPLES)
+        & (words == shelf::words_for(samples))
+        & (magnitudes == sections)
+        & (numbers == sections)
 }
 
 // Whether position + samples <= 16,777,216, tested without overflow.

@@ -7,7 +7,8 @@ use native.Mathlib.Nat.{sub-zero}
 use native.Mathlib.Omega.{arith}
 use lib.ListN.{length}
 use lib.Ieee.{Float}
-use Rattle.sections.specs.Outcome.{Outcome, leaves}
+use Rattle.sections.specs.Outcome.{Buffers, samplesIn, roomIn, Outcome, leaves}
+use Rattle.sections.specs.Summary.{summaryFrom, summaryOf}
 use Rattle.answers.specs.Order.{unless, firstOf}
 use Rattle.answers.specs.declared.Answer.the-variants.{Done, Refused}
 use Rattle.answers.specs.declared.Refusal.{Refusal}
@@ -22,29 +23,30 @@ use Rattle.state.specs.State.{freshOf}
 use Rattle.state.specs.Limits.{isState}
 use Rattle.state.specs.Heart.{stateFrom, samplesFrom, entriesFrom}
 use Rattle.shelf.specs.Shelf.{entriesFor, shelfOf}
+use Rattle.state.proofs.RunsOn.{samples-length}
 use Rattle.spans.specs.declared.Place.{Place}
 use Rattle.spans.specs.Walk.{placeOf, Played}
 use Rattle.spans.proofs.Agrees.{kept, samples-agree}
 use Rattle.sections.specs.Sections.{playOnOf}
-use Rattle.sections.proofs.Agrees.{made}
-use Rattle.judging.specs.Judging.{refusalsOf, sizesFit, partFits}
-use Rattle.judging.proofs.Refusals.{all-passed, passed-sorted, roomy}
+use Rattle.sections.proofs.Agrees.{same-buffers, made}
+use Rattle.judging.specs.Judging.{refusalsOf, partFits}
+use Rattle.judging.proofs.Refusals.{all-passed, passed-sorted}
 use Rattle.render.specs.declared.Rendered.{Rendered}
 use Rattle.render.specs.Calls.{says, madeOf, renderOf, PartOutcome, leavesPart, isGiven, continueRefusals, madePart, keptPart, continueOf}
 
-module _ (g : Settings) (s : List ℕ) (out : List Float) (shelf : List ℕ) where
+module _ (g : Settings) (s : List ℕ) (b : Buffers) where
   abbrev n : ℕ
-  n = length out
+  n = samplesIn b
 
   abbrev refusals : List Refusal
-  refusals = refusalsOf g (sizesFit n (length shelf)) s
+  refusals = refusalsOf g (roomIn b) s
 
-  pub render-refused : (why : Refusal) → firstOf refusals Refused (Done n) ≡ Refused why → leaves (says (Refused why) (freshOf 0)) out shelf ≡ renderOf g s out shelf
+  pub render-refused : (why : Refusal) → firstOf refusals Refused (Done n) ≡ Refused why → leaves (says (Refused why) (freshOf 0)) b ≡ renderOf g s b
   unfolding renderOf
   render-refused why e = sym (leads-first why refusals _ (madeOf g s n) (refused-leads refusals n why e))
 
   -- the list of refusals decides the answer, and the answer decides what is left
-  pub render-decided : Decided (λ (o : Outcome Rendered). o .result .answer) refusals (λ (why : Refusal). leaves (says (Refused why) (freshOf 0)) out shelf) (madeOf g s n) n (renderOf g s out shelf)
+  pub render-decided : Decided (λ (o : Outcome Rendered). o .result .answer) refusals (λ (why : Refusal). leaves (says (Refused why) (freshOf 0)) b) (madeOf g s n) n (renderOf g s b)
   unfolding renderOf
   render-decided = decided (λ (o : Outcome Rendered). o .result .answer) refusals _ (madeOf g s n) n (λ why. refl) refl
 
@@ -52,17 +54,19 @@ module _ (g : Settings) (s : List ℕ) (out : List Float) (shelf : List ℕ) whe
   at-zero : Cut s 0 0
   at-zero = record { inside = omega arith; lows = λ i l. omega arith; highs = λ i a b. omega arith }
 
-  pub render-done : (m : ℕ) → firstOf refusals Refused (Done n) ≡ Done m → (p : Place) (ys : List Float) (ws : List ℕ) → leaves p ys ws ≡ playOnOf g s 0 (placeOf (freshOf 0) 0) out shelf
-      → leaves (says (Done m) (p .state)) ys ws ≡ renderOf g s out shelf
+  pub render-done : (m : ℕ) → firstOf refusals Refused (Done n) ≡ Done m → (p : Place) (c : Buffers) → leaves p c ≡ playOnOf g s 0 (placeOf (freshOf 0) 0) b → leaves (says (Done m) (p .state)) c ≡ renderOf g s b
   unfolding renderOf
-  render-done m e p ys ws x =
+  render-done m e p c x =
       let none : refusals ≡ [] = done-none refusals n m e in
       let k : Done n ≡ Done m = rw none at e in
-      let d = made g s (passed-sorted g (sizesFit n (length shelf)) s none) 0 0 (freshOf 0) at-zero out shelf (roomy n (length shelf) (all-passed g (sizesFit n (length shelf)) s none .sized) .fits) in
+      let d = made g s (passed-sorted g (roomIn b) s none) 0 0 (freshOf 0) at-zero b (all-passed g (roomIn b) s none .sized) in
       let v : p .state ≡ stateFrom g s 0 (freshOf 0) n = ap (λ (o : Outcome Place). o .result .state) x ∙ d .state-is ∙ ap (stateFrom g s 0 (freshOf 0)) (sub-zero n) in
-      let y : ys ≡ samplesFrom g s 0 (freshOf 0) n = ap (λ (o : Outcome Place). o .heard) x ∙ d .heard-is ∙ ap (samplesFrom g s 0 (freshOf 0)) (sub-zero n) in
-      let w : ws ≡ shelfOf (entriesFrom g s 0 (freshOf 0) (entriesFor n)) = ap (λ (o : Outcome Place). o .stored) x ∙ d .stored-is ∙ ap (λ (l : ℕ). shelfOf (entriesFrom g s 0 (freshOf 0) l)) (sub-zero (entriesFor n)) in
-      rw (none, ← k, v, y, w) refl
+      let y : c .heard ≡ samplesFrom g s 0 (freshOf 0) n = ap (λ (o : Outcome Place). o .left .heard) x ∙ d .heard-is ∙ ap (samplesFrom g s 0 (freshOf 0)) (sub-zero n) in
+      let w : c .stored ≡ shelfOf (entriesFrom g s 0 (freshOf 0) (entriesFor n)) = ap (λ (o : Outcome Place). o .left .stored) x ∙ d .stored-is ∙ ap (λ (l : ℕ). shelfOf (entriesFrom g s 0 (freshOf 0) l)) (sub-zero (entriesFor n)) in
+      let u : c .summary ≡ summaryOf (c .heard) =
+      ap (λ (o : Outcome Place). o .left .summary) x ∙ d .summary-is ∙ ap (λ (o : Outcome Place). summaryFrom (o .left .heard) 0 (entriesFor n - 0)) (sym x)
+      ∙ ap (λ (l : ℕ). summaryFrom (c .heard) 0 l) (sub-zero (entriesFor n) ∙ ap entriesFor (sym (ap length y ∙ samples-length g s 0 (freshOf 0) n))) in
+      rw (none, ← k, v) (ap (leaves (says (Done n) (stateFrom g s 0 (freshOf 0) n))) (same-buffers c (madeOf g s n .left) y w (u ∙ ap summaryOf y)))
 
 module _ (g : Settings) (s : List ℕ) (v : State) (p : ℕ) (part : List Float) where
   abbrev room : Bool

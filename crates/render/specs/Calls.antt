@@ -6,14 +6,18 @@
 -- came, and writes nowhere".
 -- Stricter than 01: a render answers its end state too, the state before sample N is begun; a refused render answers
 -- the fresh state.
--- The samples, states and entries are those of `state`'s specs/Heart.antt. Definitions only.
+-- 02, R-3: "Keep, for each 4,096-sample section, the largest magnitude and the number, from the output's start, of the
+-- first sample where it stands".
+-- The samples, states and entries are those of `state`'s specs/Heart.antt, the summary is that of `sections`'
+-- specs/Summary.antt. Definitions only.
 use mathlib.Core.Bool.{Bool, _&&_}
 use mathlib.Core.List.{List, _++_}
 use Prim.Native.Nat.{ℕ}
 use lib.Dec.{eqb}
 use lib.ListN.{length}
 use lib.Ieee.{Float}
-use Rattle.sections.specs.Outcome.{Outcome, leaves}
+use Rattle.sections.specs.Outcome.{Buffers, samplesIn, roomIn, Outcome, leaves}
+use Rattle.sections.specs.Summary.{summaryOf}
 use Rattle.answers.specs.Order.{unless, firstOf}
 use Rattle.answers.specs.declared.Answer.{Answer}
 use Rattle.answers.specs.declared.Answer.the-variants.{Done, Refused}
@@ -26,23 +30,24 @@ use Rattle.state.specs.declared.State.{State}
 use Rattle.state.specs.State.{freshOf}
 use Rattle.state.specs.Limits.{isState}
 use Rattle.state.specs.Heart.{stateFrom, samplesFrom, entriesFrom}
-use Rattle.judging.specs.Judging.{refusalsOf, sizesFit, partFits}
+use Rattle.judging.specs.Judging.{refusalsOf, partFits}
 use Rattle.render.specs.declared.Rendered.{Rendered}
 
 abbrev pub says : Answer → State → Rendered
 says answer v = record { answer = answer; state = v }
 
 -- ---- render: from the fresh state at sample 0
--- n samples, their entries and the end state
+-- n samples, their entries, their summary and the end state
 abbrev pub madeOf : Settings → List ℕ → ℕ → Outcome Rendered
-madeOf g s n = leaves (says (Done n) (stateFrom g s 0 (freshOf 0) n)) (samplesFrom g s 0 (freshOf 0) n) (shelfOf (entriesFrom g s 0 (freshOf 0) (entriesFor n)))
+madeOf g s n =
+    let heard = samplesFrom g s 0 (freshOf 0) n in
+    leaves
+    (says (Done n) (stateFrom g s 0 (freshOf 0) n))
+    (record { heard = heard; stored = shelfOf (entriesFrom g s 0 (freshOf 0) (entriesFor n)); summary = summaryOf heard })
 
--- a refusal leaves output and shelf as they came
-unfoldable pub renderOf : Settings → List ℕ → List Float → List ℕ → Outcome Rendered
-renderOf g s out shelf =
-    firstOf (refusalsOf g (sizesFit (length out) (length shelf)) s)
-    (λ (why : Refusal). leaves (says (Refused why) (freshOf 0)) out shelf)
-    (madeOf g s (length out))
+-- a refusal leaves output, shelf and summary as they came
+unfoldable pub renderOf : Settings → List ℕ → Buffers → Outcome Rendered
+renderOf g s b = firstOf (refusalsOf g (roomIn b) s) (λ (why : Refusal). leaves (says (Refused why) (freshOf 0)) b) (madeOf g s (samplesIn b))
 
 -- ---- continue: from a given state v at position p
 pub record PartOutcome : Type 0 where

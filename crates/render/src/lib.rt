@@ -5,7 +5,7 @@
 ghost use mathlib.Core.Path.{_≡_};
 ghost use lib.ListN.{length};
 ghost use Rattle.score.specs.Below.{Sorted};
-ghost use Rattle.sections.specs.Outcome.{leaves};
+ghost use Rattle.sections.specs.Outcome.{lends, leaves};
 ghost use Rattle.answers.specs.Order.{unless, firstOf};
 ghost use Rattle.answers.specs.declared.Refusal.the-variants.{GivenState};
 ghost use Rattle.render.specs.Calls.{renderOf, leavesPart, isGiven, keptPart, madePart, continueOf};
@@ -22,11 +22,19 @@ pub struct Rendered {
     pub state: State,
 }
 
-// Every sample of the output and every entry of the shelf, from the fresh state at sample zero.
-pub fn render(settings: Settings, score: &[u8], out: &mut [f64], shelf: &mut [u64]) -> Rendered
-    ensures { λ r. ⌜ leaves r (now (out .exit)) (now (shelf .exit)) ≡ renderOf settings (now (score .entry)) (now (out .entry)) (now (shelf .entry)) ⌝ }
+// Every sample of the output, every entry of the shelf and every section of the summary, from the fresh state at sample
+// zero.
+pub fn render(
+    settings: Settings,
+    score: &[u8],
+    out: &mut [f64],
+    shelf: &mut [u64],
+    magnitudes: &mut [f64],
+    numbers: &mut [u64],
+) -> Rendered
+    ensures { λ r. ⌜ leaves r (lends (now (out .exit)) (now (shelf .exit)) (now (magnitudes .exit)) (now (numbers .exit))) ≡ renderOf settings (now (score .entry)) (lends (now (out .entry)) (now (shelf .entry)) (now (magnitudes .entry)) (now (numbers .entry))) ⌝ }
 {
-    let room = judging::sizes_fit(out.len(), shelf.len());
+    let room = judging::sizes_fit(out.len(), shelf.len(), magnitudes.len(), numbers.len());
     let answer = judging::judged(settings, room, score, Answer::Done(out.len()));
     match answer {
         Answer::Refused(why) => Rendered {
@@ -38,7 +46,8 @@ pub fn render(settings: Settings, score: &[u8], out: &mut [f64], shelf: &mut [u6
                 state: state::fresh(),
                 next: 0,
             };
-            let end = sections::play_on(settings, score, 0, start, out, shelf);
+            let end =
+                sections::play_on(settings, score, 0, start, out, shelf, magnitudes, numbers);
             let state = end.state;
             Rendered {
                 answer: Answer::Done(n),

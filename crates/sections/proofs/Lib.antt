@@ -1,4 +1,6 @@
 -- What is proved of sections beyond the contracts, in reading order.
+-- the summary: what it depends on, and that it stays right
+pub mod Summed
 -- a turn of the loop over the sections
 pub mod Turns
 -- for an accepted score the sections are what the definitions of `state` make

@@ -2,16 +2,14 @@
 use mathlib.Core.Path.{_≡_, sym, ap, _∙_}
 use mathlib.Core.List.{List}
 use Prim.Native.Nat.{ℕ}
-use lib.Ieee.{Float}
 use Rattle.state.specs.declared.Settings.{Settings}
 use Rattle.spans.specs.declared.Place.{Place}
-use Rattle.sections.specs.Outcome.{Outcome, leaves}
+use Rattle.sections.specs.Outcome.{Buffers, Outcome, leaves}
 use Rattle.sections.specs.Sections.{playOnOf}
 
--- for a result of any type
-pub same-left : {R : Type 0} (o : Outcome R) (r t : R) (a b : List Float) (c d : List ℕ) → leaves r a c ≡ o → leaves t b d ≡ o → (r ≡ t) × (a ≡ b) × (c ≡ d)
-same-left o r t a b c d x y = let e = x ∙ sym y in (ap (λ o. o .result) e, ap (λ o. o .heard) e, ap (λ o. o .stored) e)
+-- for a result of any type: the result, and all that was lent
+pub same-left : {R : Type 0} (o : Outcome R) (r t : R) (a b : Buffers) → leaves r a ≡ o → leaves t b ≡ o → (r ≡ t) × (a ≡ b)
+same-left o r t a b x y = let e = x ∙ sym y in (ap (λ o. o .result) e, ap (λ o. o .left) e)
 
-pub play-on-unique : (g : Settings) (s : List ℕ) (m : ℕ) (p : Place) (out a b : List Float) (shelf c d : List ℕ) (r t : Place) → leaves r a c ≡ playOnOf g s m p out shelf → leaves t b d ≡ playOnOf g s m p out shelf
-    → (r ≡ t) × (a ≡ b) × (c ≡ d)
-play-on-unique g s m p out a b shelf c d r t x y = same-left (playOnOf g s m p out shelf) r t a b c d x y
+pub play-on-unique : (g : Settings) (s : List ℕ) (m : ℕ) (p : Place) (b c d : Buffers) (r t : Place) → leaves r c ≡ playOnOf g s m p b → leaves t d ≡ playOnOf g s m p b → (r ≡ t) × (c ≡ d)
+play-on-unique g s m p b c d r t x y = same-left (playOnOf g s m p b) r t c d x y

@@ -1,3 +1,4 @@
 pub mod Outcome
+pub mod Summary
 pub mod Sections
 pub mod Inner

@@ -30,7 +30,7 @@ returns : tie.Need-returns
 returns c =
     let x = c .before .before .before .before in
     let e = sym (rw (x .before .sizes-fit .ensures) at (x .judged .ensures)) ∙ c .before .before .answer .given .1 in
-    rw (c .fresh .ensures) (render-refused _ _ _ _ _ e)
+    rw (c .fresh .ensures) (render-refused _ _ _ _ e)
 
 same-length : tie.Need-same-length
 same-length c = search needs
@@ -38,13 +38,19 @@ same-length c = search needs
 same-length-2 : tie.Need-same-length-2
 same-length-2 c = search needs
 
+same-length-3 : tie.Need-same-length-3
+same-length-3 c = search needs
+
+same-length-4 : tie.Need-same-length-4
+same-length-4 c = search needs
+
 returns-2 : tie.Need-returns-2
 returns-2 c =
-    let made = c .before .before .before .before .before in
-    let begun = made .before .before .before in
+    let made = c .before .before .before .before .before .before .before .before .before in
+    let begun = made .before .before .before .before .before in
     let x = begun .before .before .before .before in
     let e = sym (rw (x .before .sizes-fit .ensures) at (x .judged .ensures)) ∙ begun .before .before .answer2 .given .1 in
-    render-done _ _ _ _ _ e _ _ _ (rw (begun .fresh2 .ensures) at (made .play-on .ensures))
+    render-done _ _ _ _ e _ _ (rw (begun .fresh2 .ensures) at (made .play-on .ensures))
 
 pub render-spec : {M : Type 1} → statement M
 render-spec =
@@ -60,4 +66,6 @@ render-spec =
     returns
     same-length
     same-length-2
+    same-length-3
+    same-length-4
     returns-2)

@@ -5,21 +5,24 @@ use Prim.Native.Nat.{_<_, _-_, _+_, _*_}
 use native.Mathlib.Omega.{arith}
 use lib.ListN.{length}
 use Rattle.shelf.specs.Shelf.{entryWords}
-use Rattle.sections.proofs.Turns.{Walked, walk-first, room, walk-on, walk-last}
+use Rattle.sections.specs.Outcome.{lends}
+use Rattle.sections.proofs.Turns.{Walked, walk-first, few, room, room-magnitudes, room-numbers, number-below, walk-on, walk-last}
 use Rattle.sections.proofs.play_sections.Statement.{statement}
 use Rattle.sections.proofs.play_sections.Tie as tie
 
 abbrev Inv-loop : tie.InvT-loop
-Inv-loop settings score sectionSize out₀ shelf₀ at₀ k₀ start₀ out shelf at k start = Walked settings score sectionSize at₀ out₀ shelf₀ out shelf at k start
+Inv-loop settings score section out₀ shelf₀ magnitudes₀ numbers₀ at₀ k₀ start₀ out shelf magnitudes numbers at k start =
+    Walked settings score section at₀ (lends out₀ shelf₀ magnitudes₀ numbers₀) out shelf magnitudes numbers at k start
 
 abbrev μ-loop : tie.MeasureT-loop
-μ-loop settings score sectionSize out₀ shelf₀ at₀ k₀ start₀ out shelf at k start = length out₀ - start
+μ-loop settings score section out₀ shelf₀ magnitudes₀ numbers₀ at₀ k₀ start₀ out shelf magnitudes numbers at k start =
+    length out₀ - start
 
 mul-start : tie.Need-mul-start Inv-loop μ-loop
-mul-start c = omega (arith, c .before .before .before .pre .1)
+mul-start c = omega (arith, c .before .before .before .before .before .pre .1)
 
 loop-holds : tie.Need-loop-holds Inv-loop μ-loop
-loop-holds c = walk-first _ _ _ _ _ _ (c .before .before .before .pre .0) (c .before .before .before .pre .1)
+loop-holds c = let start = c .before .before .before .before .before in walk-first _ _ _ _ _ (start .pre .0) (start .pre .1)
 
 mul-word : tie.Need-mul-word Inv-loop μ-loop
 mul-word c = search needs
@@ -39,8 +42,8 @@ part-store-start c = search needs
 part-store-end : tie.Need-part-store-end Inv-loop μ-loop
 part-store-end c =
     let at = c .before in
-    let pre = at .before .before .before .before .pre in
-    room _ _ _ _ _ _ (pre .0) (pre .1) _ _ _ _ _ (at .loop .inv) (c .loop-test .taken)
+    let pre = at .before .before .before .before .before .before .pre in
+    room _ _ _ _ _ (pre .0) (pre .1) _ _ _ _ _ _ _ (at .loop .inv) (c .loop-test .taken)
 
 store-requires : tie.Need-store-requires Inv-loop μ-loop
 store-requires c κs = search needs
@@ -63,23 +66,94 @@ part-play-end c = search needs
 play-requires : tie.Need-play-requires Inv-loop μ-loop
 play-requires c κs = search needs
 
+mul-peak-of : tie.Need-mul-peak-of Inv-loop μ-loop
+mul-peak-of c =
+    let turn = c .before .before .before .before .before .before .before .before .before in
+    let at = turn .before in
+    let pre = at .before .before .before .before .before .before .pre in
+    let h : at .loop .start < length (at .loop .out) = turn .loop-test .taken in
+    omega (arith, h, few _ _ _ _ _ (pre .0) (pre .1) _ _ _ _ _ _ _ (at .loop .inv) h)
+
+sub-peak-of : tie.Need-sub-peak-of Inv-loop μ-loop
+sub-peak-of c = search needs
+
+part-peak-of-start : tie.Need-part-peak-of-start Inv-loop μ-loop
+part-peak-of-start c = search needs
+
+part-peak-of-end : tie.Need-part-peak-of-end Inv-loop μ-loop
+part-peak-of-end c = search needs
+
+peak-of-requires : tie.Need-peak-of-requires Inv-loop μ-loop
+peak-of-requires c κs = search needs
+
+mul-magnitudes : tie.Need-mul-magnitudes Inv-loop μ-loop
+mul-magnitudes c = search needs
+
+slice-write-magnitudes : tie.Need-slice-write-magnitudes Inv-loop μ-loop
+slice-write-magnitudes c =
+    let peak = c in
+    let played = peak .before .before .before .before .before in
+    let ended = played .before .before in
+    let kept = ended .before .before .before in
+    let turn = kept .before .before in
+    let at = turn .before in
+    let pre = at .before .before .before .before .before .before .pre in
+    room-magnitudes _ _ _ _ _ (pre .0) (pre .1) _ _ _ _ _ _ _ (at .loop .inv) (turn .loop-test .taken)
+
+add-numbers : tie.Need-add-numbers Inv-loop μ-loop
+add-numbers c =
+    let peak = c .before in
+    let played = peak .before .before .before .before .before in
+    let ended = played .before .before in
+    let kept = ended .before .before .before in
+    let turn = kept .before .before in
+    let at = turn .before in
+    let pre = at .before .before .before .before .before .before .pre in
+    let n = number-below _ _ _ _ _ (pre .0) (pre .1) _ _ _ _ _ _ _ (at .loop .inv) (turn .loop-test .taken) _ (ended .section-end .ensures) _ _ (played .play .ensures) _ (kept .store .ensures) _ (peak .peak-of .ensures) in
+    omega (arith, n, few _ _ _ _ _ (pre .0) (pre .1) _ _ _ _ _ _ _ (at .loop .inv) (turn .loop-test .taken))
+
+mul-numbers : tie.Need-mul-numbers Inv-loop μ-loop
+mul-numbers c = search needs
+
+slice-write-numbers : tie.Need-slice-write-numbers Inv-loop μ-loop
+slice-write-numbers c =
+    let peak = c .before in
+    let played = peak .before .before .before .before .before in
+    let ended = played .before .before in
+    let kept = ended .before .before .before in
+    let turn = kept .before .before in
+    let at = turn .before in
+    let pre = at .before .before .before .before .before .before .pre in
+    room-numbers _ _ _ _ _ (pre .0) (pre .1) _ _ _ _ _ _ _ (at .loop .inv) (turn .loop-test .taken)
+
 add-k : tie.Need-add-k Inv-loop μ-loop
 add-k c = search needs
 
 loop-less : tie.Need-loop-less Inv-loop μ-loop
 loop-less c =
-    let at = c .before .before .before .before .before .before .before .before .before .before in
-    let z = c .before .before .before .before .section-end .ensures in
-    let h : at .loop .start < length (at .loop .out) = c .before .before .before .before .before .before .before .before .before .loop-test .taken in
+    let peak = c .before in
+    let played = peak .before .before .before .before .before in
+    let ended = played .before .before in
+    let kept = ended .before .before .before in
+    let turn = kept .before .before in
+    let at = turn .before in
+    let pre = at .before .before .before .before .before .before .pre in
+    let z = ended .section-end .ensures in
+    let h : at .loop .start < length (at .loop .out) = turn .loop-test .taken in
     omega (arith, z .after, at .loop .inv .len)
 
 loop-again : tie.Need-loop-again Inv-loop μ-loop
 loop-again c =
-    let at = c .before .before .before .before .before .before .before .before .before .before in
-    let pre = at .before .before .before .before .pre in
+    let peak = c .before in
+    let played = peak .before .before .before .before .before in
+    let ended = played .before .before in
+    let kept = ended .before .before .before in
+    let turn = kept .before .before in
+    let at = turn .before in
+    let pre = at .before .before .before .before .before .before .pre in
     let k = at .loop .k in
     let d : k * entryWords + entryWords - k * entryWords ≡ entryWords = omega arith in
-    rw d (walk-on _ _ _ _ _ _ (pre .0) (pre .1) _ _ _ _ _ (at .loop .inv) (c .before .before .before .before .before .before .before .before .before .loop-test .taken) _ (c .before .before .before .before .section-end .ensures) _ _ (c .before .before .play .ensures) _ (c .before .before .before .before .before .before .before .store .ensures))
+    rw d (walk-on _ _ _ _ _ (pre .0) (pre .1) _ _ _ _ _ _ _ (at .loop .inv) (turn .loop-test .taken) _ (ended .section-end .ensures) _ _ (played .play .ensures) _ (kept .store .ensures) _ (peak .peak-of .ensures))
 
 same-length : tie.Need-same-length Inv-loop μ-loop
 same-length c = c .before .loop .inv .len
@@ -87,8 +161,17 @@ same-length c = c .before .loop .inv .len
 same-length-2 : tie.Need-same-length-2 Inv-loop μ-loop
 same-length-2 c = c .before .loop .inv .lens
 
+same-length-3 : tie.Need-same-length-3 Inv-loop μ-loop
+same-length-3 c = c .before .loop .inv .len-magnitudes
+
+same-length-4 : tie.Need-same-length-4 Inv-loop μ-loop
+same-length-4 c = c .before .loop .inv .len-numbers
+
 returns : tie.Need-returns Inv-loop μ-loop
-returns c = walk-last _ _ _ _ _ _ (c .before .before .before .before .before .pre .0) (c .before .before .before .before .before .pre .1) _ _ _ _ _ (c .before .loop .inv) (c .loop-test .left)
+returns c =
+    let at = c .before in
+    let pre = at .before .before .before .before .before .before .pre in
+    walk-last _ _ _ _ _ (pre .0) (pre .1) _ _ _ _ _ _ _ (at .loop .inv) (c .loop-test .left)
 
 pub play-sections-spec : {M : Type 1} → statement M
 play-sections-spec =
@@ -111,9 +194,21 @@ play-sections-spec =
     part-play-start
     part-play-end
     play-requires
+    mul-peak-of
+    sub-peak-of
+    part-peak-of-start
+    part-peak-of-end
+    peak-of-requires
+    mul-magnitudes
+    slice-write-magnitudes
+    add-numbers
+    mul-numbers
+    slice-write-numbers
     add-k
     loop-less
     loop-again
     same-length
     same-length-2
+    same-length-3
+    same-length-4
     returns)
