@@ -2,14 +2,11 @@
 use mathlib.Core.Path.{_≡_}
 use mathlib.Core.List.{List}
 use Prim.Native.Nat.{ℕ}
-use lib.Ieee.{Float}
-use Rattle.sections.specs.Outcome.{leaves}
+use Rattle.sections.specs.Outcome.{Buffers, leaves}
 use Rattle.sections.proofs.Unique.{same-left}
 use Rattle.answers.specs.declared.Answer.{Answer}
 use Rattle.state.specs.declared.Settings.{Settings}
 use Rattle.rerender.specs.Rerender.{rerenderOf}
 
-pub rerender-unique : (g : Settings) (old new : List ℕ) (out a b : List Float) (shelf c d : List ℕ) (r t : Answer) → leaves r a c ≡ rerenderOf g old new out shelf → leaves t b d ≡ rerenderOf g old new out shelf
-    → (r ≡ t) × (a ≡ b) × (c ≡ d)
-rerender-unique g old new out a b shelf c d r t x y =
-    same-left (rerenderOf g old new out shelf) r t a b c d x y
+pub rerender-unique : (g : Settings) (old new : List ℕ) (b c d : Buffers) (r t : Answer) → leaves r c ≡ rerenderOf g old new b → leaves t d ≡ rerenderOf g old new b → (r ≡ t) × (c ≡ d)
+rerender-unique g old new b c d r t x y = same-left (rerenderOf g old new b) r t c d x y

@@ -2,8 +2,7 @@
 -- it. Definitions only.
 use mathlib.Core.List.{List}
 use Prim.Native.Nat.{ℕ}
-use lib.Ieee.{Float}
-use Rattle.sections.specs.Outcome.{Outcome}
+use Rattle.sections.specs.Outcome.{Buffers, Outcome}
 use Rattle.answers.specs.Order.{unless, firstOf}
 use Rattle.answers.specs.declared.Answer.{Answer}
 use Rattle.answers.specs.declared.Refusal.the-variants.{StartEntry}
@@ -11,5 +10,5 @@ use Rattle.state.specs.declared.Settings.{Settings}
 use Rattle.rerender.specs.Rerender.{isStart, madeFrom, keptOf}
 
 -- the outcome of the call from section m on, where 6, 7 and both scores' faults are not given
-unfoldable pub rerenderFrom : Settings → List ℕ → List ℕ → ℕ → List Float → List ℕ → Outcome Answer
-rerenderFrom g old new m out shelf = firstOf (unless (isStart new m shelf) StartEntry) (keptOf out shelf) (madeFrom g old new m out shelf)
+unfoldable pub rerenderFrom : Settings → List ℕ → List ℕ → ℕ → Buffers → Outcome Answer
+rerenderFrom g old new m b = firstOf (unless (isStart new m (b .stored)) StartEntry) (keptOf b) (madeFrom g old new m b)

@@ -4,7 +4,8 @@
 -- or above N, write nothing and count 0". "What a call says": "8 | start entry is no state, or its records acted differ
 -- from the new score's records below its position"; "Order: 6, 7, the old or only score, the new score (same numbers
 -- plus 16), then 8"; "Where count is 0 for equal scores or a late P, no entry is read and 8 is not given". Demand 3:
--- "The count is the samples from the mark to the end".
+-- "The count is the samples from the mark to the end". 02, R-3: "A re-render brings the summary up to date and touches
+-- only sections from its start entry on".
 -- The demand's mark is the first sample of a section: sample 4096 m for section m, whose entry is entry m.
 -- Wider than 01: the outcome is decided for every start entry that is a state, even one that no render leaves: the
 -- samples and entries are those of the steps from that state. Definitions only.
@@ -12,9 +13,9 @@ use mathlib.Core.Bool.{Bool, cond, _&&_}
 use mathlib.Core.List.{List, [], _++_}
 use Prim.Native.Nat.{ℕ, _-_, _*_, _/_}
 use lib.Dec.{ltb, eqb}
-use lib.ListN.{length, take, drop}
-use lib.Ieee.{Float}
-use Rattle.sections.specs.Outcome.{Outcome, leaves}
+use lib.ListN.{take, drop}
+use Rattle.sections.specs.Outcome.{Summary, Buffers, samplesIn, roomIn, Outcome, leaves}
+use Rattle.sections.specs.Summary.{summaryFrom}
 use Rattle.answers.specs.Order.{unless, firstOf}
 use Rattle.answers.specs.declared.Answer.{Answer}
 use Rattle.answers.specs.declared.Answer.the-variants.{Done, Refused}
@@ -28,7 +29,7 @@ use Rattle.shelf.specs.Shelf.{sectionSize, entryWords, entriesFor, stateOf, isE
 use Rattle.state.specs.declared.Settings.{Settings}
 use Rattle.state.specs.declared.State.{State}
 use Rattle.state.specs.Heart.{samplesFrom, entriesFrom}
-use Rattle.judging.specs.Judging.{refusalsOf, newRefusalsOf, sizesFit}
+use Rattle.judging.specs.Judging.{refusalsOf, newRefusalsOf}
 use Rattle.rerender.specs.declared.Plan.{Plan}
 use Rattle.rerender.specs.declared.Plan.the-variants.{Nothing, From}
 
@@ -61,21 +62,29 @@ stopOf g old new m n = n
 abbrev pub between : {A : Type 0} → ℕ → ℕ → List A → List A → List A
 between a b xs ys = take a xs ++ (ys ++ drop b xs)
 
+-- a summary with `new` in place of what is said of the sections from section a up to, not including, section b
+abbrev pub summedBetween : ℕ → ℕ → Summary → Summary → Summary
+summedBetween a b came new = record { magnitudes = between a b (came .magnitudes) (new .magnitudes); numbers = between a b (came .numbers) (new .numbers) }
+
 -- what lies before section m, and from the stop on, stays as it came
-abbrev pub madeFrom : Settings → List ℕ → List ℕ → ℕ → List Float → List ℕ → Outcome Answer
-madeFrom g old new m out shelf =
-    let stop = stopOf g old new m (length out) in
-    let v = startOf shelf m in
+abbrev pub madeFrom : Settings → List ℕ → List ℕ → ℕ → Buffers → Outcome Answer
+madeFrom g old new m b =
+    let stop = stopOf g old new m (samplesIn b) in
+    let v = startOf (b .stored) m in
+    let heard = between (m * sectionSize) stop (b .heard) (samplesFrom g new (m * sectionSize) v (stop - m * sectionSize)) in
     leaves
     (Done (stop - m * sectionSize))
-    (between (m * sectionSize) stop out (samplesFrom g new (m * sectionSize) v (stop - m * sectionSize)))
-    (between (m * entryWords) (entriesFor stop * entryWords) shelf (shelfOf (entriesFrom g new m v (entriesFor stop - m))))
+    (record {
+      heard = heard;
+      stored = between (m * entryWords) (entriesFor stop * entryWords) (b .stored) (shelfOf (entriesFrom g new m v (entriesFor stop - m)));
+      summary = summedBetween m (entriesFor stop) (b .summary) (summaryFrom heard m (entriesFor stop - m));
+    })
 
 -- ---- the call
 -- the outcome of a plan
-abbrev pub outcomeOf : Settings → List ℕ → List ℕ → Plan → List Float → List ℕ → Outcome Answer
-outcomeOf g old new Nothing out shelf = leaves (Done 0) out shelf
-outcomeOf g old new (From m) out shelf = madeFrom g old new m out shelf
+abbrev pub outcomeOf : Settings → List ℕ → List ℕ → Plan → Buffers → Outcome Answer
+outcomeOf g old new Nothing b = leaves (Done 0) b
+outcomeOf g old new (From m) b = madeFrom g old new m b
 
 -- 8, only where an entry is read
 abbrev pub startRefusals : List ℕ → Plan → List ℕ → List Refusal
@@ -83,15 +92,15 @@ startRefusals new Nothing shelf = []
 startRefusals new (From m) shelf = unless (isStart new m shelf) StartEntry
 
 -- 6, 7, the old score's faults, the new score's faults, 8
-abbrev pub rerenderRefusals : Settings → List ℕ → List ℕ → ℕ → List ℕ → List Refusal
-rerenderRefusals g old new n shelf = refusalsOf g (sizesFit n (length shelf)) old ++ newRefusalsOf new ++ startRefusals new (planOf old new n) shelf
+abbrev pub rerenderRefusals : Settings → List ℕ → List ℕ → Buffers → List Refusal
+rerenderRefusals g old new b = refusalsOf g (roomIn b) old ++ newRefusalsOf new ++ startRefusals new (planOf old new (samplesIn b)) (b .stored)
 
--- a refusal leaves output and shelf as they came
-abbrev pub keptOf : List Float → List ℕ → Refusal → Outcome Answer
-keptOf out shelf why = leaves (Refused why) out shelf
+-- a refusal leaves output, shelf and summary as they came
+abbrev pub keptOf : Buffers → Refusal → Outcome Answer
+keptOf b why = leaves (Refused why) b
 
-unfoldable pub rerenderOf : Settings → List ℕ → List ℕ → List Float → List ℕ → Outcome Answer
-rerenderOf g old new out shelf = firstOf (rerenderRefusals g old new (length out) shelf) (keptOf out shelf) (outcomeOf g old new (planOf old new (length out)) out shelf)
+unfoldable pub rerenderOf : Settings → List ℕ → List ℕ → Buffers → Outcome Answer
+rerenderOf g old new b = firstOf (rerenderRefusals g old new b) (keptOf b) (outcomeOf g old new (planOf old new (samplesIn b)) b)
 
 -- how many samples a plan makes in an output of n samples; the theorem that decides the call's answer cites it
 abbrev pub countFor : Settings → List ℕ → List ℕ → Plan → ℕ → ℕ

@@ -3,11 +3,12 @@
 // plan's run, from the state that the shelf keeps for the start of that section. 01, "The shelf", and demand 3. No
 // state is answered: the shelf has the states.
 ghost use mathlib.Core.Path.{_≡_};
+ghost use mathlib.Core.Bool.{true};
 ghost use Prim.Native.Nat.{_<_};
 ghost use lib.ListN.{length};
 ghost use Rattle.score.specs.Below.{Sorted};
-ghost use Rattle.shelf.specs.Shelf.{entriesFor, wordsFor};
-ghost use Rattle.sections.specs.Outcome.{leaves};
+ghost use Rattle.shelf.specs.Shelf.{entriesFor};
+ghost use Rattle.sections.specs.Outcome.{lends, roomIn, leaves};
 ghost use Rattle.rerender.specs.Rerender.{planOf, rerenderOf};
 ghost use Rattle.rerender.specs.Inner.{rerenderFrom};
 use answers::Answer;
@@ -25,18 +26,20 @@ pub enum Plan {
     From(usize),
 }
 
-// The samples and entries from the start of the section that holds the first changed position, as the new score gives
-// them.
+// The samples, the entries and the summary from the start of the section that holds the first changed position, as the
+// new score gives them.
 pub fn rerender(
     settings: Settings,
     old: &[u8],
     new: &[u8],
     out: &mut [f64],
     shelf: &mut [u64],
+    magnitudes: &mut [f64],
+    numbers: &mut [u64],
 ) -> Answer
-    ensures { λ r. ⌜ leaves r (now (out .exit)) (now (shelf .exit)) ≡ rerenderOf settings (now (old .entry)) (now (new .entry)) (now (out .entry)) (now (shelf .entry)) ⌝ }
+    ensures { λ r. ⌜ leaves r (lends (now (out .exit)) (now (shelf .exit)) (now (magnitudes .exit)) (now (numbers .exit))) ≡ rerenderOf settings (now (old .entry)) (now (new .entry)) (lends (now (out .entry)) (now (shelf .entry)) (now (magnitudes .entry)) (now (numbers .entry))) ⌝ }
 {
-    let room = judging::sizes_fit(out.len(), shelf.len());
+    let room = judging::sizes_fit(out.len(), shelf.len(), magnitudes.len(), numbers.len());
     let checked = judging::judged(settings, room, old, judging::judged_new(new));
     if let Answer::Refused(why) = checked {
         return Answer::Refused(why);
@@ -44,7 +47,9 @@ pub fn rerender(
     let plan = planned(old, new, out.len());
     match plan {
         Plan::Nothing => Answer::Done(0),
-        Plan::From(section) => rerender_from(settings, old, new, section, out, shelf),
+        Plan::From(section) => {
+            rerender_from(settings, old, new, section, out, shelf, magnitudes, numbers)
+        }
     }
 }
 
@@ -72,11 +77,13 @@ fn rerender_from(
     section: usize,
     out: &mut [f64],
     shelf: &mut [u64],
+    magnitudes: &mut [f64],
+    numbers: &mut [u64],
 ) -> Answer
     requires { ⌜ Sorted (now new) ⌝ }
-    requires { ⌜ length (now shelf) ≡ wordsFor (length (now out)) ⌝ }
+    requires { ⌜ roomIn (lends (now out) (now shelf) (now magnitudes) (now numbers)) ≡ true ⌝ }
     requires { ⌜ section < entriesFor (length (now out)) ⌝ }
-    ensures { λ r. ⌜ leaves r (now (out .exit)) (now (shelf .exit)) ≡ rerenderFrom settings (now (old .entry)) (now (new .entry)) section (now (out .entry)) (now (shelf .entry)) ⌝ }
+    ensures { λ r. ⌜ leaves r (lends (now (out .exit)) (now (shelf .exit)) (now (magnitudes .exit)) (now (numbers .exit))) ≡ rerenderFrom settings (now (old .entry)) (now (new .entry)) section (lends (now (out .entry)) (now (shelf .entry)) (now (magnitudes .entry)) (now (numbers .entry))) ⌝ }
 {
     let word = section * ENTRY_WORDS;
     let start = section * SECTION_SIZE;
@@ -88,6 +95,7 @@ fn rerender_from(
         return Answer::Refused(Refusal::StartEntry);
     }
     let next = acted as usize;
-    sections::play_on(settings, new, section, Place { state, next }, out, shelf);
+    let place = Place { state, next };
+    sections::play_on(settings, new, section, place, out, shelf, magnitudes, numbers);
     Answer::Done(count)
 }

@@ -5,7 +5,7 @@ use Prim.Native.Nat.{_+_, _-_, _*_}
 use native.Mathlib.Omega.{arith}
 use borrow.Author.Tests.{not-true, not-false}
 use Rattle.shelf.specs.Shelf.{entryWords}
-use Rattle.rerender.proofs.Cases.{from-refused, from-made}
+use Rattle.rerender.proofs.Cases.{words-in, from-refused, from-made}
 use borrow.Author.Needs.{needs}
 use Rattle.rerender.proofs.rerender_from.Statement.{statement}
 use Rattle.rerender.proofs.rerender_from.Tie as tie
@@ -32,7 +32,7 @@ part-decode-start : tie.Need-part-decode-start
 part-decode-start c = search needs
 
 part-decode-end : tie.Need-part-decode-end
-part-decode-end c = search needs
+part-decode-end c = let start = c .before .before .before .before .before .before .before in words-in _ _ _ _ _ (start .pre .1 .0) (start .pre .1 .1)
 
 decode-requires : tie.Need-decode-requires
 decode-requires c κs = search needs
@@ -46,13 +46,13 @@ same-length c = search needs
 returns : tie.Need-returns
 returns c =
     let x = c .before .before in
-    let start = x .before .before .before .before .before .before .before .before .before in
+    let start = x .before .before .before .before .before .before .before .before .before .before .before in
     let w = start .args .section * entryWords in
     let d : w + entryWords - w ≡ entryWords = omega arith in
     let entry = rw d at (x .before .before .decode .ensures) in
     let held = x .before .before .decode .result in
     let test = held .valid && x .is-count-below .result in
-    from-refused _ _ _ _ _ _ (start .pre .0) (rw (x .is-count-below .ensures, entry) at (not-true test (c .if1 .taken)))
+    from-refused _ _ _ _ _ (start .pre .0) (rw (x .is-count-below .ensures, entry) at (not-true test (c .if1 .taken)))
 
 play-on-requires : tie.Need-play-on-requires
 play-on-requires c κs = search needs
@@ -63,17 +63,23 @@ same-length-2 c = search needs
 same-length-3 : tie.Need-same-length-3
 same-length-3 c = search needs
 
+same-length-4 : tie.Need-same-length-4
+same-length-4 c = search needs
+
+same-length-5 : tie.Need-same-length-5
+same-length-5 c = search needs
+
 returns-2 : tie.Need-returns-2
 returns-2 c =
-    let made = c .before .before .before .before in
-    let x = made .before .before .before .before .before in
-    let start = x .before .before .before .before .before .before .before .before .before in
+    let made = c .before .before .before .before .before .before .before .before in
+    let x = made .before .before .before .before .before .before .before in
+    let start = x .before .before .before .before .before .before .before .before .before .before .before in
     let w = start .args .section * entryWords in
     let d : w + entryWords - w ≡ entryWords = omega arith in
     let entry = rw d at (x .before .before .decode .ensures) in
     let held = x .before .before .decode .result in
     let test = held .valid && x .is-count-below .result in
-    from-made _ _ _ _ _ _ (start .pre .0) (start .pre .1 .0) (rw (x .is-count-below .ensures, entry) at (not-false test (made .before .before .before .if1 .left))) _ _ _ (rw entry at (made .play-on .ensures))
+    from-made _ _ _ _ _ (start .pre .0) (start .pre .1 .0) (rw (x .is-count-below .ensures, entry) at (not-false test (made .before .before .before .before .before .if1 .left))) _ _ (rw entry at (made .play-on .ensures))
 
 pub rerender-from-spec : {M : Type 1} → statement M
 rerender-from-spec =
@@ -94,4 +100,6 @@ rerender-from-spec =
     play-on-requires
     same-length-2
     same-length-3
+    same-length-4
+    same-length-5
     returns-2)
