@@ -8,7 +8,7 @@ use borrow.Author.Tests.{eq-eqb, ne-eqb, le-leb, lt-leb, ltb-true, ltb-false, no
 use lib.Dec.{ltb}
 use lib.ListN.{length, drop}
 use lib.Ieee.{Float}
-use Rattle.sections.specs.Outcome.{leaves}
+use Rattle.sections.specs.Outcome.{Buffers, leaves}
 use Rattle.answers.specs.declared.Answer.{Answer}
 use Rattle.answers.specs.declared.Answer.the-variants.{Done, Refused}
 use Rattle.answers.specs.declared.Refusal.{Refusal}
@@ -52,23 +52,21 @@ single-unknown x phase dt e = rw e refl
 
 -- ---- render, re-render and continue
 module _ (choice : Choice) (g : Settings) (e : choice ≡ Known g) where
-  pub render-known : (s : List ℕ) (out : List Float) (shelf : List ℕ) (r : Rendered) (ys : List Float) (ws : List ℕ) → leaves r ys ws ≡ renderOf g s out shelf
-      → (word : ℕ) → word ≡ packedOf (r .answer) → leaves word ys ws ≡ renderFor choice s out shelf
-  render-known s out shelf r ys ws x word p = rw (e, p) (ap rendered x)
+  pub render-known : (s : List ℕ) (b c : Buffers) (r : Rendered) → leaves r c ≡ renderOf g s b → (word : ℕ) → word ≡ packedOf (r .answer) → leaves word c ≡ renderFor choice s b
+  render-known s b c r x word p = rw (e, p) (ap rendered x)
 
-  pub rerender-known : (old new : List ℕ) (out : List Float) (shelf : List ℕ) (said : Answer) (ys : List Float) (ws : List ℕ) → leaves said ys ws ≡ rerenderOf g old new out shelf
-      → (word : ℕ) → word ≡ packedOf said → leaves word ys ws ≡ rerenderFor choice old new out shelf
-  rerender-known old new out shelf said ys ws x word p = rw (e, p) (ap rerendered x)
+  pub rerender-known : (old new : List ℕ) (b c : Buffers) (said : Answer) → leaves said c ≡ rerenderOf g old new b → (word : ℕ) → word ≡ packedOf said → leaves word c ≡ rerenderFor choice old new b
+  rerender-known old new b c said x word p = rw (e, p) (ap rerendered x)
 
   pub continue-known : (s ws : List ℕ) (p : ℕ) (part : List Float) (o : Continued ℕ) → o ≡ continueIn g s ws p part → o ≡ continueFor choice s ws p part
   continue-known s ws p part o x = rw e x
 
 module _ (choice : Choice) (e : choice ≡ Unknown) (word : ℕ) (q : word ≡ packedOf (Refused Setting)) where
-  pub render-unknown : (s : List ℕ) (out : List Float) (shelf : List ℕ) → leaves word out shelf ≡ renderFor choice s out shelf
-  render-unknown s out shelf = rw (e, q) refl
+  pub render-unknown : (s : List ℕ) (b : Buffers) → leaves word b ≡ renderFor choice s b
+  render-unknown s b = rw (e, q) refl
 
-  pub rerender-unknown : (old new : List ℕ) (out : List Float) (shelf : List ℕ) → leaves word out shelf ≡ rerenderFor choice old new out shelf
-  rerender-unknown old new out shelf = rw (e, q) refl
+  pub rerender-unknown : (old new : List ℕ) (b : Buffers) → leaves word b ≡ rerenderFor choice old new b
+  rerender-unknown old new b = rw (e, q) refl
 
   pub continue-unknown : (s ws : List ℕ) (p : ℕ) (part : List Float) → continues word part ws ≡ continueFor choice s ws p part
   continue-unknown s ws p part = rw (e, q) refl

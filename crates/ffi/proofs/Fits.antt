@@ -10,7 +10,8 @@ use lib.Dec.{leb, eqb}
 use lib.ListN.{length}
 use lib.Ieee.{Float}
 use borrow.Author.Tests.{leb-true}
-use Rattle.sections.specs.Outcome.{Outcome}
+use Rattle.sections.specs.Outcome.{Buffers, samplesIn, roomIn, Outcome}
+use Rattle.sections.proofs.Room.{in-room}
 use Rattle.answers.specs.declared.Answer.{Answer}
 use Rattle.answers.specs.declared.Answer.the-variants.{Done, Refused}
 use Rattle.answers.specs.declared.Refusal.{Refusal}
@@ -22,8 +23,8 @@ use Rattle.answers.specs.Numbers.{faultNumber, faultPlace, refusalNumber, refus
 use Rattle.answers.specs.Order.{unless, firstOf}
 use Rattle.answers.specs.Value.{valueOr}
 use Rattle.answers.proofs.Order.{passed, none-both, Leads, first-holds, leads-parts, leads-unless, leads-map}
-use Rattle.judging.specs.Judging.{refusalsOf, newRefusalsOf, mostSamples, sizesFit, partFits}
-use Rattle.judging.proofs.Refusals.{all-passed, roomy}
+use Rattle.judging.specs.Judging.{refusalsOf, newRefusalsOf, mostSamples, partFits}
+use Rattle.judging.proofs.Refusals.{all-passed}
 use Rattle.domain.specs.Domain.{isPhase}
 use Rattle.render.specs.declared.Rendered.{Rendered}
 use Rattle.render.specs.Calls.{madeOf, renderOf, continueRefusals}
@@ -146,30 +147,28 @@ single-fits code phase dt duty = go (shapeOf code duty)
         (append-low (unless (isWaveform w) Setting) (unless (isPhase phase dt) Argument) (unless-low (isWaveform w) Setting (omega arith)) (unless-low (isPhase phase dt) Argument (omega arith))) (valueOf w phase dt)
     go shape.Unknown = refused-fits Setting (omega arith)
 
-pub render-fits : (g : Settings) (s : List ℕ) (out : List Float) (shelf : List ℕ) → Fits (renderOf g s out shelf .result .answer)
+pub render-fits : (g : Settings) (s : List ℕ) (b : Buffers) → Fits (renderOf g s b .result .answer)
 unfolding renderOf
-render-fits g s out shelf =
-    let room = sizesFit (length out) (length shelf) in
-    first-holds (λ (o : Outcome Rendered). Fits (o .result .answer)) (refusalsOf g room s) _ (madeOf g s (length out)) (λ why l. refused-fits why (judged-low g room s why l))
-    (λ none. done-fits (length out) (omega (arith, roomy (length out) (length shelf) (all-passed g room s none .sized) .short)))
+render-fits g s b =
+    first-holds (λ (o : Outcome Rendered). Fits (o .result .answer)) (refusalsOf g (roomIn b) s) _ (madeOf g s (samplesIn b)) (λ why l. refused-fits why (judged-low g (roomIn b) s why l))
+    (λ none. done-fits (samplesIn b) (omega (arith, in-room b (all-passed g (roomIn b) s none .sized) .short)))
 
-pub rerender-fits : (g : Settings) (old new : List ℕ) (out : List Float) (shelf : List ℕ) → Fits (rerenderOf g old new out shelf .result)
+pub rerender-fits : (g : Settings) (old new : List ℕ) (b : Buffers) → Fits (rerenderOf g old new b .result)
 unfolding rerenderOf
-rerender-fits g old new out shelf =
-    let n = length out in
-    let plan = planOf old new n in
-    let tests = checks g old new n (length shelf) in
-    first-holds (λ (o : Outcome Answer). Fits (o .result)) (rerenderRefusals g old new n shelf) (keptOf out shelf) (outcomeOf g old new plan out shelf)
-    (λ why l. refused-fits why (append-low tests (startRefusals new plan shelf) (append-low (refusalsOf g (sizesFit n (length shelf)) old) (newRefusalsOf new) (judged-low g (sizesFit n (length shelf)) old) (new-low new)) (start-low plan) why l))
-    (λ none. run-fits plan (all-checked g old new n (length shelf) (none-both tests (startRefusals new plan shelf) none .0) .room .short))
+rerender-fits g old new b =
+    let plan = planOf old new (samplesIn b) in
+    let tests = checks g old new (roomIn b) in
+    first-holds (λ (o : Outcome Answer). Fits (o .result)) (rerenderRefusals g old new b) (keptOf b) (outcomeOf g old new plan b)
+    (λ why l. refused-fits why (append-low tests (startRefusals new plan (b .stored)) (append-low (refusalsOf g (roomIn b) old) (newRefusalsOf new) (judged-low g (roomIn b) old) (new-low new)) (start-low plan) why l))
+    (λ none. run-fits plan (in-room b (all-checked g old new (roomIn b) (none-both tests (startRefusals new plan (b .stored)) none .0) .fits) .short))
   where
-    start-low : (q : Plan) → Low (startRefusals new q shelf)
+    start-low : (q : Plan) → Low (startRefusals new q (b .stored))
     start-low Nothing why h = absurd h
-    start-low (From m) why h = unless-low (isStart new m shelf) StartEntry (omega arith) why h
+    start-low (From m) why h = unless-low (isStart new m (b .stored)) StartEntry (omega arith) why h
 
-    run-fits : (q : Plan) → length out ≤ mostSamples → Fits (outcomeOf g old new q out shelf .result)
+    run-fits : (q : Plan) → samplesIn b ≤ mostSamples → Fits (outcomeOf g old new q b .result)
     run-fits Nothing h = done-fits 0 (omega arith)
-    run-fits (From m) h = done-fits (length out - m * 4096) (omega arith)
+    run-fits (From m) h = done-fits (samplesIn b - m * 4096) (omega arith)
 
 -- what a continuing call in words answers
 abbrev pub continueSays : Choice → List ℕ → List ℕ → ℕ → ℕ → Answer

@@ -5,6 +5,7 @@ use Prim.Native.Nat.{ℕ, _+_, _*_, _/_, _%_, _<_}
 use native.Mathlib.Omega.{arith}
 use lib.ListN.{length}
 use lib.Ieee.{Float}
+use Rattle.sections.specs.Outcome.{Buffers}
 use Rattle.answers.specs.declared.Answer.{Answer}
 use Rattle.answers.specs.declared.Answer.the-variants.{Done, Refused}
 use Rattle.answers.specs.declared.Refusal.the-variants.{Setting, Size, Argument}
@@ -59,11 +60,11 @@ pub unknown-reads : numbersIn (packedOf (Refused Setting)) ≡ numbersOf (Refuse
 unknown-reads = read-back (Refused Setting) (refused-fits Setting (omega arith))
 
 module _ (g : Settings) where
-  pub render-reads : (s : List ℕ) (out : List Float) (shelf : List ℕ) → numbersIn (rendered (renderOf g s out shelf) .result) ≡ numbersOf (renderOf g s out shelf .result .answer)
-  render-reads s out shelf = read-back (renderOf g s out shelf .result .answer) (render-fits g s out shelf)
+  pub render-reads : (s : List ℕ) (b : Buffers) → numbersIn (rendered (renderOf g s b) .result) ≡ numbersOf (renderOf g s b .result .answer)
+  render-reads s b = read-back (renderOf g s b .result .answer) (render-fits g s b)
 
-  pub rerender-reads : (old new : List ℕ) (out : List Float) (shelf : List ℕ) → numbersIn (rerendered (rerenderOf g old new out shelf) .result) ≡ numbersOf (rerenderOf g old new out shelf .result)
-  rerender-reads old new out shelf = read-back (rerenderOf g old new out shelf .result) (rerender-fits g old new out shelf)
+  pub rerender-reads : (old new : List ℕ) (b : Buffers) → numbersIn (rerendered (rerenderOf g old new b) .result) ≡ numbersOf (rerenderOf g old new b .result)
+  rerender-reads old new b = read-back (rerenderOf g old new b .result) (rerender-fits g old new b)
 
 -- a continuing call, also from words that are no state and under unknown settings
 pub continue-says : (c : Choice) (s ws : List ℕ) (p : ℕ) (part : List Float) → continueFor c s ws p part .result ≡ packedOf (continueSays c s ws p (length part))

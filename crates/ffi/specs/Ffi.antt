@@ -15,7 +15,7 @@ use Prim.Native.Nat.{ℕ}
 use lib.Dec.{leb, eqb}
 use lib.ListN.{length, drop}
 use lib.Ieee.{Float}
-use Rattle.sections.specs.Outcome.{Outcome, leaves}
+use Rattle.sections.specs.Outcome.{Buffers, Outcome, leaves}
 use Rattle.render.specs.declared.Rendered.{Rendered}
 use Rattle.answers.specs.declared.Answer.{Answer}
 use Rattle.answers.specs.declared.Answer.the-variants.{Done, Refused}
@@ -133,23 +133,23 @@ singleOf code phase dt duty = singleFor (shapeOf code duty) phase dt
 
 -- ---- render: unknown settings are refused with 6, before anything else is judged
 abbrev pub rendered : Outcome Rendered → Outcome ℕ
-rendered o = leaves (packedOf (o .result .answer)) (o .heard) (o .stored)
+rendered o = leaves (packedOf (o .result .answer)) (o .left)
 
--- a refusal leaves output and shelf as they came
-abbrev pub keptOf : List Float → List ℕ → Refusal → Outcome ℕ
-keptOf out shelf why = leaves (packedOf (Refused why)) out shelf
+-- a refusal leaves output, shelf and summary as they came
+abbrev pub keptOf : Buffers → Refusal → Outcome ℕ
+keptOf b why = leaves (packedOf (Refused why)) b
 
-abbrev pub renderFor : Choice → List ℕ → List Float → List ℕ → Outcome ℕ
-renderFor (Known g) s out shelf = rendered (renderOf g s out shelf)
-renderFor Unknown s out shelf = keptOf out shelf Setting
+abbrev pub renderFor : Choice → List ℕ → Buffers → Outcome ℕ
+renderFor (Known g) s b = rendered (renderOf g s b)
+renderFor Unknown s b = keptOf b Setting
 
 -- ---- re-render
 abbrev pub rerendered : Outcome Answer → Outcome ℕ
-rerendered o = leaves (packedOf (o .result)) (o .heard) (o .stored)
+rerendered o = leaves (packedOf (o .result)) (o .left)
 
-abbrev pub rerenderFor : Choice → List ℕ → List ℕ → List Float → List ℕ → Outcome ℕ
-rerenderFor (Known g) old new out shelf = rerendered (rerenderOf g old new out shelf)
-rerenderFor Unknown old new out shelf = keptOf out shelf Setting
+abbrev pub rerenderFor : Choice → List ℕ → List ℕ → Buffers → Outcome ℕ
+rerenderFor (Known g) old new b = rerendered (rerenderOf g old new b)
+rerenderFor Unknown old new b = keptOf b Setting
 
 -- ---- continue: the state comes in thirteen words, and the state after the part is left in them
 -- the words are an entry, with as many records acted as the score has below p; thirteen words that are no state, and

@@ -4,7 +4,7 @@
 // which no function here can test. Left out: the ported calls of phase, voice, envelope, oscillator and LFO, and the
 // end state of a render.
 ghost use mathlib.Core.Path.{_≡_};
-ghost use Rattle.sections.specs.Outcome.{leaves};
+ghost use Rattle.sections.specs.Outcome.{lends, leaves};
 ghost use Rattle.ffi.specs.Packed.{packedOf};
 ghost use Rattle.ffi.specs.Version.{version};
 ghost use Rattle.ffi.specs.Ffi.{fills, continues, shapeOf, mannerOf, asks, choiceOf, checkOf, singleOf, renderFor, rerenderFor, continueIn, continueFor, freshFor, listFor};
@@ -19,7 +19,7 @@ use tremolo::Lfo;
 use waveform::Waveform;
 
 // GAV_VERSION of the header.
-const VERSION: u32 = 3;
+const VERSION: u32 = 4;
 
 // What a host asks for, in its own numbers.
 pub struct Asked {
@@ -90,7 +90,7 @@ pub extern "C" fn gav_sample_says(code: u32, phase: f64, dt: f64, duty: f64) -> 
     packed(answer)
 }
 
-// Every sample of the output and every entry of the shelf, from sample zero.
+// Every sample of the output, every entry of the shelf and every section of the summary, from sample zero.
 #[no_mangle]
 pub extern "C" fn gav_render(
     rate: u32,
@@ -108,8 +108,10 @@ pub extern "C" fn gav_render(
     score: &[u8],
     out: &mut [f64],
     shelf: &mut [u64],
+    magnitudes: &mut [f64],
+    numbers: &mut [u64],
 ) -> u64
-    ensures { λ r. ⌜ leaves r (now (out .exit)) (now (shelf .exit)) ≡ renderFor (choiceOf (asks rate code duty attack decay sustain release «lfo_code» «lfo_duty» «lfo_frequency» «lfo_depth» joined)) (now (score .entry)) (now (out .entry)) (now (shelf .entry)) ⌝ }
+    ensures { λ r. ⌜ leaves r (lends (now (out .exit)) (now (shelf .exit)) (now (magnitudes .exit)) (now (numbers .exit))) ≡ renderFor (choiceOf (asks rate code duty attack decay sustain release «lfo_code» «lfo_duty» «lfo_frequency» «lfo_depth» joined)) (now (score .entry)) (lends (now (out .entry)) (now (shelf .entry)) (now (magnitudes .entry)) (now (numbers .entry))) ⌝ }
 {
     let choice = choice_of(Asked {
         rate,
@@ -128,13 +130,13 @@ pub extern "C" fn gav_render(
     let Choice::Known(settings) = choice else {
         return packed(Answer::Refused(Refusal::Setting));
     };
-    let rendered = render::render(settings, score, out, shelf);
+    let rendered = render::render(settings, score, out, shelf, magnitudes, numbers);
     let answer = rendered.answer;
     packed(answer)
 }
 
-// The samples and entries from the start of the section that holds the first changed position, as the new score gives
-// them.
+// The samples, the entries and the summary from the start of the section that holds the first changed position, as the
+// new score gives them.
 #[no_mangle]
 pub extern "C" fn gav_rerender(
     rate: u32,
@@ -153,8 +155,10 @@ pub extern "C" fn gav_rerender(
     new: &[u8],
     out: &mut [f64],
     shelf: &mut [u64],
+    magnitudes: &mut [f64],
+    numbers: &mut [u64],
 ) -> u64
-    ensures { λ r. ⌜ leaves r (now (out .exit)) (now (shelf .exit)) ≡ rerenderFor (choiceOf (asks rate code duty attack decay sustain release «lfo_code» «lfo_duty» «lfo_frequency» «lfo_depth» joined)) (now (old .entry)) (now (new .entry)) (now (out .entry)) (now (shelf .entry)) ⌝ }
+    ensures { λ r. ⌜ leaves r (lends (now (out .exit)) (now (shelf .exit)) (now (magnitudes .exit)) (now (numbers .exit))) ≡ rerenderFor (choiceOf (asks rate code duty attack decay sustain release «lfo_code» «lfo_duty» «lfo_frequency» «lfo_depth» joined)) (now (old .entry)) (now (new .entry)) (lends (now (out .entry)) (now (shelf .entry)) (now (magnitudes .entry)) (now (numbers .entry))) ⌝ }
 {
     let choice = choice_of(Asked {
         rate,
@@ -173,7 +177,7 @@ pub extern "C" fn gav_rerender(
     let Choice::Known(settings) = choice else {
         return packed(Answer::Refused(Refusal::Setting));
     };
-    packed(rerender::rerender(settings, old, new, out, shelf))
+    packed(rerender::rerender(settings, old, new, out, shelf, magnitudes, numbers))
 }
 
 // The next part of the output, from the state in thirteen words; when done, the words are those of the state after the

@@ -28,7 +28,8 @@ use Rattle.spans.specs.declared.Place.{Place}
 use Rattle.spans.specs.Walk.{placeOf, Played}
 use Rattle.spans.proofs.Agrees.{kept, samples-agree}
 use Rattle.sections.specs.Sections.{playOnOf}
-use Rattle.sections.proofs.Agrees.{same-buffers, made}
+use Rattle.sections.proofs.Room.{same-buffers}
+use Rattle.sections.proofs.Agrees.{made}
 use Rattle.judging.specs.Judging.{refusalsOf, partFits}
 use Rattle.judging.proofs.Refusals.{all-passed, passed-sorted}
 use Rattle.render.specs.declared.Rendered.{Rendered}

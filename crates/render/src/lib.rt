@@ -46,8 +46,7 @@ pub fn render(
                 state: state::fresh(),
                 next: 0,
             };
-            let end =
-                sections::play_on(settings, score, 0, start, out, shelf, magnitudes, numbers);
+            let end = sections::play_on(settings, score, 0, start, out, shelf, magnitudes, numbers);
             let state = end.state;
             Rendered {
                 answer: Answer::Done(n),

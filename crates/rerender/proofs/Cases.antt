@@ -36,7 +36,8 @@ use Rattle.state.specs.Heart.{samplesFrom, entriesFrom}
 use Rattle.spans.specs.declared.Place.{Place}
 use Rattle.spans.specs.Walk.{placeOf}
 use Rattle.sections.specs.Sections.{playOnOf}
-use Rattle.sections.proofs.Agrees.{same-buffers, made}
+use Rattle.sections.proofs.Room.{in-room, same-buffers}
+use Rattle.sections.proofs.Agrees.{made}
 use Rattle.judging.specs.Judging.{refusalsOf, newRefusalsOf, sizesFit}
 use Rattle.judging.proofs.Refusals.{all-passed, new-passed, roomy}
 use Rattle.rerender.specs.declared.Plan.{Plan}
@@ -123,7 +124,7 @@ module _ (g : Settings) (old new : List ℕ) (m : ℕ) (b : Buffers) where
       ≡ leaves (Done (n - m * sectionSize))
       (record { heard = heard; stored = upTo (m * entryWords) (b .stored) (shelfOf (entriesFrom g new m v (entriesFor n - m))); summary = summedUpTo m (b .summary) (summaryFrom heard m (entriesFor n - m)) })
   made-is f =
-      let e = roomy n (length (b .stored)) (length (b .summary .magnitudes)) (length (b .summary .numbers)) f in
+      let e = in-room b f in
       rw (
         none-after (m * sectionSize) n (b .heard) _ (omega arith),
         none-after (m * entryWords) (entriesFor n * entryWords) (b .stored) _ (omega (arith, e .fits)),

@@ -96,6 +96,15 @@ fn rerender_from(
     }
     let next = acted as usize;
     let place = Place { state, next };
-    sections::play_on(settings, new, section, place, out, shelf, magnitudes, numbers);
+    sections::play_on(
+        settings,
+        new,
+        section,
+        place,
+        out,
+        shelf,
+        magnitudes,
+        numbers,
+    );
     Answer::Done(count)
 }

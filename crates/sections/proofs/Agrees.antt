@@ -18,10 +18,6 @@ use Rattle.sections.specs.Outcome.{Buffers, samplesIn, roomIn, Outcome}
 use Rattle.sections.specs.Summary.{summaryFrom}
 use Rattle.sections.specs.Sections.{keptFrom, upTo, summedUpTo, playOnOf}
 
--- buffers that hold the same are the same
-pub same-buffers : (b c : Buffers) → b .heard ≡ c .heard → b .stored ≡ c .stored → b .summary ≡ c .summary → b ≡ c
-same-buffers b c x y z = rw (x, y, z) refl
-
 module _ (g : Settings) (s : List ℕ) (o : Sorted s) (m i : ℕ) (v : State) (c : Cut s (m * sectionSize) i) where
   entries-agree : (k : ℕ) → keptFrom g s m (placeOf v i) k ≡ shelfOf (entriesFrom g s m v k)
   unfolding keptFrom entriesFrom

@@ -24,10 +24,10 @@ use Rattle.peaks.specs.declared.Peak.{Peak}
 use Rattle.peaks.specs.Peaks.{peakOf}
 use Rattle.peaks.proofs.Bounds.{offset-below}
 use Rattle.judging.specs.Judging.{mostSamples}
-use Rattle.judging.proofs.Refusals.{Roomy, roomy}
 use Rattle.sections.specs.Outcome.{Buffers, lends, samplesIn, roomIn, leaves}
 use Rattle.sections.specs.Summary.{sectionOf, largest, firstNumber, saidFrom}
 use Rattle.sections.specs.Sections.{keptFrom, upTo, played, playOnOf}
+use Rattle.sections.proofs.Room.{Room, in-room}
 use Rattle.sections.proofs.Summed.{section-in, said-turn}
 use Rattle.sections.specs.Inner.{SectionEnd}
 
@@ -59,8 +59,8 @@ mid-put : {A : Type 0} (a k : ℕ) (xs ys : List A) → a ≤ length xs → leng
 mid-put a k xs ys h e = rw (drop-at (take a xs) (ys ++ drop k (drop a xs)) a (length-take-le a xs h)) (take-at ys (drop k (drop a xs)) k e)
 
 module _ (g : Settings) (s : List ℕ) (m : ℕ) (p : Place) (b : Buffers) (fits : roomIn b ≡ true) (there : m < entriesFor (samplesIn b)) where
-  room-is : Roomy (samplesIn b) (length (b .stored)) (length (b .summary .magnitudes)) (length (b .summary .numbers))
-  room-is = roomy _ _ _ _ fits
+  room-is : Room b
+  room-is = in-room b fits
 
   -- the finished output
   abbrev whole : List Float
@@ -244,7 +244,7 @@ module _ (g : Settings) (s : List ℕ) (m : ℕ) (p : Place) (b : Buffers) where
   pub past-the-end : roomIn b ≡ true → entriesFor (samplesIn b) ≤ m → leaves p b ≡ playOnOf g s m p b
   unfolding playOnOf placeFrom playedFrom keptFrom saidFrom run listed shelfOf
   past-the-end f h =
-      let e = roomy (samplesIn b) (length (b .stored)) (length (b .summary .magnitudes)) (length (b .summary .numbers)) f in
+      let e = in-room b f in
       let a : samplesIn b - m * sectionSize ≡ 0 = omega arith in
       let c : entriesFor (samplesIn b) - m ≡ 0 = omega arith in
       rw (

@@ -34,7 +34,16 @@ pub fn play_on(
     if shelf::entries(out.len()) <= section {
         return place;
     }
-    play_sections(settings, score, section, place, out, shelf, magnitudes, numbers)
+    play_sections(
+        settings,
+        score,
+        section,
+        place,
+        out,
+        shelf,
+        magnitudes,
+        numbers,
+    )
 }
 
 fn play_sections(
