@@ -27,7 +27,9 @@ use Rattle.state.specs.Heart.{stateFrom, samplesFrom}
 use Rattle.state.proofs.RunsOn.{state-on, samples-on}
 use Rattle.state.proofs.Acted.{acted-fresh, below-all}
 use Rattle.state.proofs.Stays.{fresh-kept}
-use Rattle.judging.specs.Judging.{mostSamples, sizesFit}
+use Rattle.sections.specs.Outcome.{Buffers, samplesIn, roomIn, Lent}
+use Rattle.sections.proofs.Room.{room-in}
+use Rattle.judging.specs.Judging.{mostSamples}
 use Rattle.judging.proofs.Refusals.{none-refused}
 use Rattle.render.specs.Calls.{madeOf, renderOf, madePart}
 use Rattle.demands.specs.Chain.{Step, ChainOutcome, andThen, chainFrom, samplesOf, lastOf, AllDone, Grows, AllAccepted, NoneBelow, NoneAddedBelow, OneRender, DoneExactly, PartsAreOne}
@@ -96,18 +98,15 @@ chain-passed g x (y ∷ ys) v p d =
     let l : p + length (x .part) + samplesOf (y ∷ ys) ≤ mostSamples = q .in-time in
     record { settings = q .settings; in-time = omega arith; accepted = q .accepted }
 
--- a render into an output of that length and a shelf that fits is done
-render-is : (g : Settings) (s : List ℕ) (n : ℕ) → PassedChain g s n → (out : List Float) (shelf : List ℕ) → length out ≡ n → length shelf ≡ wordsFor (length out) → renderOf g s out shelf ≡ madeOf g s n
+-- a render into an output of that length, with a shelf and a summary that fit, is done
+render-is : (g : Settings) (s : List ℕ) (n : ℕ) → PassedChain g s n → (b : Buffers) → Lent b → samplesIn b ≡ n → renderOf g s b ≡ madeOf g s n
 unfolding renderOf
-render-is g s n q out shelf e h =
-    let room : sizesFit (length out) (length shelf) ≡ true = rw (h, eq-eqb (wordsFor (length out)) (wordsFor (length out)) refl, le-leb (length out) mostSamples (omega (arith, q .in-time))) refl in
-    rw (none-refused g (sizesFit (length out) (length shelf)) s (countOf s) (q .settings) room (q .accepted), e) refl
+render-is g s n q b z e = rw (none-refused g (roomIn b) s (countOf s) (q .settings) (room-in b z) (q .accepted), e) refl
 
-pub chain : (g : Settings) (x : Step) (xs : List Step) → Grows [] (x ∷ xs) → AllDone g (freshOf 0) 0 (x ∷ xs)
-    → (out : List Float) (shelf : List ℕ) → length out ≡ samplesOf (x ∷ xs) → length shelf ≡ wordsFor (length out) → OneRender g (x ∷ xs) out shelf
-chain g x xs w d out shelf e h =
+pub chain : (g : Settings) (x : Step) (xs : List Step) → Grows [] (x ∷ xs) → AllDone g (freshOf 0) 0 (x ∷ xs) → (b : Buffers) → Lent b → samplesIn b ≡ samplesOf (x ∷ xs) → OneRender g (x ∷ xs) b
+chain g x xs w d b z e =
     let q = chain-passed g x xs (freshOf 0) 0 d in
-    let r = render-is g (lastOf [] (x ∷ xs)) (samplesOf (x ∷ xs)) (rw zero-add at q) out shelf e h in
+    let r = render-is g (lastOf [] (x ∷ xs)) (samplesOf (x ∷ xs)) (rw zero-add at q) b z e in
     let c = chain-samples g (x ∷ xs) w d in
     record { done = rw r refl; heard = rw r (c .0); state = rw r (c .1) }
 

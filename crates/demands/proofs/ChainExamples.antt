@@ -11,6 +11,7 @@ use lib.Dec.{T}
 use lib.ListN.{replicate}
 use lib.Ieee.{binary64, ofBits, le, fits, isNan}
 use lib.Ieee.Bits.{ofBits-fits}
+use Rattle.sections.specs.Outcome.{Buffers, lends}
 use Rattle.shelf.specs.Shelf.{entryWords}
 use Rattle.floats.specs.Double.{half}
 use Rattle.answers.specs.declared.Answer.the-variants.{Done, Refused}
@@ -74,12 +75,16 @@ unfolding positionAt
 position-1 at = omega arith
 
 -- ---- on time
+-- buffers of 128 samples
+abbrev pub room : Buffers
+room = lends (replicate 128 half) (replicate entryWords 0) (half ∷ []) (0 ∷ [])
+
 pub record OnTime : Type 0 where
   pub accepted : AllAccepted (played 100)
   pub growing : Grows [] (played 100)
   pub none-below : NoneAddedBelow [] 0 (played 100)
   pub answers : chainFrom trembling (freshOf 0) 0 (played 100) .answers ≡ Done 100 ∷ Done 28 ∷ []
-  pub one-render : OneRender trembling (played 100) (replicate 128 half) (replicate entryWords 0)
+  pub one-render : OneRender trembling (played 100) room
 
 sustain-fits : T (fits binary64 (trembling .adsr .sustain))
 sustain-fits = ofBits-fits binary64 0x3fe0_0000_0000_0000
@@ -100,7 +105,7 @@ on-time =
       growing = grows 100;
       none-below = none-100;
       answers = done-100;
-      one-render = chain trembling _ _ (grows 100) done-100 (replicate 128 half) (replicate entryWords 0) refl refl;
+      one-render = chain trembling _ _ (grows 100) done-100 room (record { short = omega arith; fits = refl; magnitudes-fit = refl; numbers-fit = refl }) refl;
     }
 
 -- ---- too late

@@ -11,7 +11,8 @@ use Rattle.answers.specs.Order.{unless}
 use Rattle.answers.specs.declared.Refusal.{Refusal}
 use Rattle.answers.specs.declared.Refusal.the-variants.{Score, NewScore, Setting, Size, StartEntry, Argument, GivenState}
 use Rattle.answers.proofs.Order.{passed, none-both, Leads, leads-append, leads-after, leads-parts, leads-unless}
-use Rattle.judging.specs.Judging.{refusalsOf, Passed, newRefusalsOf, sizesFit, partFits}
+use Rattle.sections.specs.Outcome.{Buffers, samplesIn, roomIn}
+use Rattle.judging.specs.Judging.{refusalsOf, Passed, newRefusalsOf, partFits}
 use Rattle.judging.proofs.Refusals.{all-passed, none-refused, new-passed, none-newly, judged-first, six-first, seven-first, score-first, newly-first, new-first}
 use Rattle.render.specs.Calls.{isGiven}
 use Rattle.render.proofs.Outcomes.{render-decided, continue-decided}
@@ -40,16 +41,16 @@ module _ (g : Settings) (room : Bool) (s : List ℕ) where
   render-first Argument h = absurd h
   render-first GivenState h = absurd h
 
-pub render-exactly : (g : Settings) (s : List ℕ) (out : List Float) (shelf : List ℕ) → RenderExactly g s out shelf
-render-exactly g s out shelf =
-    let c = render-decided g s out shelf in
-    let room = sizesFit (length out) (length shelf) in
+pub render-exactly : (g : Settings) (s : List ℕ) (b : Buffers) → RenderExactly g s b
+render-exactly g s b =
+    let c = render-decided g s b in
+    let room = roomIn b in
     record {
       refused = λ why. record {
         only-when = λ e. judged-first g room s (RenderWhen g room s) (λ a. a) (λ a b. (a, b)) (λ a b fault v. (a, b, v)) why (c .refused why e);
         whenever = λ h. c .is-refused why (render-first g room s why h);
       };
-      done = record { only-when = λ e. all-passed g room s (c .done (length out) e); whenever = λ h. c .is-done (none g room s h) };
+      done = record { only-when = λ e. all-passed g room s (c .done (samplesIn b) e); whenever = λ h. c .is-done (none g room s h) };
       as-it-came = c .keeps;
     }
 
@@ -91,9 +92,15 @@ continue-exactly g s v p part =
     }
 
 -- ---- then the new score's faults, and 8
-module _ (g : Settings) (old new : List ℕ) (n : ℕ) (shelf : List ℕ) where
+module _ (g : Settings) (old new : List ℕ) (b : Buffers) where
+  abbrev n : ℕ
+  n = samplesIn b
+
+  abbrev shelf : List ℕ
+  shelf = b .stored
+
   abbrev room : Bool
-  room = sizesFit n (length shelf)
+  room = roomIn b
 
   abbrev plan : Plan
   plan = planOf old new n
@@ -102,7 +109,7 @@ module _ (g : Settings) (old new : List ℕ) (n : ℕ) (shelf : List ℕ) where
   When = RerenderWhen g room old new n shelf
 
   abbrev tests : List Refusal
-  tests = checks g old new n (length shelf)
+  tests = checks g old new (roomIn b)
 
   abbrev eighth : List Refusal
   eighth = startRefusals new plan shelf
@@ -115,7 +122,7 @@ module _ (g : Settings) (old new : List ℕ) (n : ℕ) (shelf : List ℕ) where
       go Nothing e h = absurd h
       go (From m) e h = let u = leads-unless why (isStart new m shelf) StartEntry h in subst When (u .1) (p, a, (m, e, u .0))
 
-  rerender-only : (why : Refusal) → Leads why (rerenderRefusals g old new n shelf) → When why
+  rerender-only : (why : Refusal) → Leads why (rerenderRefusals g old new b) → When why
   rerender-only why h =
       ⊎-elim
       (λ l. ⊎-elim (λ l. judged-first g room old When (λ a. a) (λ a b. (a, b)) (λ a b fault v. (a, b, v)) why l)
@@ -126,10 +133,10 @@ module _ (g : Settings) (old new : List ℕ) (n : ℕ) (shelf : List ℕ) where
   none-tested : Passed g room old → verdictOf new ≡ Accepted (countOf new) → tests ≡ []
   none-tested p a = rw (none g room old p, none-newly new (countOf new) a) refl
 
-  early : (why : Refusal) → RenderWhen g room old why → Leads why (rerenderRefusals g old new n shelf)
+  early : (why : Refusal) → RenderWhen g room old why → Leads why (rerenderRefusals g old new b)
   early why h = leads-append why tests eighth (leads-append why (refusalsOf g room old) (newRefusalsOf new) (render-first g room old why h))
 
-  rerender-first : (why : Refusal) → When why → Leads why (rerenderRefusals g old new n shelf)
+  rerender-first : (why : Refusal) → When why → Leads why (rerenderRefusals g old new b)
   rerender-first (NewScore fault) h = leads-append (NewScore fault) tests eighth (leads-after (NewScore fault) (refusalsOf g room old) (newRefusalsOf new) (none g room old (h .0)) (new-first new fault (h .1)))
   rerender-first StartEntry h = leads-after StartEntry tests eighth (none-tested (h .0) (h .1)) (rw (h .2 .1, h .2 .2) refl)
   rerender-first Setting h = early Setting h
@@ -149,19 +156,18 @@ module _ (g : Settings) (old new : List ℕ) (n : ℕ) (shelf : List ℕ) where
       go Nothing e = refl
       go (From m) e = rw (f m e) refl
 
-pub rerender-exactly : (g : Settings) (old new : List ℕ) (out : List Float) (shelf : List ℕ) → RerenderExactly g old new out shelf
-rerender-exactly g old new out shelf =
-    let c = rerender-decided g old new out shelf in
-    let n = length out in
-    let at = sizesFit n (length shelf) in
+pub rerender-exactly : (g : Settings) (old new : List ℕ) (b : Buffers) → RerenderExactly g old new b
+rerender-exactly g old new b =
+    let c = rerender-decided g old new b in
+    let at = roomIn b in
     record {
-      refused = λ why. record { only-when = λ e. rerender-only g old new n shelf why (c .refused why e); whenever = λ h. c .is-refused why (rerender-first g old new n shelf why h) };
+      refused = λ why. record { only-when = λ e. rerender-only g old new b why (c .refused why e); whenever = λ h. c .is-refused why (rerender-first g old new b why h) };
       done = record {
         only-when = λ e. (
-            let b = none-both (checks g old new n (length shelf)) (startRefusals new (planOf old new n) shelf) (c .done _ e) in
-            let a = none-both (refusalsOf g at old) (newRefusalsOf new) (b .0) in
-            (all-passed g at old (a .0), new-passed new (a .1), starts g old new n shelf (b .1)));
-        whenever = λ h. c .is-done (rw (none-tested g old new n shelf (h .0) (h .1), none-eighth g old new n shelf (h .2)) refl);
+            let d = none-both (checks g old new (roomIn b)) (startRefusals new (planOf old new (samplesIn b)) (b .stored)) (c .done _ e) in
+            let a = none-both (refusalsOf g at old) (newRefusalsOf new) (d .0) in
+            (all-passed g at old (a .0), new-passed new (a .1), starts g old new b (d .1)));
+        whenever = λ h. c .is-done (rw (none-tested g old new b (h .0) (h .1), none-eighth g old new b (h .2)) refl);
       };
       as-it-came = c .keeps;
     }

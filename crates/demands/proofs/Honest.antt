@@ -38,7 +38,8 @@ use Rattle.shelf.specs.declared.Entry.{Entry}
 use Rattle.shelf.specs.Shelf.{entryWords, sectionSize, entriesFor, entryOf, isEntry, decodedOf, shelfOf}
 use Rattle.shelf.proofs.There.{Fitting, encode-decode}
 use Rattle.shelf.proofs.Whole.{entry-words}
-use Rattle.judging.specs.Judging.{Passed, sizesFit}
+use Rattle.sections.specs.Outcome.{Buffers, samplesIn, roomIn}
+use Rattle.judging.specs.Judging.{Passed}
 use Rattle.judging.proofs.Refusals.{all-passed}
 use Rattle.render.specs.Calls.{renderOf, isGiven}
 use Rattle.render.proofs.Outcomes.{render-decided}
@@ -113,16 +114,16 @@ module _ (g : Settings) (ok : settingsOk g ≡ true) (w : T (fits binary64 (g .a
   fresh-entries-honest k j h = rw (zero-add j) at (entries-honest 0 (freshOf 0) fresh-is-state none-acted (fresh-fitting 0) k j h)
 
 -- ---- the shelf that a render leaves
-module _ (g : Settings) (s : List ℕ) (out : List Float) (shelf : List ℕ) where
+module _ (g : Settings) (s : List ℕ) (b : Buffers) where
   -- what is true of a render that is done
-  pub render-passed : (n : ℕ) → renderOf g s out shelf .result .answer ≡ Done n → Passed g (sizesFit (length out) (length shelf)) s
-  render-passed n d = all-passed g (sizesFit (length out) (length shelf)) s (render-decided g s out shelf .done n d)
+  pub render-passed : (n : ℕ) → renderOf g s b .result .answer ≡ Done n → Passed g (roomIn b) s
+  render-passed n d = all-passed g (roomIn b) s (render-decided g s b .done n d)
 
   -- entry i, of the entries of n samples
-  pub render-honest : T (fits binary64 (g .adsr .sustain)) → (n : ℕ) → renderOf g s out shelf .result .answer ≡ Done n → (i : ℕ) → i < entriesFor n
-      → HonestEntry s (i * sectionSize) (stateFrom g s 0 (freshOf 0) (i * sectionSize)) (take entryWords (drop (i * entryWords) (renderOf g s out shelf .stored)))
+  pub render-honest : T (fits binary64 (g .adsr .sustain)) → (n : ℕ) → renderOf g s b .result .answer ≡ Done n → (i : ℕ) → i < entriesFor n
+      → HonestEntry s (i * sectionSize) (stateFrom g s 0 (freshOf 0) (i * sectionSize)) (take entryWords (drop (i * entryWords) (renderOf g s b .left .stored)))
   render-honest w n d i h =
       let p = render-passed n d in
-      let c = render-decided g s out shelf in
-      let many : i < entriesFor (length out) = rw (c .counts n d) h in
-      rw (c .makes n d) (fresh-entries-honest g (p .settings) w s (countOf s) (p .accepted) (entriesFor (length out)) i many)
+      let c = render-decided g s b in
+      let many : i < entriesFor (samplesIn b) = rw (c .counts n d) h in
+      rw (c .makes n d) (fresh-entries-honest g (p .settings) w s (countOf s) (p .accepted) (entriesFor (samplesIn b)) i many)

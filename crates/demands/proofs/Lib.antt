@@ -3,6 +3,8 @@
 pub mod Faults
 -- demand 1: each refusal of a call exactly when its row holds first, and then all is left as it came
 pub mod Demand1
+-- buffers cut at a section
+pub mod Cut
 -- a shelf that a render left is never refused
 pub mod Honest
 -- a continuing call, and the rest of a chain after it
@@ -19,6 +21,8 @@ pub mod First
 pub mod Demand3
 -- any number of edits leave what one render of the last score leaves
 pub mod Edits
+-- the summary: what it tells, that it stays right, and that every sample made is finite
+pub mod Peaks
 -- an edit that meets demand 3's premises, and two that meet those of `AnyEdits`, over rubbish
 pub mod Example
 -- between two reductions the tremolo's LFO is the ported block, and depth 0 is no tremolo

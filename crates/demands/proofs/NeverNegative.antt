@@ -11,7 +11,8 @@ use Rattle.floats.specs.Range.{nonneg}
 use Rattle.floats.specs.Double.{zero64}
 use Rattle.floats.proofs.Literals.{zeroOf-is}
 use Rattle.floats.proofs.Order.{ge0→le, nonneg→ge0}
-use Rattle.sections.specs.Outcome.{leaves}
+use Rattle.sections.specs.Outcome.{Buffers, samplesIn, roomIn, leaves}
+use Rattle.sections.specs.Summary.{summaryFrom, summaryOf}
 use Rattle.answers.specs.Order.{unless}
 use Rattle.answers.specs.declared.Answer.the-variants.{Done}
 use Rattle.answers.specs.declared.Refusal.the-variants.{GivenState, StartEntry}
@@ -33,12 +34,12 @@ use Rattle.state.specs.Branching.{branchingOf, stateBranching, samplesBranching
 use Rattle.state.proofs.Limits.{fresh-in, state-in}
 use Rattle.state.proofs.Ladder.{rest-not-below}
 use Rattle.state.proofs.NeverNegative.{phase-nonnegative, lfo-nonnegative, branch-states, branch-samples, branch-entries}
-use Rattle.judging.specs.Judging.{refusalsOf, sizesFit, partFits}
+use Rattle.judging.specs.Judging.{refusalsOf, partFits}
 use Rattle.judging.proofs.Refusals.{all-passed}
 use Rattle.render.specs.Calls.{says, leavesPart, isGiven, renderOf, continueOf}
 use Rattle.render.proofs.Outcomes.{render-decided, continue-decided}
 use Rattle.rerender.specs.declared.Plan.the-variants.{From}
-use Rattle.rerender.specs.Rerender.{planOf, entryAt, startOf, stopOf, isStart, between, startRefusals, rerenderOf}
+use Rattle.rerender.specs.Rerender.{planOf, entryAt, startOf, stopOf, isStart, between, summedBetween, startRefusals, rerenderOf}
 use Rattle.rerender.proofs.Cases.{checks, all-checked, rerender-decided}
 use Rattle.demands.specs.NeverNegative.{minusOne, NotNegative, SameSteps, NeverNegative}
 
@@ -56,11 +57,12 @@ steps g ok w s m a n v l k =
     }
 
 -- ---- the calls
-rendered : (g : Settings) → T (fits binary64 (g .adsr .sustain)) → (s : List ℕ) (out : List Float) (shelf : List ℕ) (k : ℕ) → renderOf g s out shelf .result .answer ≡ Done k
-    → renderOf g s out shelf ≡ leaves (says (Done k) (stateBranching g s 0 (freshOf 0) k)) (samplesBranching g s 0 (freshOf 0) k) (shelfOf (entriesBranching g s 0 (freshOf 0) (entriesFor k)))
-rendered g w s out shelf k e =
-    let d = render-decided g s out shelf in
-    let a = all-passed g (sizesFit (length out) (length shelf)) s (d .done k e) in
+rendered : (g : Settings) → T (fits binary64 (g .adsr .sustain)) → (s : List ℕ) (b : Buffers) (k : ℕ) → renderOf g s b .result .answer ≡ Done k
+    → let heard = samplesBranching g s 0 (freshOf 0) k in
+    renderOf g s b ≡ leaves (says (Done k) (stateBranching g s 0 (freshOf 0) k)) (record { heard = heard; stored = shelfOf (entriesBranching g s 0 (freshOf 0) (entriesFor k)); summary = summaryOf heard })
+rendered g w s b k e =
+    let d = render-decided g s b in
+    let a = all-passed g (roomIn b) s (d .done k e) in
     let ok = a .settings in
     let t = a .accepted in
     let i = fresh-in 0 in
@@ -78,24 +80,30 @@ continued g w s v p part k e =
     let i = state-in v (both (isState v) (eqb (v .acted) (countBelow s p)) (passed (isGiven s p v) GivenState (b .1)) .0) in
     d .makes k e ∙ rw (d .counts k e, branch-states g ok w s (countOf s) t p v i k, branch-samples g ok w s (countOf s) t p v i k) refl
 
-re-rendered : (g : Settings) → T (fits binary64 (g .adsr .sustain)) → (old new : List ℕ) (out : List Float) (shelf : List ℕ) (m : ℕ) → planOf old new (length out) ≡ From m → (k : ℕ) → rerenderOf g old new out shelf .result ≡ Done k
-    → let stop = stopOf g old new m (length out) in
-    rerenderOf g old new out shelf
+re-rendered : (g : Settings) → T (fits binary64 (g .adsr .sustain)) → (old new : List ℕ) (b : Buffers) (m : ℕ) → planOf old new (samplesIn b) ≡ From m → (k : ℕ) → rerenderOf g old new b .result ≡ Done k
+    → let stop = stopOf g old new m (samplesIn b) in
+    let v = startOf (b .stored) m in
+    let heard = between (m * sectionSize) stop (b .heard) (samplesBranching g new (m * sectionSize) v k) in
+    rerenderOf g old new b
     ≡ leaves
     (Done k)
-    (between (m * sectionSize) stop out (samplesBranching g new (m * sectionSize) (startOf shelf m) k))
-    (between (m * entryWords) (entriesFor stop * entryWords) shelf (shelfOf (entriesBranching g new m (startOf shelf m) (entriesFor stop - m))))
-re-rendered g w old new out shelf m q k e =
-    let d = rerender-decided g old new out shelf in
+    (record {
+      heard = heard;
+      stored = between (m * entryWords) (entriesFor stop * entryWords) (b .stored) (shelfOf (entriesBranching g new m v (entriesFor stop - m)));
+      summary = summedBetween m (entriesFor stop) (b .summary) (summaryFrom heard m (entriesFor stop - m));
+    })
+re-rendered g w old new b m q k e =
+    let d = rerender-decided g old new b in
+    let shelf = b .stored in
     let v = startOf shelf m in
-    let b = none-both (checks g old new (length out) (length shelf)) (startRefusals new (planOf old new (length out)) shelf) (d .done k e) in
-    let c = all-checked g old new (length out) (length shelf) (b .0) in
-    let x = passed (isStart new m shelf) StartEntry (rw q at (b .1)) in
+    let n = none-both (checks g old new (roomIn b)) (startRefusals new (planOf old new (samplesIn b)) shelf) (d .done k e) in
+    let c = all-checked g old new (roomIn b) (n .0) in
+    let x = passed (isStart new m shelf) StartEntry (rw q at (n .1)) in
     let i = state-in v (entry-is-state (entryAt shelf m) (both (isEntry (entryAt shelf m)) (eqb (v .acted) (countBelow new (m * sectionSize))) x .0)) in
-    let stop = stopOf g old new m (length out) in
-    let n : stop - m * sectionSize ≡ k = rw q at (d .counts k e) in
+    let stop = stopOf g old new m (samplesIn b) in
+    let many : stop - m * sectionSize ≡ k = rw q at (d .counts k e) in
     d .makes k e
-    ∙ rw (q, n, branch-samples g (c .settings) w new (countOf new) (c .new-accepted) (m * sectionSize) v i k, branch-entries g (c .settings) w new (countOf new) (c .new-accepted) m v i (entriesFor stop - m)) refl
+    ∙ rw (q, many, branch-samples g (c .settings) w new (countOf new) (c .new-accepted) (m * sectionSize) v i k, branch-entries g (c .settings) w new (countOf new) (c .new-accepted) m v i (entriesFor stop - m)) refl
 
 -- ---- the premise: what is left of -1 is below 0, but not with the branch
 left-below : lt (remainderOf minusOne) zero64 ≡ true

@@ -12,7 +12,7 @@ use lib.ListN.{length}
 use lib.Ieee.{Float, binary64, fits}
 use borrow.Author.Tests.{le-leb}
 use Rattle.answers.specs.declared.Answer.the-variants.{Done}
-use Rattle.sections.specs.Outcome.{Outcome}
+use Rattle.sections.specs.Outcome.{Buffers, samplesIn, Outcome}
 use Rattle.score.specs.declared.Record.{Record}
 use Rattle.score.specs.declared.Kind.the-variants.{Off}
 use Rattle.score.specs.declared.Difference.the-variants.{At}
@@ -37,9 +37,9 @@ use Rattle.judging.specs.Judging.{refusalsOf}
 use Rattle.render.specs.declared.Rendered.{Rendered}
 use Rattle.render.specs.Calls.{renderOf, continueOf}
 use Rattle.rerender.specs.Rerender.{rerenderOf}
-use Rattle.demands.specs.Demand3.{Taken, Buffers, leftIn}
+use Rattle.demands.specs.Demand3.{Taken, BuffersOf, leftIn}
 use Rattle.demands.specs.Edits.{editsFrom, lastScore, EditedWhole}
-use Rattle.demands.specs.VelocityNought.{Unmoved, VelocityNought}
+use Rattle.demands.specs.VelocityNought.{VelocityNought}
 use Rattle.demands.proofs.ChainExamples.{begins}
 use Rattle.demands.proofs.Example.{edited}
 use Rattle.demands.proofs.Edits.{any-edits}
@@ -58,15 +58,15 @@ voice-strikes s n ok l = rw (ok, le-leb n 127 l) refl
 
 -- ---- the calls
 module _ (s t : List ℕ) (h : SameButReleases s t) (a : Taken s) (b : Taken t) (g : Settings) where
-  rendered : (out : List Float) (shelf : List ℕ) → renderOf g s out shelf ≡ renderOf g t out shelf
+  rendered : (l : Buffers) → renderOf g s l ≡ renderOf g t l
   unfolding renderOf refusalsOf
-  rendered out shelf =
+  rendered l =
       rw (
         accepted-faults s (a .records) (a .accepted),
         accepted-faults t (b .records) (b .accepted),
-        state-releases s t h g 0 (freshOf 0) (length out),
-        samples-releases s t h g 0 (freshOf 0) (length out),
-        entries-releases s t h g 0 (freshOf 0) (entriesFor (length out)),
+        state-releases s t h g 0 (freshOf 0) (samplesIn l),
+        samples-releases s t h g 0 (freshOf 0) (samplesIn l),
+        entries-releases s t h g 0 (freshOf 0) (entriesFor (samplesIn l)),
       )
       refl
 
@@ -83,15 +83,11 @@ module _ (s t : List ℕ) (h : SameButReleases s t) (a : Taken s) (b : Taken t) 
       refl
 
   -- the re-render leaves what a render of t leaves, and that is what a render of s left
-  re-rendered : settingsOk g ≡ true → T (fits binary64 (g .adsr .sustain)) → (n : ℕ) (l : Buffers n) → Unmoved (leftIn g s l) (rerenderOf g s t (leftIn g s l .heard) (leftIn g s l .stored))
+  re-rendered : settingsOk g ≡ true → T (fits binary64 (g .adsr .sustain)) → (n : ℕ) (r : BuffersOf n) → rerenderOf g s t (leftIn g s r .left) .left ≡ leftIn g s r .left
   unfolding editsFrom lastScore
-  re-rendered ok w n l =
-      let e : EditedWhole g s (t ∷ []) n (editsFrom g s (t ∷ []) (leftIn g s l .heard) (leftIn g s l .stored)) = any-edits .from-a-render g ok w s (t ∷ []) a (b, tt) n l in
-      let same : leftIn g t l ≡ leftIn g s l = sym (rendered (l .out) (l .shelf)) in
-      record {
-        samples = e .samples-are l ∙ ap (λ (o : Outcome Rendered). o .heard) same;
-        entries = e .entries-are l ∙ ap (λ (o : Outcome Rendered). o .stored) same;
-      }
+  re-rendered ok w n r =
+      let e : EditedWhole g s (t ∷ []) n (editsFrom g s (t ∷ []) (leftIn g s r .left)) = any-edits .from-a-render g ok w s (t ∷ []) a (b, tt) n r in
+      e .are-rendered r ∙ ap (λ (o : Outcome Rendered). o .left) (sym (rendered (r .buffers)))
 
 pub velocity-nought : VelocityNought
 velocity-nought =

@@ -23,7 +23,7 @@ use Rattle.state.specs.declared.Settings.{Settings}
 use Rattle.state.specs.declared.State.{State}
 use Rattle.state.specs.Settings.{settingsOk}
 use Rattle.state.specs.State.{freshOf}
-use Rattle.shelf.specs.Shelf.{wordsFor}
+use Rattle.sections.specs.Outcome.{Buffers, samplesIn, Lent}
 use Rattle.judging.specs.Judging.{mostSamples}
 use Rattle.render.specs.Calls.{PartOutcome, renderOf, continueOf}
 
@@ -93,10 +93,10 @@ NoneAddedBelow s p (x ∷ xs) = NoneBelow s (x .score) p × NoneAddedBelow (x .s
 
 -- ---- what is promised, of a chain from the fresh state at 0
 -- the chain leaves the samples and end state of one render of the last score, and that render is done
-pub record OneRender (g : Settings) (xs : List Step) (out : List Float) (shelf : List ℕ) : Type 0 where
-  pub done : renderOf g (lastOf [] xs) out shelf .result .answer ≡ Done (samplesOf xs)
-  pub heard : chainFrom g (freshOf 0) 0 xs .heard ≡ renderOf g (lastOf [] xs) out shelf .heard
-  pub state : chainFrom g (freshOf 0) 0 xs .state ≡ renderOf g (lastOf [] xs) out shelf .result .state
+pub record OneRender (g : Settings) (xs : List Step) (b : Buffers) : Type 0 where
+  pub done : renderOf g (lastOf [] xs) b .result .answer ≡ Done (samplesOf xs)
+  pub heard : chainFrom g (freshOf 0) 0 xs .heard ≡ renderOf g (lastOf [] xs) b .left .heard
+  pub state : chainFrom g (freshOf 0) 0 xs .state ≡ renderOf g (lastOf [] xs) b .result .state
 
 -- every call answers 0 exactly when no record was added below the position already reached
 pub record DoneExactly (g : Settings) (xs : List Step) : Type 0 where
@@ -105,8 +105,8 @@ pub record DoneExactly (g : Settings) (xs : List Step) : Type 0 where
 
 -- ---- the claim
 pub record PartsAreOne : Type 0 where
-  -- for one call or more, any output of that length and any shelf that fits it
+  -- for one call or more, any output of that length, and any shelf and summary that fit it
   pub one-render : (g : Settings) (x : Step) (xs : List Step) → Grows [] (x ∷ xs) → AllDone g (freshOf 0) 0 (x ∷ xs)
-      → (out : List Float) (shelf : List ℕ) → length out ≡ samplesOf (x ∷ xs) → length shelf ≡ wordsFor (length out) → OneRender g (x ∷ xs) out shelf
+      → (b : Buffers) → Lent b → samplesIn b ≡ samplesOf (x ∷ xs) → OneRender g (x ∷ xs) b
   -- under settings in their domain; the sustain is a value of an f64, as every f64 of the code is
   pub done-exactly : (g : Settings) → settingsOk g ≡ true → T (fits binary64 (g .adsr .sustain)) → (xs : List Step) → AllAccepted xs → Grows [] xs → samplesOf xs ≤ mostSamples → DoneExactly g xs

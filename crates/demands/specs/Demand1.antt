@@ -17,14 +17,14 @@ use Rattle.answers.specs.declared.Refusal.{Refusal}
 use Rattle.answers.specs.declared.Refusal.the-variants.{Score, NewScore, Setting, Size, StartEntry, Argument, GivenState}
 use Rattle.answers.specs.declared.ScoreFault.{ScoreFault}
 use Rattle.answers.specs.declared.ScoreFault.the-variants.{Length, Mark, Kind, Field, Order}
-use Rattle.judging.specs.Judging.{Passed, sizesFit, partFits}
+use Rattle.judging.specs.Judging.{Passed, partFits}
 use Rattle.render.specs.Calls.{says, renderOf, leavesPart, isGiven, continueOf}
 use Rattle.rerender.specs.declared.Plan.the-variants.{From}
 use Rattle.rerender.specs.Rerender.{planOf, isStart, countFor, rerenderOf}
 use Rattle.score.specs.declared.Verdict.the-variants.{Accepted, Faulty}
 use Rattle.score.specs.Record.{countOf}
 use Rattle.score.specs.Score.{markRight, kindRight, fieldsRight, allRight, inOrder, verdictOf}
-use Rattle.sections.specs.Outcome.{leaves}
+use Rattle.sections.specs.Outcome.{Buffers, samplesIn, roomIn, leaves}
 use Rattle.state.specs.declared.Settings.{Settings}
 use Rattle.state.specs.declared.State.{State}
 use Rattle.state.specs.Settings.{settingsOk}
@@ -89,19 +89,19 @@ RerenderWhen g room old new n shelf StartEntry = Passed g room old × (verdictOf
 RerenderWhen g room old new n shelf Argument = ⊥
 RerenderWhen g room old new n shelf GivenState = ⊥
 
-pub record RenderExactly (g : Settings) (s : List ℕ) (out : List Float) (shelf : List ℕ) : Type 0 where
-  pub refused : (why : Refusal) → Exactly (renderOf g s out shelf .result .answer ≡ Refused why) (RenderWhen g (sizesFit (length out) (length shelf)) s why)
-  pub done : Exactly (renderOf g s out shelf .result .answer ≡ Done (length out)) (Passed g (sizesFit (length out) (length shelf)) s)
-  pub as-it-came : (why : Refusal) → renderOf g s out shelf .result .answer ≡ Refused why → renderOf g s out shelf ≡ leaves (says (Refused why) (freshOf 0)) out shelf
+pub record RenderExactly (g : Settings) (s : List ℕ) (b : Buffers) : Type 0 where
+  pub refused : (why : Refusal) → Exactly (renderOf g s b .result .answer ≡ Refused why) (RenderWhen g (roomIn b) s why)
+  pub done : Exactly (renderOf g s b .result .answer ≡ Done (samplesIn b)) (Passed g (roomIn b) s)
+  pub as-it-came : (why : Refusal) → renderOf g s b .result .answer ≡ Refused why → renderOf g s b ≡ leaves (says (Refused why) (freshOf 0)) b
 
 pub record ContinueExactly (g : Settings) (s : List ℕ) (v : State) (p : ℕ) (part : List Float) : Type 0 where
   pub refused : (why : Refusal) → Exactly (continueOf g s v p part .result .answer ≡ Refused why) (ContinueWhen g (partFits p (length part)) s (isGiven s p v) why)
   pub done : Exactly (continueOf g s v p part .result .answer ≡ Done (length part)) (Passed g (partFits p (length part)) s × (isGiven s p v ≡ true))
   pub as-it-came : (why : Refusal) → continueOf g s v p part .result .answer ≡ Refused why → continueOf g s v p part ≡ leavesPart (says (Refused why) v) part
 
-pub record RerenderExactly (g : Settings) (old new : List ℕ) (out : List Float) (shelf : List ℕ) : Type 0 where
-  pub refused : (why : Refusal) → Exactly (rerenderOf g old new out shelf .result ≡ Refused why) (RerenderWhen g (sizesFit (length out) (length shelf)) old new (length out) shelf why)
+pub record RerenderExactly (g : Settings) (old new : List ℕ) (b : Buffers) : Type 0 where
+  pub refused : (why : Refusal) → Exactly (rerenderOf g old new b .result ≡ Refused why) (RerenderWhen g (roomIn b) old new (samplesIn b) (b .stored) why)
   pub done : Exactly
-      (rerenderOf g old new out shelf .result ≡ Done (countFor g old new (planOf old new (length out)) (length out)))
-      (Passed g (sizesFit (length out) (length shelf)) old × (verdictOf new ≡ Accepted (countOf new)) × ((m : ℕ) → planOf old new (length out) ≡ From m → isStart new m shelf ≡ true))
-  pub as-it-came : (why : Refusal) → rerenderOf g old new out shelf .result ≡ Refused why → rerenderOf g old new out shelf ≡ leaves (Refused why) out shelf
+      (rerenderOf g old new b .result ≡ Done (countFor g old new (planOf old new (samplesIn b)) (samplesIn b)))
+      (Passed g (roomIn b) old × (verdictOf new ≡ Accepted (countOf new)) × ((m : ℕ) → planOf old new (samplesIn b) ≡ From m → isStart new m (b .stored) ≡ true))
+  pub as-it-came : (why : Refusal) → rerenderOf g old new b .result ≡ Refused why → rerenderOf g old new b ≡ leaves (Refused why) b

@@ -5,6 +5,9 @@
 -- stay as they came, even if they hold rubbish. The count is the samples from the mark to the end. Where the scores are
 -- equal, or the first change lies at or past the end, nothing is written and the count is nought." 01, "What a call
 -- says": "Where count is 0 for equal scores or a late P, no entry is read and 8 is not given".
+-- 02, R-3: "A re-render brings the summary up to date and touches only sections from its start entry on"; "Demand 3 now
+-- covers summary as well". So what is said below of samples and entries is said of the summary too: `onward` and
+-- `before` of `sections`' specs/Outcome.antt are all three of them.
 -- The demand's mark is the first sample of a section: sample 4096 m for section m, whose entry is entry m.
 -- The argument is in proofs/Demand3.antt, that of `parted` and `first-change` in proofs/First.antt. Definitions only.
 use mathlib.Core.Path.{_≡_}
@@ -12,9 +15,9 @@ use mathlib.Core.Bool.{true}
 use mathlib.Core.List.{List}
 use Prim.Native.Nat.{ℕ, suc, _-_, _*_, _/_, _≤_, _<_}
 use lib.Dec.{T}
-use lib.ListN.{length, take, drop}
-use lib.Ieee.{Float, binary64, fits}
-use Rattle.sections.specs.Outcome.{Outcome, leaves}
+use lib.ListN.{take}
+use lib.Ieee.{binary64, fits}
+use Rattle.sections.specs.Outcome.{Buffers, samplesIn, Lent, before, onward, Outcome, leaves}
 use Rattle.answers.specs.declared.Answer.{Answer}
 use Rattle.answers.specs.declared.Answer.the-variants.{Done, Refused}
 use Rattle.answers.specs.declared.Refusal.the-variants.{StartEntry}
@@ -23,10 +26,9 @@ use Rattle.score.specs.declared.Verdict.the-variants.{Accepted}
 use Rattle.score.specs.Score.{verdictOf}
 use Rattle.score.specs.Below.{countBelow}
 use Rattle.score.specs.Apart.{differenceOf}
-use Rattle.shelf.specs.Shelf.{sectionSize, entryWords, wordsFor}
+use Rattle.shelf.specs.Shelf.{sectionSize}
 use Rattle.state.specs.declared.Settings.{Settings}
 use Rattle.state.specs.Settings.{settingsOk}
-use Rattle.judging.specs.Judging.{mostSamples}
 use Rattle.render.specs.declared.Rendered.{Rendered}
 use Rattle.render.specs.Calls.{renderOf}
 use Rattle.rerender.specs.Rerender.{entryAt, rerenderOf}
@@ -44,21 +46,15 @@ pub record Edit (g : Settings) (old new : List ℕ) : Type 0 where
   pub old-taken : Taken old
   pub new-taken : Taken new
 
--- an output of at most 16,777,216 samples and a shelf that fits it, whatever they hold
-pub record Lent (out : List Float) (shelf : List ℕ) : Type 0 where
-  pub short : length out ≤ mostSamples
-  pub fits : length shelf ≡ wordsFor (length out)
-
--- any such output and shelf of n samples, lent to a render
-pub record Buffers (n : ℕ) : Type 0 where
-  pub out : List Float
-  pub shelf : List ℕ
-  pub lent : Lent out shelf
-  pub long : length out ≡ n
+-- any output of n samples, with a shelf and a summary that fit it, lent to a render, whatever they hold
+pub record BuffersOf (n : ℕ) : Type 0 where
+  pub buffers : Buffers
+  pub lent : Lent buffers
+  pub long : samplesIn buffers ≡ n
 
 -- what a render of s from sample zero leaves in such buffers
-abbrev pub leftIn : {n : ℕ} → Settings → List ℕ → Buffers n → Outcome Rendered
-leftIn g s b = renderOf g s (b .out) (b .shelf)
+abbrev pub leftIn : {n : ℕ} → Settings → List ℕ → BuffersOf n → Outcome Rendered
+leftIn g s r = renderOf g s (r .buffers)
 
 -- the bytes of the records of an accepted score that lie below position q
 abbrev pub recordsBelow : List ℕ → ℕ → List ℕ
@@ -70,31 +66,28 @@ pub record FirstChange (old new : List ℕ) (p : ℕ) : Type 0 where
   pub apart-at : recordsBelow old (suc p) ≡ recordsBelow new (suc p) → ⊥
 
 -- ---- what is promised
--- ys and ws are left in place of out and shelf: from section m on what the render leaves in any buffers of the same
--- size, before section m what came
-pub record FromSection {R : Type 0} (out : List Float) (shelf : List ℕ) (render : Buffers (length out) → Outcome R) (m : ℕ) (ys : List Float) (ws : List ℕ) : Type 0 where
-  pub samples-are : (b : Buffers (length out)) → drop (m * sectionSize) ys ≡ drop (m * sectionSize) (render b .heard)
-  pub entries-are : (b : Buffers (length out)) → drop (m * entryWords) ws ≡ drop (m * entryWords) (render b .stored)
-  pub samples-stay : take (m * sectionSize) ys ≡ take (m * sectionSize) out
-  pub entries-stay : take (m * entryWords) ws ≡ take (m * entryWords) shelf
+-- `left` is left in place of `came`: from section m on, samples, entries and summary are what the render leaves in any
+-- buffers of the same size; before section m they are what came
+pub record FromSection {R : Type 0} (came : Buffers) (render : BuffersOf (samplesIn came) → Outcome R) (m : ℕ) (left : Buffers) : Type 0 where
+  pub are-rendered : (r : BuffersOf (samplesIn came)) → onward m left ≡ onward m (render r .left)
+  pub stay : before m left ≡ before m came
 
 -- a call that started at section m: done, with the count of the samples from there to the end, and so not 8
-pub record Remade (g : Settings) (new : List ℕ) (m : ℕ) (out : List Float) (shelf : List ℕ) (o : Outcome Answer) : Type 0 where
-  pub counted : o .result ≡ Done (length out - m * sectionSize)
+pub record Remade (g : Settings) (new : List ℕ) (m : ℕ) (b : Buffers) (o : Outcome Answer) : Type 0 where
+  pub counted : o .result ≡ Done (samplesIn b - m * sectionSize)
   pub never-8 : o .result ≡ Refused StartEntry → ⊥
-  pub left : FromSection out shelf (leftIn g new) m (o .heard) (o .stored)
+  pub left : FromSection b (leftIn g new) m (o .left)
 
 -- ---- the claim
 pub record Demand3 : Type 0 where
   -- the first changed record is at p, before the end, and the entry of the section that holds p is what a render of the
   -- old score left there
-  pub re-rendered : (g : Settings) (old new : List ℕ) → Edit g old new → (out : List Float) (shelf : List ℕ) → Lent out shelf → (p : ℕ) → differenceOf old new ≡ At p → p < length out
-      → (b : Buffers (length out)) → entryAt shelf (p / sectionSize) ≡ entryAt (leftIn g old b .stored) (p / sectionSize) → Remade g new (p / sectionSize) out shelf (rerenderOf g old new out shelf)
-  -- the scores are equal, whatever the shelf holds
-  pub equal : (g : Settings) (s : List ℕ) → Edit g s s → (out : List Float) (shelf : List ℕ) → Lent out shelf → rerenderOf g s s out shelf ≡ leaves (Done 0) out shelf
-  -- the first change lies at or past the end, whatever the shelf holds
-  pub late : (g : Settings) (old new : List ℕ) → Edit g old new → (out : List Float) (shelf : List ℕ) → Lent out shelf → (p : ℕ) → differenceOf old new ≡ At p → length out ≤ p
-      → rerenderOf g old new out shelf ≡ leaves (Done 0) out shelf
+  pub re-rendered : (g : Settings) (old new : List ℕ) → Edit g old new → (b : Buffers) → Lent b → (p : ℕ) → differenceOf old new ≡ At p → p < samplesIn b
+      → (r : BuffersOf (samplesIn b)) → entryAt (b .stored) (p / sectionSize) ≡ entryAt (leftIn g old r .left .stored) (p / sectionSize) → Remade g new (p / sectionSize) b (rerenderOf g old new b)
+  -- the scores are equal, whatever shelf and summary hold
+  pub equal : (g : Settings) (s : List ℕ) → Edit g s s → (b : Buffers) → Lent b → rerenderOf g s s b ≡ leaves (Done 0) b
+  -- the first change lies at or past the end, whatever shelf and summary hold
+  pub late : (g : Settings) (old new : List ℕ) → Edit g old new → (b : Buffers) → Lent b → (p : ℕ) → differenceOf old new ≡ At p → samplesIn b ≤ p → rerenderOf g old new b ≡ leaves (Done 0) b
   -- no other case exists: accepted scores that are not equal differ at a position, which is that of the first changed
   -- record
   pub parted : (old new : List ℕ) → Taken old → Taken new → (old ≡ new → ⊥) → (p : ℕ) × (differenceOf old new ≡ At p)

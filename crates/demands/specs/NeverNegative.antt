@@ -4,7 +4,7 @@
 -- and take it out."
 -- The voice's reduction is the remainder alone; the block calls keep the branch. The definitions that end in
 -- `Branching` are the voice's steps with 01's own reduction, branch and all. Where a call makes samples, the steps with
--- the branch make the samples and entries that the call leaves, and the end state where the call answers one, to the
+-- the branch make the samples, entries and summary that the call leaves, and the end state where it answers one, to the
 -- bit. A call that is refused, or that has nothing to make, reduces nothing.
 -- The argument is in proofs/NeverNegative.antt: of the steps in that file of the crate `state`, of the calls in that of
 -- this crate. Definitions only.
@@ -16,7 +16,8 @@ use lib.Dec.{T}
 use lib.ListN.{length}
 use lib.Ieee.{Float, binary64, ofBits, lt, le, fits}
 use Rattle.floats.specs.Double.{zero64}
-use Rattle.sections.specs.Outcome.{leaves}
+use Rattle.sections.specs.Outcome.{Buffers, samplesIn, leaves}
+use Rattle.sections.specs.Summary.{summaryFrom, summaryOf}
 use Rattle.answers.specs.declared.Answer.the-variants.{Done}
 use Rattle.waveform.specs.Waveform.{remainderOf}
 use Rattle.score.specs.declared.Verdict.the-variants.{Accepted}
@@ -31,7 +32,7 @@ use Rattle.state.specs.Heart.{stateFrom, samplesFrom}
 use Rattle.state.specs.Branching.{branchingOf, stateBranching, samplesBranching, entriesBranching}
 use Rattle.render.specs.Calls.{says, leavesPart, renderOf, continueOf}
 use Rattle.rerender.specs.declared.Plan.the-variants.{From}
-use Rattle.rerender.specs.Rerender.{planOf, startOf, stopOf, between, rerenderOf}
+use Rattle.rerender.specs.Rerender.{planOf, startOf, stopOf, between, summedBetween, rerenderOf}
 
 abbrev pub minusOne : Float
 minusOne = ofBits binary64 0xbff0_0000_0000_0000
@@ -55,18 +56,24 @@ pub record NeverNegative : Type 0 where
   -- under settings in their domain, of an accepted score, from any state within the limits, at any position
   pub steps : (g : Settings) → settingsOk g ≡ true → T (fits binary64 (g .adsr .sustain)) → (s : List ℕ) (m : ℕ) → verdictOf s ≡ Accepted m → (n : ℕ) (v : State) → inLimits v ≡ true → (k : ℕ) → SameSteps g s n v k
   -- a render that is done, from the fresh state
-  pub rendered : (g : Settings) → T (fits binary64 (g .adsr .sustain)) → (s : List ℕ) (out : List Float) (shelf : List ℕ) (k : ℕ) → renderOf g s out shelf .result .answer ≡ Done k
-      → renderOf g s out shelf ≡ leaves (says (Done k) (stateBranching g s 0 (freshOf 0) k)) (samplesBranching g s 0 (freshOf 0) k) (shelfOf (entriesBranching g s 0 (freshOf 0) (entriesFor k)))
+  pub rendered : (g : Settings) → T (fits binary64 (g .adsr .sustain)) → (s : List ℕ) (b : Buffers) (k : ℕ) → renderOf g s b .result .answer ≡ Done k
+      → let heard = samplesBranching g s 0 (freshOf 0) k in
+      renderOf g s b ≡ leaves (says (Done k) (stateBranching g s 0 (freshOf 0) k)) (record { heard = heard; stored = shelfOf (entriesBranching g s 0 (freshOf 0) (entriesFor k)); summary = summaryOf heard })
   -- a continuing call that is done, from the given state v
   pub continued : (g : Settings) → T (fits binary64 (g .adsr .sustain)) → (s : List ℕ) (v : State) (p : ℕ) (part : List Float) (k : ℕ) → continueOf g s v p part .result .answer ≡ Done k
       → continueOf g s v p part ≡ leavesPart (says (Done k) (stateBranching g s p v k)) (samplesBranching g s p v k)
   -- a re-render that is done, from the state of the entry of section m, whoever made that entry
-  pub re-rendered : (g : Settings) → T (fits binary64 (g .adsr .sustain)) → (old new : List ℕ) (out : List Float) (shelf : List ℕ) (m : ℕ) → planOf old new (length out) ≡ From m → (k : ℕ) → rerenderOf g old new out shelf .result ≡ Done k
-      → let stop = stopOf g old new m (length out) in
-      rerenderOf g old new out shelf
+  pub re-rendered : (g : Settings) → T (fits binary64 (g .adsr .sustain)) → (old new : List ℕ) (b : Buffers) (m : ℕ) → planOf old new (samplesIn b) ≡ From m → (k : ℕ) → rerenderOf g old new b .result ≡ Done k
+      → let stop = stopOf g old new m (samplesIn b) in
+      let v = startOf (b .stored) m in
+      let heard = between (m * sectionSize) stop (b .heard) (samplesBranching g new (m * sectionSize) v k) in
+      rerenderOf g old new b
       ≡ leaves
       (Done k)
-      (between (m * sectionSize) stop out (samplesBranching g new (m * sectionSize) (startOf shelf m) k))
-      (between (m * entryWords) (entriesFor stop * entryWords) shelf (shelfOf (entriesBranching g new m (startOf shelf m) (entriesFor stop - m))))
+      (record {
+        heard = heard;
+        stored = between (m * entryWords) (entriesFor stop * entryWords) (b .stored) (shelfOf (entriesBranching g new m v (entriesFor stop - m)));
+        summary = summedBetween m (entriesFor stop) (b .summary) (summaryFrom heard m (entriesFor stop - m));
+      })
   -- a phase must not be negative for that: at a phase of -1 the two reductions part
   pub parted-below-0 : (v : State) → v .phase .0 ≡ minusOne → reducedOf v ≡ branchingOf v → ⊥

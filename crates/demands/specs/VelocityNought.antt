@@ -14,8 +14,7 @@ use mathlib.Core.List.{List}
 use Prim.Native.Nat.{ℕ, _≤_, _<_}
 use lib.Dec.{T}
 use lib.Ieee.{Float, binary64, fits}
-use Rattle.sections.specs.Outcome.{Outcome}
-use Rattle.answers.specs.declared.Answer.{Answer}
+use Rattle.sections.specs.Outcome.{Buffers}
 use Rattle.answers.specs.declared.Answer.the-variants.{Done}
 use Rattle.score.specs.declared.Record.{Record}
 use Rattle.score.specs.declared.Kind.the-variants.{On, Off, Reset}
@@ -32,12 +31,7 @@ use Rattle.state.specs.Heart.{stateFrom, samplesFrom}
 use Rattle.state.specs.ButReleases.{IsNought, IsRelease, SameButReleases}
 use Rattle.render.specs.Calls.{renderOf, continueOf}
 use Rattle.rerender.specs.Rerender.{rerenderOf}
-use Rattle.demands.specs.Demand3.{Taken, Buffers, leftIn}
-
--- a re-render that leaves output and shelf as it found them, whatever its answer
-pub record Unmoved {R : Type 0} (before : Outcome R) (after : Outcome Answer) : Type 0 where
-  pub samples : after .heard ≡ before .heard
-  pub entries : after .stored ≡ before .stored
+use Rattle.demands.specs.Demand3.{Taken, BuffersOf, leftIn}
 
 pub record VelocityNought : Type 0 where
   -- an off, and an on with velocity 0, lift the key of their note; what that calls is in `state`'s specs/Calls.antt
@@ -57,9 +51,9 @@ pub record VelocityNought : Type 0 where
   pub states : (s t : List ℕ) → SameButReleases s t → (g : Settings) (n : ℕ) (v : State) (k : ℕ) → stateFrom g s n v k ≡ stateFrom g t n v k
   pub samples : (s t : List ℕ) → SameButReleases s t → (g : Settings) (n : ℕ) (v : State) (k : ℕ) → samplesFrom g s n v k ≡ samplesFrom g t n v k
   -- the calls leave the same, whatever they are lent
-  pub rendered : (s t : List ℕ) → SameButReleases s t → Taken s → Taken t → (g : Settings) (out : List Float) (shelf : List ℕ) → renderOf g s out shelf ≡ renderOf g t out shelf
+  pub rendered : (s t : List ℕ) → SameButReleases s t → Taken s → Taken t → (g : Settings) (b : Buffers) → renderOf g s b ≡ renderOf g t b
   pub continued : (s t : List ℕ) → SameButReleases s t → Taken s → Taken t → (g : Settings) (v : State) (p : ℕ) (part : List Float) → continueOf g s v p part ≡ continueOf g t v p part
-  -- a re-render from s to t, over what a render of s left, leaves every sample and entry as it was; `Demand3`
-  -- says what the re-render answers
-  pub re-rendered : (s t : List ℕ) → SameButReleases s t → Taken s → Taken t → (g : Settings) → settingsOk g ≡ true → T (fits binary64 (g .adsr .sustain)) → (n : ℕ) (b : Buffers n)
-      → Unmoved (leftIn g s b) (rerenderOf g s t (leftIn g s b .heard) (leftIn g s b .stored))
+  -- a re-render from s to t, over what a render of s left, leaves every sample, entry and section's summary as it was;
+  -- `Demand3` says what the re-render answers
+  pub re-rendered : (s t : List ℕ) → SameButReleases s t → Taken s → Taken t → (g : Settings) → settingsOk g ≡ true → T (fits binary64 (g .adsr .sustain)) → (n : ℕ) (r : BuffersOf n)
+      → rerenderOf g s t (leftIn g s r .left) .left ≡ leftIn g s r .left

@@ -23,7 +23,7 @@ use Rattle.score.proofs.Verdicts.{accepted-faults, none-accepted, faulty-faults
 use Rattle.shelf.specs.Shelf.{entriesFor, wordsFor}
 use Rattle.state.specs.declared.Settings.{Settings}
 use Rattle.state.specs.Settings.{settingsOk}
-use Rattle.judging.specs.Judging.{refusalsOf, Passed, newRefusalsOf, mostSamples, sizesFit, partFits}
+use Rattle.judging.specs.Judging.{refusalsOf, Passed, newRefusalsOf, mostSamples, sizesFit, Roomy, partFits}
 
 -- ---- the first refusal in each case of settings, room and score
 module _ (g : Settings) (room : Bool) (s : List ℕ) (rest : Answer) where
@@ -121,12 +121,6 @@ module _ (s : List ℕ) where
   new-first fault h = map-leads NewScore fault (faultsOf s) (faulty-faults s fault h)
 
 -- ---- sizes
-pub record Roomy (n words magnitudes numbers : ℕ) : Type 0 where
-  pub short : n ≤ mostSamples
-  pub fits : words ≡ wordsFor n
-  pub magnitudes-fit : magnitudes ≡ entriesFor n
-  pub numbers-fit : numbers ≡ entriesFor n
-
 pub roomy : (n words magnitudes numbers : ℕ) → sizesFit n words magnitudes numbers ≡ true → Roomy n words magnitudes numbers
 roomy n words magnitudes numbers h =
     let a = both (leb n mostSamples && eqb words (wordsFor n) && eqb magnitudes (entriesFor n)) (eqb numbers (entriesFor n)) h in

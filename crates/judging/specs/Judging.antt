@@ -7,7 +7,7 @@
 use mathlib.Core.Path.{_≡_}
 use mathlib.Core.Bool.{Bool, true, _&&_}
 use mathlib.Core.List.{List, _++_, map}
-use Prim.Native.Nat.{ℕ, _+_}
+use Prim.Native.Nat.{ℕ, _+_, _≤_}
 use lib.Dec.{leb, eqb}
 use Rattle.answers.specs.Order.{unless}
 use Rattle.answers.specs.declared.Refusal.{Refusal}
@@ -39,10 +39,17 @@ newRefusalsOf s = map NewScore (faultsOf s)
 abbrev pub mostSamples : ℕ
 mostSamples = 16777216
 
--- n samples are not too many, the shelf's words are thirteen for each section of n samples, and the summary has one
--- magnitude and one number for each
+-- n samples are not too many, and for each section of n samples the shelf has thirteen words, and the summary one
+-- magnitude and one number
 abbrev pub sizesFit : ℕ → ℕ → ℕ → ℕ → Bool
 sizesFit n words magnitudes numbers = leb n mostSamples && eqb words (wordsFor n) && eqb magnitudes (entriesFor n) && eqb numbers (entriesFor n)
+
+-- what is true of sizes that fit; theorems cite it, no contract does
+pub record Roomy (n words magnitudes numbers : ℕ) : Type 0 where
+  pub short : n ≤ mostSamples
+  pub fits : words ≡ wordsFor n
+  pub magnitudes-fit : magnitudes ≡ entriesFor n
+  pub numbers-fit : numbers ≡ entriesFor n
 
 -- n samples from position p on end at or before position 16,777,216
 abbrev pub partFits : ℕ → ℕ → Bool

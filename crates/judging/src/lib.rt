@@ -38,8 +38,8 @@ pub fn judged_new(new: &[u8]) -> Answer
     }
 }
 
-// Whether samples <= 16,777,216, the shelf has thirteen words for each section of so many samples, and the summary one
-// magnitude and one number.
+// Whether samples <= 16,777,216, and the shelf has thirteen words, and the summary one magnitude and one number, for
+// each section of so many samples.
 pub fn sizes_fit(samples: usize, words: usize, magnitudes: usize, numbers: usize) -> bool
     ensures { λ r. ⌜ r ≡ sizesFit samples words magnitudes numbers ⌝ }
 {

@@ -15,7 +15,7 @@ groupSize = 16
 abbrev pub sizeOf : Float → Float
 sizeOf x = cond (lt x zero64) (neg x) x
 
--- whether each of the k samples from i on is at most a in size, as no NaN is
+-- whether each of the k samples from i on is at most a in size; a NaN is not
 unfoldable pub isQuiet : List Float → ℕ → Float → ℕ → Bool
 isQuiet xs i a zero = true
 isQuiet xs i a (suc k) = isQuiet xs i a k && le (sizeOf (sampleAt xs (i + k))) a

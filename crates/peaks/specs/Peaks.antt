@@ -1,10 +1,10 @@
 -- The peak of a section. 02, R-3: "Keep, for each 4,096-sample section, the largest magnitude and the number, from the
 -- output's start, of the first sample where it stands".
 --
--- Here the number counts from the section's own first sample, and the section has any length. A magnitude is the number
--- without its sign, +0 for -0, so that silence has the peak +0. Of equal magnitudes the first sample counts. Everything
--- is defined for every list: no sample at all has the peak +0 at 0, and a NaN, which no render writes, is above nothing
--- and so is passed over. What the peak means for finite samples is `IsPeak`. Definitions only.
+-- Here a sample's number counts from the section's own first sample, and the section has any length. A magnitude is a
+-- sample without its sign, +0 for -0, so that silence has the peak +0. Of equal magnitudes the first sample counts.
+-- Everything is defined for every list: no sample at all has the peak +0 at 0, and a NaN is above nothing. What the peak
+-- of finite samples, one at least, means is `IsPeak`. Definitions only.
 use mathlib.Core.Bool.{cond}
 use mathlib.Core.List.{List}
 use mathlib.Core.Path.{_≡_}
@@ -28,11 +28,11 @@ magnitudeAt xs i = magnitudeOf (sampleAt xs i)
 abbrev pub stands : Float → ℕ → Peak
 stands a i = record { magnitude = a; offset = i }
 
--- after the peak p comes sample i, of magnitude a: it takes p's place only where it is larger
+-- after the peak p comes sample i, of magnitude a: it takes p's place only where a is larger than p's magnitude
 abbrev pub higher : Peak → Float → ℕ → Peak
 higher p a i = cond (lt (p .magnitude) a) (stands a i) p
 
--- of the first k samples
+-- the peak of the first k samples
 unfoldable pub peakTo : List Float → ℕ → Peak
 peakTo xs zero = stands zero64 0
 peakTo xs (suc k) = higher (peakTo xs k) (magnitudeAt xs k) k

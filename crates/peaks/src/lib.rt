@@ -19,7 +19,7 @@ pub struct Peak {
     pub offset: usize,
 }
 
-// The peak of a section; of no sample, and of zeros alone, it is +0 at the first sample.
+// The peak of a section; of no sample, and of zeros alone, it is +0 at offset 0.
 pub fn peak_of(section: &[f64]) -> Peak
     ensures { λ r. ⌜ r ≡ peakOf (now (section .entry)) ⌝ }
 {

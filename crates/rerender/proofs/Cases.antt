@@ -116,7 +116,7 @@ module _ (g : Settings) (old new : List ℕ) (m : ℕ) (b : Buffers) where
   from-refused o e = rw (start-is o ∙ e) refl
 
   -- the output that is left
-  abbrev heard : List Float
+  abbrev pub heard : List Float
   heard = upTo (m * sectionSize) (b .heard) (samplesFrom g new (m * sectionSize) v (n - m * sectionSize))
 
   -- where the sizes fit, nothing lies beyond the stop

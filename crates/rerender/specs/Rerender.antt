@@ -7,8 +7,8 @@
 -- "The count is the samples from the mark to the end". 02, R-3: "A re-render brings the summary up to date and touches
 -- only sections from its start entry on".
 -- The demand's mark is the first sample of a section: sample 4096 m for section m, whose entry is entry m.
--- Wider than 01: the outcome is decided for every start entry that is a state, even one that no render leaves: the
--- samples and entries are those of the steps from that state. Definitions only.
+-- The outcome is decided for every start entry that is a state, even one that no render leaves: the samples and entries
+-- are those of the steps from that state, and the summary is that of these samples. Definitions only.
 use mathlib.Core.Bool.{Bool, cond, _&&_}
 use mathlib.Core.List.{List, [], _++_}
 use Prim.Native.Nat.{ℕ, _-_, _*_, _/_}
@@ -53,8 +53,7 @@ startOf shelf m = stateOf (entryAt shelf m)
 abbrev pub isStart : List ℕ → ℕ → List ℕ → Bool
 isStart new m shelf = isEntry (entryAt shelf m) && eqb (startOf shelf m .acted) (countBelow new (m * sectionSize))
 
--- the position at which the re-render stops, in an output of n samples: today the end. It is named, with what it may
--- look at, so that a rule that stops earlier is said here alone
+-- the position at which the re-render stops, in an output of n samples: the end
 abbrev pub stopOf : Settings → List ℕ → List ℕ → ℕ → ℕ → ℕ
 stopOf g old new m n = n
 

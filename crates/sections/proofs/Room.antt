@@ -2,17 +2,13 @@
 use mathlib.Core.Path.{_≡_, refl}
 use mathlib.Core.Bool.{true}
 use lib.ListN.{length}
-use Rattle.judging.proofs.Refusals.{Roomy, roomy, fits-roomy}
-use Rattle.sections.specs.Outcome.{Buffers, samplesIn, roomIn}
+use Rattle.judging.proofs.Refusals.{roomy, fits-roomy}
+use Rattle.sections.specs.Outcome.{Buffers, samplesIn, roomIn, Lent}
 
--- what is true where the sizes fit: the samples are not too many, and shelf and summary have what so many need
-abbrev pub Room : Buffers → Type 0
-Room b = Roomy (samplesIn b) (length (b .stored)) (length (b .summary .magnitudes)) (length (b .summary .numbers))
-
-pub in-room : (b : Buffers) → roomIn b ≡ true → Room b
+pub in-room : (b : Buffers) → roomIn b ≡ true → Lent b
 in-room b f = roomy (samplesIn b) (length (b .stored)) (length (b .summary .magnitudes)) (length (b .summary .numbers)) f
 
-pub room-in : (b : Buffers) → Room b → roomIn b ≡ true
+pub room-in : (b : Buffers) → Lent b → roomIn b ≡ true
 room-in b r = fits-roomy (samplesIn b) (length (b .stored)) (length (b .summary .magnitudes)) (length (b .summary .numbers)) r
 
 -- buffers that hold the same are the same

@@ -6,7 +6,7 @@ use mathlib.Core.Logic.{⊎-elim}
 use Prim.Native.Nat.{ℕ, zero, suc, _+_, _-_, _*_, _<_, _≤_}
 use native.Mathlib.Nat.{zero-add}
 use native.Mathlib.Omega.{arith}
-use lib.ListN.{length, take, drop, set, take-append-drop, length-drop}
+use lib.ListN.{length, take, drop, set, take-append-drop, length-drop, length-append}
 use lib.Seq.{take-all, take-at, drop-at, drop-append-le, take-append-le, drop-drop, take-suc-set, length-take-le}
 use lib.Ieee.{Float}
 use Rattle.score.proofs.Cuts.{lt-or-ge}
@@ -64,11 +64,23 @@ module _ {A : Type 0} (f : ℕ → Peak → A) where
   unfolding saidFrom
   said-before xs ys m e = listed-same _ _ m (λ j l. ap (λ (zs : List Float). f (0 + j) (peakOf zs)) (section-before xs ys m (0 + j) e (omega arith)))
 
-  -- the sections before section m say what they said of any longer output that begins so
-  said-first : (xs : List Float) (m n : ℕ) → m ≤ n → take m (saidFrom f xs 0 n) ≡ saidFrom f xs 0 m
+  -- of n sections the first m, and the others
+  pub said-first : (xs : List Float) (m n : ℕ) → m ≤ n → take m (saidFrom f xs 0 n) ≡ saidFrom f xs 0 m
   said-first xs m n l =
       let e : m + (n - m) ≡ n = omega arith in
       ap (λ (k : ℕ). take m (saidFrom f xs 0 k)) (sym e) ∙ rw (said-on xs m (n - m)) (take-at (saidFrom f xs 0 m) (saidFrom f xs m (n - m)) m (said-length xs 0 m))
+
+  pub said-rest : (xs : List Float) (m n : ℕ) → m ≤ n → drop m (saidFrom f xs 0 n) ≡ saidFrom f xs m (n - m)
+  said-rest xs m n l =
+      let e : m + (n - m) ≡ n = omega arith in
+      ap (λ (k : ℕ). drop m (saidFrom f xs 0 k)) (sym e) ∙ rw (said-on xs m (n - m)) (drop-at (saidFrom f xs 0 m) (saidFrom f xs m (n - m)) m (said-length xs 0 m))
+
+  -- samples that are the same before section m say the same of the sections before it
+  pub said-shared : (xs ys : List Float) (m : ℕ) → m * sectionSize ≤ length xs → m * sectionSize ≤ length ys → take (m * sectionSize) xs ≡ take (m * sectionSize) ys → saidFrom f xs 0 m ≡ saidFrom f ys 0 m
+  said-shared xs ys m h k e = of-front xs h ∙ ap (λ (zs : List Float). saidFrom f zs 0 m) e ∙ sym (of-front ys k)
+    where
+      of-front : (zs : List Float) → m * sectionSize ≤ length zs → saidFrom f zs 0 m ≡ saidFrom f (take (m * sectionSize) zs) 0 m
+      of-front zs l = ap (λ (ws : List Float). saidFrom f ws 0 m) (sym (take-append-drop (m * sectionSize) zs)) ∙ said-before (take (m * sectionSize) zs) (drop (m * sectionSize) zs) m (sym (length-take-le (m * sectionSize) zs l))
 
   -- ys from section m on: what was said before section m stays right
   pub said-right : (out ys : List Float) (m n : ℕ) → m ≤ n → m * sectionSize ≤ length out
@@ -76,8 +88,8 @@ module _ {A : Type 0} (f : ℕ → Peak → A) where
   said-right out ys m n l h =
       let front = take (m * sectionSize) out in
       let e : m + (n - m) ≡ n = omega arith in
-      let long : m * sectionSize ≡ length front = sym (length-take-le (m * sectionSize) out h) in
-      let same : saidFrom f out 0 m ≡ saidFrom f (front ++ ys) 0 m = ap (λ (xs : List Float). saidFrom f xs 0 m) (sym (take-append-drop (m * sectionSize) out)) ∙ said-before front (drop (m * sectionSize) out) m long ∙ sym (said-before front ys m long) in
+      let long : length front ≡ m * sectionSize = length-take-le (m * sectionSize) out h in
+      let same : saidFrom f out 0 m ≡ saidFrom f (front ++ ys) 0 m = said-shared out (front ++ ys) m h (omega (arith, length-append front ys, long)) (sym (take-at front ys (m * sectionSize) long)) in
       rw (said-first out m n l, same) (sym (said-on (front ++ ys) m (n - m)) ∙ ap (saidFrom f (front ++ ys) 0) e)
 
   -- ---- a turn of the loop over the sections: section k has its say

@@ -24,10 +24,10 @@ use Rattle.peaks.specs.declared.Peak.{Peak}
 use Rattle.peaks.specs.Peaks.{peakOf}
 use Rattle.peaks.proofs.Bounds.{offset-below}
 use Rattle.judging.specs.Judging.{mostSamples}
-use Rattle.sections.specs.Outcome.{Buffers, lends, samplesIn, roomIn, leaves}
+use Rattle.sections.specs.Outcome.{Buffers, lends, samplesIn, roomIn, Lent, leaves}
 use Rattle.sections.specs.Summary.{sectionOf, largest, firstNumber, saidFrom}
 use Rattle.sections.specs.Sections.{keptFrom, upTo, played, playOnOf}
-use Rattle.sections.proofs.Room.{Room, in-room}
+use Rattle.sections.proofs.Room.{in-room}
 use Rattle.sections.proofs.Summed.{section-in, said-turn}
 use Rattle.sections.specs.Inner.{SectionEnd}
 
@@ -59,7 +59,7 @@ mid-put : {A : Type 0} (a k : ℕ) (xs ys : List A) → a ≤ length xs → leng
 mid-put a k xs ys h e = rw (drop-at (take a xs) (ys ++ drop k (drop a xs)) a (length-take-le a xs h)) (take-at ys (drop k (drop a xs)) k e)
 
 module _ (g : Settings) (s : List ℕ) (m : ℕ) (p : Place) (b : Buffers) (fits : roomIn b ≡ true) (there : m < entriesFor (samplesIn b)) where
-  room-is : Room b
+  room-is : Lent b
   room-is = in-room b fits
 
   -- the finished output

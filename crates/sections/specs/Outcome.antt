@@ -1,13 +1,14 @@
--- What a call is lent, and what it leaves: an output, its shelf and its summary. 02, R-3: "Keep, for each 4,096-sample
--- section, the largest magnitude and the number, from the output's start, of the first sample where it stands".
+-- What a call is lent, and what it leaves: an output, its shelf and its summary. 02, R-3: "7 also when the summary has
+-- not one entry a section".
 -- Used for the sections, a render and a re-render, and for those calls as C makes them; a continuing call is lent other
 -- buffers and has an outcome of its own. Definitions only.
 use mathlib.Core.Bool.{Bool}
 use mathlib.Core.List.{List}
-use Prim.Native.Nat.{ℕ}
-use lib.ListN.{length}
+use Prim.Native.Nat.{ℕ, _*_}
+use lib.ListN.{length, take, drop}
 use lib.Ieee.{Float}
-use Rattle.judging.specs.Judging.{sizesFit}
+use Rattle.judging.specs.Judging.{sizesFit, Roomy}
+use Rattle.shelf.specs.Shelf.{sectionSize, entryWords}
 
 -- a summary: for each section a magnitude and a sample's number
 pub record Summary : Type 0 where
@@ -27,9 +28,19 @@ lends out shelf magnitudes numbers = record { heard = out; stored = shelf; summa
 abbrev pub samplesIn : Buffers → ℕ
 samplesIn b = length (b .heard)
 
--- the samples are not too many, and shelf and summary have what so many samples need; else 7
+-- the samples are not too many, and shelf and summary have what so many samples need: as a test, and as a fact
 abbrev pub roomIn : Buffers → Bool
 roomIn b = sizesFit (samplesIn b) (length (b .stored)) (length (b .summary .magnitudes)) (length (b .summary .numbers))
+
+abbrev pub Lent : Buffers → Type 0
+Lent b = Roomy (samplesIn b) (length (b .stored)) (length (b .summary .magnitudes)) (length (b .summary .numbers))
+
+-- what lies before section m, and what lies from section m on: samples, words of entries, summary
+abbrev pub before : ℕ → Buffers → Buffers
+before m b = lends (take (m * sectionSize) (b .heard)) (take (m * entryWords) (b .stored)) (take m (b .summary .magnitudes)) (take m (b .summary .numbers))
+
+abbrev pub onward : ℕ → Buffers → Buffers
+onward m b = lends (drop (m * sectionSize) (b .heard)) (drop (m * entryWords) (b .stored)) (drop m (b .summary .magnitudes)) (drop m (b .summary .numbers))
 
 -- a call's result, and the buffers at its exit
 pub record Outcome (R : Type 0) : Type 0 where

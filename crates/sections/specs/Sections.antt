@@ -1,6 +1,7 @@
 -- From the start of a section to the end of the output: the entry of each section, then its samples, 4,096 or as many as
 -- are left, then their peak. 01, "The shelf": "Entry k holds the state before sample 4096k is begun, for every 4096k
--- below N, the output's length". 02, R-3: "Keep, for each 4,096-sample section, the largest magnitude and the number".
+-- below N, the output's length". 02, R-3: "Keep, for each 4,096-sample section, the largest magnitude and the number,
+-- from the output's start, of the first sample where it stands".
 -- The samples are a walk (crate `spans`) from a place at the first sample of any section. If shelf or summary do not
 -- have the size that the output needs, or the samples are too many, nothing is written. Definitions only.
 use mathlib.Core.Bool.{Bool, true, false}
@@ -24,7 +25,7 @@ keptFrom g s m p k = shelfOf (listed (λ (i : ℕ). placeFrom g s (m * sectionSi
 abbrev pub upTo : {A : Type 0} → ℕ → List A → List A → List A
 upTo a xs ys = take a xs ++ ys
 
--- a summary of which what is said of the sections before section m is as it came
+-- the new summary, after what came for the sections before section m
 abbrev pub summedUpTo : ℕ → Summary → Summary → Summary
 summedUpTo m came new = record { magnitudes = upTo m (came .magnitudes) (new .magnitudes); numbers = upTo m (came .numbers) (new .numbers) }
 

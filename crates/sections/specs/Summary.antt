@@ -1,7 +1,7 @@
 -- The summary of samples, section by section. 02, R-3: "Keep, for each 4,096-sample section, the largest magnitude and
--- the number, from the output's start, of the first sample where it stands; the last section may be short"; "it
--- afterwards equals a summary of the finished buffer worked out from nothing".
--- A section's peak is that of the crate `peaks`, which counts samples from the section's first. Definitions only.
+-- the number, from the output's start, of the first sample where it stands; the last section may be short".
+-- A section's peak is that of the crate `peaks`, which counts samples from the section's first. What a summary means in
+-- the samples' own numbers, without sections and peaks, is `Tells` of `demands`' specs/Peaks.antt. Definitions only.
 use mathlib.Core.List.{List}
 use Prim.Native.Nat.{ℕ, _+_, _*_}
 use lib.ListN.{length, take, drop}
@@ -27,10 +27,10 @@ firstNumber j p = j * sectionSize + p .offset
 unfoldable pub saidFrom : {A : Type 0} → (ℕ → Peak → A) → List Float → ℕ → ℕ → List A
 saidFrom f xs m k = listed (λ (j : ℕ). f (m + j) (peakOf (sectionOf xs (m + j)))) k
 
--- of those sections
+-- the summary of those sections
 abbrev pub summaryFrom : List Float → ℕ → ℕ → Summary
 summaryFrom xs m k = record { magnitudes = saidFrom largest xs m k; numbers = saidFrom firstNumber xs m k }
 
--- of all samples, worked out from nothing
+-- the summary of all samples, worked out from nothing
 abbrev pub summaryOf : List Float → Summary
 summaryOf xs = summaryFrom xs 0 (entriesFor (length xs))

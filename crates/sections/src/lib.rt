@@ -1,6 +1,7 @@
 // From the start of a section to the end of the output, section by section (01, "The shelf", and 02, R-3): the entry of
 // a section is kept, then its samples are played, then their peak is kept. A render starts at section 0, a re-render at
-// the section that holds the first changed position. Render and re-render do the judging.
+// the section that holds the first changed position. Render and re-render do the judging; here the sizes alone are
+// tested, so that nothing is asked of a caller.
 ghost use mathlib.Core.Path.{_≡_};
 ghost use mathlib.Core.Bool.{true};
 ghost use Prim.Native.Nat.{_+_, _-_, _*_, _≤_, _<_};
@@ -15,7 +16,8 @@ use spans::Place;
 use state::Settings;
 
 // Plays the samples from a section on, and keeps the entries and peaks from that section on. The first sample of
-// section k is 4096 k. If that is at or past the end, or the sizes do not fit, nothing is changed.
+// section k is 4096 k. If that sample is at or past the end, or the sizes do not fit, nothing is changed, and the place
+// is the one that was given.
 pub fn play_on(
     settings: Settings,
     score: &[u8],

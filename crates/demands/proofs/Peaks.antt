@@ -1,0 +1,249 @@
+-- The claim of specs/Peaks.antt: what a summary tells in the samples' own numbers, by the peaks of its sections; that it
+-- stays right, by the sections that stay and those that are worked out anew; that every sample made is finite. Assumes
+-- nothing.
+use mathlib.Core.Path.{_≡_, refl, sym, ap, subst, _∙_}
+use mathlib.Core.Bool.{true}
+use mathlib.Core.List.{List, _++_}
+use mathlib.Core.Logic.{⊎-elim}
+use Prim.Native.Nat.{ℕ, suc, _+_, _-_, _*_, _≤_, _<_}
+use native.Mathlib.Nat.{zero-add, eq-or-lt-of-le}
+use native.Mathlib.Omega.{arith}
+use lib.Dec.{T, eqb}
+use lib.ListN.{length, getD, take, drop, length-append, length-drop, List·getD-append}
+use lib.Seq.{take-all, length-take-le, getD-take, getD-drop, getD-append-add, ext-getD}
+use lib.Ieee.{Float, nan, binary64, fits, lt, le}
+use lib.Ieee.Bits.{ofBits-fits}
+use lib.Ieee.Scale.{finite}
+use Rattle.floats.proofs.Order.{lt-not-le}
+use Rattle.runs.proofs.Listed.{listed-at, listed-length}
+use Rattle.answers.specs.declared.Answer.{Answer}
+use Rattle.answers.specs.declared.Answer.the-variants.{Done, Refused}
+use Rattle.answers.specs.declared.Refusal.{Refusal}
+use Rattle.answers.proofs.Order.{first-holds}
+use Rattle.peaks.specs.declared.Peak.{Peak}
+use Rattle.peaks.specs.Peaks.{sampleAt, magnitudeAt, magnitudeOf, peakOf, IsPeak}
+use Rattle.peaks.proofs.Meaning.{peak-is}
+use Rattle.score.specs.declared.Verdict.the-variants.{Accepted}
+use Rattle.score.specs.Record.{countOf}
+use Rattle.score.specs.Score.{verdictOf}
+use Rattle.score.specs.Below.{countBelow}
+use Rattle.score.proofs.Codec.{both}
+use Rattle.score.proofs.Cuts.{lt-or-ge}
+use Rattle.shelf.specs.Shelf.{sectionSize, entriesFor, stateOf, isEntry}
+use Rattle.shelf.proofs.Back.{entry-is-state}
+use Rattle.sections.specs.Outcome.{Summary, Buffers, samplesIn, roomIn, Outcome}
+use Rattle.sections.specs.Summary.{sectionOf, largest, firstNumber, saidFrom, summaryFrom, summaryOf}
+use Rattle.sections.specs.Sections.{upTo}
+use Rattle.sections.proofs.Summed.{said-length, summed-right}
+use Rattle.state.specs.declared.Settings.{Settings}
+use Rattle.state.specs.declared.State.{State}
+use Rattle.state.specs.Settings.{settingsOk}
+use Rattle.state.specs.State.{freshOf, sampleOf}
+use Rattle.state.specs.Limits.{inLimits}
+use Rattle.state.specs.Heart.{begun, stateFrom, samplesFrom}
+use Rattle.state.proofs.Fits.{Fitting, fresh-fits}
+use Rattle.state.proofs.Limits.{fresh-in, state-in}
+use Rattle.state.proofs.RunsOn.{samples-length}
+use Rattle.state.proofs.Samples.{every-sample-finite}
+use Rattle.judging.proofs.Refusals.{all-passed}
+use Rattle.render.specs.Calls.{madeOf, renderOf}
+use Rattle.render.specs.declared.Rendered.{Rendered}
+use Rattle.render.proofs.Outcomes.{render-decided}
+use Rattle.rerender.specs.declared.Plan.{Plan}
+use Rattle.rerender.specs.declared.Plan.the-variants.{Nothing, From}
+use Rattle.rerender.specs.Rerender.{planOf, entryAt, startOf, isStart, madeFrom, outcomeOf, rerenderRefusals, keptOf, rerenderOf}
+use Rattle.rerender.proofs.Cases.{plan-there, heard, made-is, Checked, rerender-decided}
+use Rattle.demands.specs.Peaks.{AllFinite, InSection, TellsOf, Tells, IsRight, PeaksBesideTheSound}
+use Rattle.demands.proofs.Alone.{either-way, stays}
+
+-- ---- a section in the samples' own numbers
+module _ (xs : List Float) (j : ℕ) where
+  abbrev part : List Float
+  part = sectionOf xs j
+
+  abbrev start : ℕ
+  start = j * sectionSize
+
+  -- sample d of the section exists exactly if it lies in the section and before the end
+  reach : (d : ℕ) → d < sectionSize → start + d < length xs → d < length part
+  reach d h l =
+      let e : length (drop start xs) ≡ length xs - start = length-drop start xs in
+      ⊎-elim
+      (λ s. rw (take-all sectionSize (drop start xs) (omega (arith, s)), e) (omega arith))
+      (λ w. omega (arith, h, length-take-le sectionSize (drop start xs) w))
+      (lt-or-ge (length (drop start xs)) sectionSize)
+
+  inside : (d : ℕ) → d < length part → (d < sectionSize) × (start + d < length xs)
+  inside d h =
+      let e : length (drop start xs) ≡ length xs - start = length-drop start xs in
+      ⊎-elim
+      (λ s. let l : d < length xs - start = rw (take-all sectionSize (drop start xs) (omega (arith, s)), e) at h in (omega (arith, s, e), omega arith))
+      (λ w. let l : length part ≡ sectionSize = length-take-le sectionSize (drop start xs) w in (omega (arith, l), omega (arith, l, w, e)))
+      (lt-or-ge (length (drop start xs)) sectionSize)
+
+  -- and it is that sample of all
+  sample-is : (d : ℕ) → d < length part → sampleAt part d ≡ sampleAt xs (start + d)
+  sample-is d h = getD-take sectionSize (drop start xs) d nan (inside d h .0) ∙ getD-drop start xs d nan
+
+  magnitude-is : (d : ℕ) → d < length part → magnitudeAt part d ≡ magnitudeAt xs (start + d)
+  magnitude-is d h = ap magnitudeOf (sample-is d h)
+
+  -- sample k, which lies in the section, is sample k - start of it
+  offset-in : (k : ℕ) → InSection xs j k → k - start < length part
+  offset-in k s = reach (k - start) (omega (arith, s .from, s .to)) (omega (arith, s .from, s .there))
+
+  magnitude-in : (k : ℕ) → InSection xs j k → magnitudeAt part (k - start) ≡ magnitudeAt xs k
+  magnitude-in k s = let e : start + (k - start) ≡ k = omega (arith, s .from) in magnitude-is (k - start) (offset-in k s) ∙ ap (magnitudeAt xs) e
+
+  -- a peak of the section tells of it
+  peak-tells : (p : Peak) → IsPeak part p → TellsOf xs j (p .magnitude) (start + p .offset)
+  peak-tells p q =
+      let w = inside (p .offset) (q .there) in
+      record {
+        there = record { from = omega arith; to = omega (arith, w .0); there = w .1 };
+        here = q .here ∙ magnitude-is (p .offset) (q .there);
+        largest = λ k s. subst (λ (x : Float). T (le x (p .magnitude))) (magnitude-in k s) (q .largest (k - start) (offset-in k s));
+        first = λ k s l. subst (λ (x : Float). T (lt x (p .magnitude))) (magnitude-in k s) (q .first (k - start) (omega (arith, s .from, l)));
+      }
+
+  tells-here : AllFinite xs → j < entriesFor (length xs) → TellsOf xs j (peakOf part .magnitude) (start + peakOf part .offset)
+  tells-here all h =
+      peak-tells (peakOf part)
+      (peak-is part (λ i l. subst (λ (x : Float). T (finite x)) (sym (sample-is i l)) (all (start + i) (inside i l .1))) (reach 0 (omega arith) (omega (arith, h))))
+
+  -- two that tell of the section say the same
+  later : (a b : Float) (i k : ℕ) → TellsOf xs j a i → TellsOf xs j b k → i < k → ⊥
+  later a b i k s t l =
+      lt-not-le (magnitudeAt xs i) b (t .first i (s .there) l)
+      (subst (λ (x : Float). T (le b x)) (s .here) (subst (λ (x : Float). T (le x a)) (sym (t .here)) (s .largest k (t .there))))
+
+  same-number : (a b : Float) (i k : ℕ) → TellsOf xs j a i → TellsOf xs j b k → i ≡ k
+  same-number a b i k s t = ⊎-elim (λ l. absurd (later a b i k s t l)) (λ g. ⊎-elim (λ e. sym e) (λ l. absurd (later b a k i t s l)) (eq-or-lt-of-le g)) (lt-or-ge i k)
+
+  same-magnitude : (a b : Float) (i k : ℕ) → TellsOf xs j a i → TellsOf xs j b k → a ≡ b
+  same-magnitude a b i k s t = s .here ∙ ap (magnitudeAt xs) (same-number a b i k s t) ∙ sym (t .here)
+
+-- ---- a whole summary
+said-at : {A : Type 0} (f : ℕ → Peak → A) (d : A) (xs : List Float) (k j : ℕ) → j < k → getD (saidFrom f xs 0 k) j d ≡ f j (peakOf (sectionOf xs j))
+unfolding saidFrom
+said-at f d xs k j h = listed-at _ k j d h ∙ ap (λ (i : ℕ). f i (peakOf (sectionOf xs i))) (zero-add j)
+
+tells : (xs : List Float) → AllFinite xs → Tells xs (summaryOf xs)
+tells xs all =
+    let k = entriesFor (length xs) in
+    record {
+      magnitudes-long = said-length largest xs 0 k;
+      numbers-long = said-length firstNumber xs 0 k;
+      each = λ j h. rw (said-at largest nan xs k j h, said-at firstNumber 0 xs k j h) (tells-here xs j all h);
+    }
+
+tells-alone : (xs : List Float) (sum : Summary) → AllFinite xs → Tells xs sum → sum ≡ summaryOf xs
+tells-alone xs sum all t =
+    let u = tells xs all in
+    let a : sum .magnitudes ≡ summaryOf xs .magnitudes =
+    ext-getD nan (sum .magnitudes) (summaryOf xs .magnitudes) (t .magnitudes-long ∙ sym (u .magnitudes-long)) (λ j h. let l : j < entriesFor (length xs) = omega (arith, h, t .magnitudes-long) in same-magnitude xs j _ _ _ _ (t .each j l) (u .each j l)) in
+    let b : sum .numbers ≡ summaryOf xs .numbers =
+    ext-getD 0 (sum .numbers) (summaryOf xs .numbers) (t .numbers-long ∙ sym (u .numbers-long)) (λ j h. let l : j < entriesFor (length xs) = omega (arith, h, t .numbers-long) in same-number xs j _ _ _ _ (t .each j l) (u .each j l)) in
+    rw (a, b) refl
+
+-- ---- what a call leaves is right
+render-right : (g : Settings) (s : List ℕ) (b : Buffers) (k : ℕ) → renderOf g s b .result .answer ≡ Done k → IsRight (renderOf g s b .left)
+render-right g s b k e = subst (λ (o : Outcome Rendered). IsRight (o .left)) (sym (render-decided g s b .makes k e)) refl
+
+-- where the plan is nothing, or the call is refused, nothing is touched
+untouched-whole : (g : Settings) (old new : List ℕ) (b : Buffers) → planOf old new (samplesIn b) ≡ Nothing → rerenderOf g old new b .left ≡ b
+unfolding rerenderOf
+untouched-whole g old new b q =
+    first-holds (λ (o : Outcome Answer). o .left ≡ b) (rerenderRefusals g old new b) (keptOf b) (outcomeOf g old new (planOf old new (samplesIn b)) b) (λ why l. refl) (λ none. rw q refl)
+
+untouched-refused : (g : Settings) (old new : List ℕ) (b : Buffers) (why : Refusal) → rerenderOf g old new b .result ≡ Refused why → rerenderOf g old new b .left ≡ b
+untouched-refused g old new b why e = ap (λ (o : Outcome Answer). o .left) (rerender-decided g old new b .keeps why e)
+
+-- what holds of the buffers that came and of those that are made from a section's entry holds of those that are left
+module _ (g : Settings) (old new : List ℕ) (b : Buffers) (P : Buffers → Type 0) (came : P b) (made : (m : ℕ) → m < entriesFor (samplesIn b) → isStart new m (b .stored) ≡ true → Checked g old new (roomIn b) → P (madeFrom g old new m b .left)) where
+  left-holds : P (rerenderOf g old new b .left)
+  left-holds = go (planOf old new (samplesIn b)) refl
+    where
+      go : (q : Plan) → planOf old new (samplesIn b) ≡ q → P (rerenderOf g old new b .left)
+      go Nothing e = subst P (sym (untouched-whole g old new b e)) came
+      go (From m) e = either-way g old new b m e (λ (o : Outcome Answer). P (o .left)) (λ why. came) (made m (plan-there old new (samplesIn b) m e))
+
+heard-long : (g : Settings) (old new : List ℕ) (m : ℕ) (b : Buffers) → m < entriesFor (samplesIn b) → length (heard g old new m b) ≡ samplesIn b
+heard-long g old new m b h =
+    let n = samplesIn b in
+    length-append (take (m * sectionSize) (b .heard)) (samplesFrom g new (m * sectionSize) (startOf (b .stored) m) (n - m * sectionSize))
+    ∙ omega (arith, h, length-take-le (m * sectionSize) (b .heard) (omega (arith, h)), samples-length g new (m * sectionSize) (startOf (b .stored) m) (n - m * sectionSize))
+
+stays-right : (g : Settings) (old new : List ℕ) (b : Buffers) → IsRight b → IsRight (rerenderOf g old new b .left)
+stays-right g old new b right = left-holds g old new b IsRight right made
+  where
+    made : (m : ℕ) → m < entriesFor (samplesIn b) → isStart new m (b .stored) ≡ true → Checked g old new (roomIn b) → IsRight (madeFrom g old new m b .left)
+    made m h i c =
+        let n = samplesIn b in
+        let xs = samplesFrom g new (m * sectionSize) (startOf (b .stored) m) (n - m * sectionSize) in
+        subst (λ (o : Outcome Answer). IsRight (o .left)) (sym (made-is g old new m b (c .fits)))
+        (rw right (summed-right (b .heard) xs m (entriesFor n) (omega (arith, h)) (omega (arith, h))) ∙ ap (λ (k : ℕ). summaryFrom (heard g old new m b) 0 (entriesFor k)) (sym (heard-long g old new m b h)))
+
+-- ---- every sample made is finite
+sample-from : (g : Settings) (s : List ℕ) (n : ℕ) (v : State) (k i : ℕ) → i < k → sampleAt (samplesFrom g s n v k) i ≡ sampleOf g (begun g s (n + i) (stateFrom g s n v i))
+unfolding samplesFrom stateFrom
+sample-from g s n v k i h = listed-at _ k i nan h
+
+samples-finite : (g : Settings) → settingsOk g ≡ true → T (fits binary64 (g .adsr .sustain)) → (s : List ℕ) (m : ℕ) → verdictOf s ≡ Accepted m → (n : ℕ) (v : State) → Fitting v → inLimits v ≡ true → (k : ℕ) → AllFinite (samplesFrom g s n v k)
+samples-finite g ok w s m a n v f l k i h =
+    let j : i < k = omega (arith, h, samples-length g s n v k) in
+    subst (λ (x : Float). T (finite x)) (sym (sample-from g s n v k i j)) (every-sample-finite s m a n g ok w v f l i)
+
+render-finite : (g : Settings) → T (fits binary64 (g .adsr .sustain)) → (s : List ℕ) (b : Buffers) (k : ℕ) → renderOf g s b .result .answer ≡ Done k → AllFinite (renderOf g s b .left .heard)
+render-finite g w s b k e =
+    let d = render-decided g s b in
+    let a = all-passed g (roomIn b) s (d .done k e) in
+    subst (λ (o : Outcome Rendered). AllFinite (o .left .heard)) (sym (d .makes k e)) (samples-finite g (a .settings) w s (countOf s) (a .accepted) 0 (freshOf 0) (fresh-fits 0) (fresh-in 0) (samplesIn b))
+
+-- the floats of a state that is read from words are values of an f64
+read-fits : (ws : List ℕ) → Fitting (stateOf ws)
+unfolding stateOf
+read-fits ws =
+    let f : (b : ℕ) → T (fits binary64 _) = ofBits-fits binary64 in
+    record { phase-fits = f _; frequency-fits = f _; velocity-fits = f _; envelope-held = record { level-fits = f _; release-fits = f _; time-fits = f _ }; lfo-fits = f _ }
+
+-- samples before an index, and others after them
+upTo-finite : (k : ℕ) (xs ys : List Float) → k ≤ length xs → AllFinite xs → AllFinite ys → AllFinite (upTo k xs ys)
+upTo-finite k xs ys h a b i l =
+    let e : length (take k xs) ≡ k = length-take-le k xs h in
+    ⊎-elim
+    (λ u. subst (λ (x : Float). T (finite x)) (sym (List·getD-append (take k xs) ys nan i (omega (arith, e)) ∙ getD-take k xs i nan u)) (a i (omega arith)))
+    (λ u. let d : length (take k xs) + (i - k) ≡ i = omega (arith, e) in
+    subst (λ (x : Float). T (finite x)) (sym (ap (sampleAt (upTo k xs ys)) (sym d) ∙ getD-append-add (take k xs) ys (i - k) nan)) (b (i - k) (omega (arith, e, l, length-append (take k xs) ys))))
+    (lt-or-ge i k)
+
+stays-finite : (g : Settings) → T (fits binary64 (g .adsr .sustain)) → (old new : List ℕ) (b : Buffers) → AllFinite (b .heard) → AllFinite (rerenderOf g old new b .left .heard)
+stays-finite g w old new b all = left-holds g old new b (λ (c : Buffers). AllFinite (c .heard)) all made
+  where
+    made : (m : ℕ) → m < entriesFor (samplesIn b) → isStart new m (b .stored) ≡ true → Checked g old new (roomIn b) → AllFinite (madeFrom g old new m b .left .heard)
+    made m h i c =
+        let n = samplesIn b in
+        let v = startOf (b .stored) m in
+        let l : inLimits v ≡ true = state-in v (entry-is-state (entryAt (b .stored) m) (both (isEntry (entryAt (b .stored) m)) (eqb (v .acted) (countBelow new (m * sectionSize))) i .0)) in
+        subst (λ (o : Outcome Answer). AllFinite (o .left .heard)) (sym (made-is g old new m b (c .fits)))
+        (upTo-finite (m * sectionSize) (b .heard) (samplesFrom g new (m * sectionSize) v (n - m * sectionSize)) (omega (arith, h)) all
+        (samples-finite g (c .settings) w new (countOf new) (c .new-accepted) (m * sectionSize) v (read-fits (entryAt (b .stored) m)) l (n - m * sectionSize)))
+
+-- ---- so what was told of finite samples is told of the finished output
+stays-told : (g : Settings) → T (fits binary64 (g .adsr .sustain)) → (old new : List ℕ) (b : Buffers) → AllFinite (b .heard) → Tells (b .heard) (b .summary) → Tells (rerenderOf g old new b .left .heard) (rerenderOf g old new b .left .summary)
+stays-told g w old new b all t = rw (stays-right g old new b (tells-alone (b .heard) (b .summary) all t)) (tells (rerenderOf g old new b .left .heard) (stays-finite g w old new b all))
+
+pub peaks-beside-the-sound : PeaksBesideTheSound
+peaks-beside-the-sound =
+    record {
+      tells = tells;
+      tells-alone = tells-alone;
+      render-right = render-right;
+      stays-right = stays-right;
+      render-finite = render-finite;
+      stays-finite = stays-finite;
+      stays-told = stays-told;
+      untouched = stays;
+      untouched-whole = untouched-whole;
+      untouched-refused = untouched-refused;
+    }

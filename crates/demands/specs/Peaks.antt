@@ -1,0 +1,73 @@
+-- Peaks beside the sound, as a claim.
+-- 02, R-3: "Keep, for each 4,096-sample section, the largest magnitude and the number, from the output's start, of the
+-- first sample where it stands; the last section may be short. A re-render brings the summary up to date and touches
+-- only sections from its start entry on. If it was right for the buffer as that came, all finite, it afterwards equals a
+-- summary of the finished buffer worked out from nothing."
+-- What a summary tells is said here in the samples' own numbers, without sections cut out of a list and without a
+-- running peak (`Tells`): of finite samples the summary that is worked out from nothing tells this, and no other does.
+-- That a summary stays right needs no finite sample; that it then tells the largest does, and every sample that a call
+-- makes is finite. Demand 3 over the summary is in specs/Demand3.antt. The argument is in proofs/Peaks.antt.
+-- Definitions only.
+use mathlib.Core.Path.{_≡_}
+use mathlib.Core.List.{List}
+use Prim.Native.Nat.{ℕ, suc, _*_, _≤_, _<_}
+use lib.Dec.{T}
+use lib.ListN.{length, getD}
+use lib.Ieee.{Float, nan, binary64, fits, lt, le}
+use lib.Ieee.Scale.{finite}
+use Rattle.answers.specs.declared.Answer.the-variants.{Done, Refused}
+use Rattle.answers.specs.declared.Refusal.{Refusal}
+use Rattle.peaks.specs.Peaks.{sampleAt, magnitudeAt}
+use Rattle.shelf.specs.Shelf.{sectionSize, entriesFor}
+use Rattle.sections.specs.Outcome.{Summary, Buffers, samplesIn, before}
+use Rattle.sections.specs.Summary.{summaryOf}
+use Rattle.state.specs.declared.Settings.{Settings}
+use Rattle.render.specs.Calls.{renderOf}
+use Rattle.rerender.specs.declared.Plan.the-variants.{Nothing, From}
+use Rattle.rerender.specs.Rerender.{planOf, rerenderOf}
+
+-- ---- what a summary tells of the samples xs
+abbrev pub AllFinite : List Float → Type 0
+AllFinite xs = (i : ℕ) → i < length xs → T (finite (sampleAt xs i))
+
+-- sample i lies in section j
+pub record InSection (xs : List Float) (j i : ℕ) : Type 0 where
+  pub from : j * sectionSize ≤ i
+  pub to : i < suc j * sectionSize
+  pub there : i < length xs
+
+-- of section j: a is the largest magnitude, and sample i the first that has it
+pub record TellsOf (xs : List Float) (j : ℕ) (a : Float) (i : ℕ) : Type 0 where
+  pub there : InSection xs j i
+  pub here : a ≡ magnitudeAt xs i
+  pub largest : (k : ℕ) → InSection xs j k → T (le (magnitudeAt xs k) a)
+  pub first : (k : ℕ) → InSection xs j k → k < i → T (lt (magnitudeAt xs k) a)
+
+-- of every section
+pub record Tells (xs : List Float) (sum : Summary) : Type 0 where
+  pub magnitudes-long : length (sum .magnitudes) ≡ entriesFor (length xs)
+  pub numbers-long : length (sum .numbers) ≡ entriesFor (length xs)
+  pub each : (j : ℕ) → j < entriesFor (length xs) → TellsOf xs j (getD (sum .magnitudes) j nan) (getD (sum .numbers) j 0)
+
+-- right for these buffers: what is worked out from nothing
+abbrev pub IsRight : Buffers → Type 0
+IsRight b = b .summary ≡ summaryOf (b .heard)
+
+-- ---- the claim
+pub record PeaksBesideTheSound : Type 0 where
+  -- the summary worked out from nothing tells this of finite samples, and no other summary tells it of any samples
+  pub tells : (xs : List Float) → AllFinite xs → Tells xs (summaryOf xs)
+  pub tells-alone : (xs : List Float) (sum : Summary) → AllFinite xs → Tells xs sum → sum ≡ summaryOf xs
+  -- a render that is done leaves a right summary, and a re-render, whatever its answer, one that is right if it came so
+  pub render-right : (g : Settings) (s : List ℕ) (b : Buffers) (k : ℕ) → renderOf g s b .result .answer ≡ Done k → IsRight (renderOf g s b .left)
+  pub stays-right : (g : Settings) (old new : List ℕ) (b : Buffers) → IsRight b → IsRight (rerenderOf g old new b .left)
+  -- every sample that a call makes is finite; the sustain is a value of an f64, as every f64 of the code is
+  pub render-finite : (g : Settings) → T (fits binary64 (g .adsr .sustain)) → (s : List ℕ) (b : Buffers) (k : ℕ) → renderOf g s b .result .answer ≡ Done k → AllFinite (renderOf g s b .left .heard)
+  pub stays-finite : (g : Settings) → T (fits binary64 (g .adsr .sustain)) → (old new : List ℕ) (b : Buffers) → AllFinite (b .heard) → AllFinite (rerenderOf g old new b .left .heard)
+  -- so a summary that told the truth of finite samples tells it of the finished output, whatever the answer
+  pub stays-told : (g : Settings) → T (fits binary64 (g .adsr .sustain)) → (old new : List ℕ) (b : Buffers) → AllFinite (b .heard) → Tells (b .heard) (b .summary) → Tells (rerenderOf g old new b .left .heard) (rerenderOf g old new b .left .summary)
+  -- what lies before the start is not touched, whatever the answer; nothing is, where the plan is nothing or the call is
+  -- refused
+  pub untouched : (g : Settings) (old new : List ℕ) (b : Buffers) (m : ℕ) → planOf old new (samplesIn b) ≡ From m → before m (rerenderOf g old new b .left) ≡ before m b
+  pub untouched-whole : (g : Settings) (old new : List ℕ) (b : Buffers) → planOf old new (samplesIn b) ≡ Nothing → rerenderOf g old new b .left ≡ b
+  pub untouched-refused : (g : Settings) (old new : List ℕ) (b : Buffers) (why : Refusal) → rerenderOf g old new b .result ≡ Refused why → rerenderOf g old new b .left ≡ b
