@@ -98,6 +98,10 @@ chain-passed g x (y ∷ ys) v p d =
     let l : p + length (x .part) + samplesOf (y ∷ ys) ≤ mostSamples = q .in-time in
     record { settings = q .settings; in-time = omega arith; accepted = q .accepted }
 
+-- so together the parts are not too long
+pub chain-short : (g : Settings) (x : Step) (xs : List Step) → AllDone g (freshOf 0) 0 (x ∷ xs) → samplesOf (x ∷ xs) ≤ mostSamples
+chain-short g x xs d = rw zero-add at (chain-passed g x xs (freshOf 0) 0 d .in-time)
+
 -- a render into an output of that length, with a shelf and a summary that fit, is done
 render-is : (g : Settings) (s : List ℕ) (n : ℕ) → PassedChain g s n → (b : Buffers) → Lent b → samplesIn b ≡ n → renderOf g s b ≡ madeOf g s n
 unfolding renderOf

@@ -43,7 +43,7 @@ played-in-words = wordsChain square rubbish (played 100)
 
 pub record OnTimeInWords : Type 0 where
   pub zeros : AllZero (played-in-words .result)
-  pub one-render : OneFfiRender square (played 100) (replicate 128 half) (replicate entryWords 0) played-in-words
+  pub one-render : OneFfiRender square (played 100) room played-in-words
 
 sustain-fits : T (fits binary64 (trembling .adsr .sustain))
 sustain-fits = ofBits-fits binary64 0x3fe0_0000_0000_0000
@@ -51,23 +51,27 @@ sustain-fits = ofBits-fits binary64 0x3fe0_0000_0000_0000
 all-zero : AllZero (played-in-words .result)
 all-zero = desk-chain-done square sustain-fits rubbish refl trembling known trembling-ok (played 100) (on-time .accepted) (on-time .growing) (omega arith) .zero-if (on-time .none-below)
 
+-- the buffers of `on-time`, of 128 samples
+fit : Lent room
+fit = record { short = omega arith; fits = refl; magnitudes-fit = refl; numbers-fit = refl }
+
 pub on-time-in-words : OnTimeInWords
 on-time-in-words =
-    record { zeros = all-zero; one-render = desk-chain square sustain-fits rubbish refl _ _ (on-time .growing) all-zero (replicate 128 half) (replicate entryWords 0) refl refl }
+    record { zeros = all-zero; one-render = desk-chain square sustain-fits rubbish refl _ _ (on-time .growing) all-zero room fit refl }
 
 -- ---- an off added, and taken away again
 abbrev pub edited-in-words : Outcome (List ℕ)
-edited-in-words = wordsEdits square begins ((begins ++ endsAt 100) ∷ begins ∷ []) (replicate 128 half) (replicate entryWords 0)
+edited-in-words = wordsEdits square begins ((begins ++ endsAt 100) ∷ begins ∷ []) room
 
 pub record EditedInWords : Type 0 where
   pub zeros : AllZero (edited-in-words .result)
-  pub last-render : LastFfiRender square begins ((begins ++ endsAt 100) ∷ begins ∷ []) 128 (replicate 128 half) (replicate entryWords 0) edited-in-words
+  pub last-render : LastFfiRender square begins ((begins ++ endsAt 100) ∷ begins ∷ []) 128 room edited-in-words
 
 edits-zero : AllZero (edited-in-words .result)
 edits-zero =
     let one : Taken begins = record { records = 1; accepted = begins-accepted } in
     let two : Taken (begins ++ endsAt 100) = record { records = on-time .accepted .1 .0 .0; accepted = on-time .accepted .1 .0 .1 } in
-    desk-edits-done square sustain-fits begins _ _ _ trembling known trembling-ok (record { short = omega arith; fits = refl }) one (two, (one, tt))
+    desk-edits-done square sustain-fits begins _ _ trembling known trembling-ok fit one (two, (one, tt))
 
 pub edits-in-words : EditedInWords
-edits-in-words = record { zeros = edits-zero; last-render = desk-edits square sustain-fits begins _ _ _ edits-zero (replicate 128 half) (replicate entryWords 0) refl refl }
+edits-in-words = record { zeros = edits-zero; last-render = desk-edits square sustain-fits begins _ _ edits-zero (record { buffers = room; lent = fit; long = refl }) }

@@ -9,20 +9,20 @@ use borrow.Author.Tests.{eq-eqb}
 use lib.Dec.{T}
 use lib.ListN.{length, replicate, length-replicate}
 use lib.Ieee.{Float, binary64, fits}
-use Rattle.sections.specs.Outcome.{Outcome}
+use Rattle.floats.specs.Double.{zero64}
+use Rattle.sections.specs.Outcome.{Buffers, lends, samplesIn, Lent, Outcome}
 use Rattle.answers.specs.declared.Answer.the-variants.{Done}
 use Rattle.answers.specs.declared.Refusal.the-variants.{Setting}
-use Rattle.shelf.specs.Shelf.{entryWords, wordsFor, entryOf}
+use Rattle.shelf.specs.Shelf.{entryWords, entriesFor, wordsFor, entryOf}
 use Rattle.score.specs.Record.{countOf}
 use Rattle.state.specs.declared.Settings.{Settings}
 use Rattle.state.specs.Settings.{settingsOk}
 use Rattle.state.specs.State.{freshOf}
 use Rattle.judging.specs.Judging.{mostSamples}
-use Rattle.judging.proofs.Refusals.{roomy}
 use Rattle.render.specs.Calls.{renderOf}
 use Rattle.demands.specs.Chain.{Step, samplesOf, lastOf, doneAll, Grows, AllAccepted}
 use Rattle.demands.proofs.Honest.{render-passed}
-use Rattle.demands.proofs.Chain.{chain, chain-done}
+use Rattle.demands.proofs.Chain.{chain-short, chain, chain-done}
 use Rattle.ffi.specs.declared.Asked.{Asked}
 use Rattle.ffi.specs.declared.Choice.{Choice}
 use Rattle.ffi.specs.declared.Choice.the-variants.{Known}
@@ -56,8 +56,8 @@ module _ (a : Asked) (sus : T (fits binary64 (a .sustain))) (room : List ℕ) (t
   settings-known x xs z = is-known a (λ e. refused-not-zero Setting (rw e at (z .0)))
 
   pub desk-chain : (x : Step) (xs : List Step) → Grows [] (x ∷ xs) → AllZero (calls (x ∷ xs) .result)
-      → (out : List Float) (shelf : List ℕ) → length out ≡ samplesOf (x ∷ xs) → length shelf ≡ wordsFor (length out) → OneFfiRender a (x ∷ xs) out shelf (calls (x ∷ xs))
-  desk-chain x xs grow z out shelf e l =
+      → (b : Buffers) → Lent b → samplesIn b ≡ samplesOf (x ∷ xs) → OneFfiRender a (x ∷ xs) b (calls (x ∷ xs))
+  desk-chain x xs grow z b l e =
       let q = settings-known x xs z in
       let g = q .settings in
       let is = q .known in
@@ -65,13 +65,13 @@ module _ (a : Asked) (sus : T (fits binary64 (a .sustain))) (room : List ℕ) (t
       let h = invariant-fresh a g is fit in
       let d = zero-all a g is fit (x ∷ xs) [] 0 (freshOf 0) h grow (subst (λ (o : Continued (List ℕ)). AllZero (o .result)) (from-fresh (x ∷ xs)) z) in
       let t = tells a g is fit (x ∷ xs) [] 0 (freshOf 0) h grow d in
-      let c = chain g x xs grow d out shelf e l in
-      let r = ap (λ (c : Choice). renderFor c (lastOf [] (x ∷ xs)) out shelf) is in
-      subst (OneFfiRender a (x ∷ xs) out shelf) (sym (from-fresh (x ∷ xs)))
+      let c = chain g x xs grow d b l e in
+      let r = ap (λ (c : Choice). renderFor c (lastOf [] (x ∷ xs)) b) is in
+      subst (OneFfiRender a (x ∷ xs) b) (sym (from-fresh (x ∷ xs)))
       (record {
         result = t .result;
         done = ap (λ (o : Outcome ℕ). o .result) r ∙ ap packedOf (c .done);
-        heard = t .heard ∙ c .heard ∙ sym (ap (λ (o : Outcome ℕ). o .heard) r);
+        heard = t .heard ∙ c .heard ∙ sym (ap (λ (o : Outcome ℕ). o .left .heard) r);
         words = rw is (t .words ∙ ap entryOf (c .state));
       })
 
@@ -95,17 +95,20 @@ module _ (a : Asked) (sus : T (fits binary64 (a .sustain))) (room : List ℕ) (t
       let q = settings-known x xs z in
       let g = q .settings in
       let n = length out in
-      let shelf : List ℕ = replicate (wordsFor n) 0 in
-      let fit : length shelf ≡ wordsFor n = length-replicate (wordsFor n) 0 in
-      let many = desk-chain x xs grow z out shelf e fit in
-      let said : packedOf (renderOf g s out shelf .result .answer) ≡ packedOf (Done (samplesOf (x ∷ xs))) = sym (ap (λ (c : Choice). renderFor c s out shelf .result) (q .known)) ∙ many .done in
-      let d = zero-done (renderOf g s out shelf .result .answer) (rw said (done-zero (samplesOf (x ∷ xs)))) in
-      let p = render-passed g s out shelf (d .0) (d .1) in
-      let short : n ≤ mostSamples = roomy n (length shelf) (p .sized) .short in
+      let own = sustain-fits a sus g (q .known) in
+      let done = zero-all a g (q .known) own (x ∷ xs) [] 0 (freshOf 0) (invariant-fresh a g (q .known) own) grow (subst (λ (o : Continued (List ℕ)). AllZero (o .result)) (from-fresh (x ∷ xs)) z) in
+      let short : n ≤ mostSamples = omega (arith, chain-short g x xs done, e) in
+      -- any buffers that fit
+      let b : Buffers = lends out (replicate (wordsFor n) 0) (replicate (entriesFor n) zero64) (replicate (entriesFor n) 0) in
+      let fit : Lent b = record { short = short; fits = length-replicate (wordsFor n) 0; magnitudes-fit = length-replicate (entriesFor n) zero64; numbers-fit = length-replicate (entriesFor n) 0 } in
+      let many = desk-chain x xs grow z b fit e in
+      let said : packedOf (renderOf g s b .result .answer) ≡ packedOf (Done (samplesOf (x ∷ xs))) = sym (ap (λ (c : Choice). renderFor c s b .result) (q .known)) ∙ many .done in
+      let d = zero-done (renderOf g s b .result .answer) (rw said (done-zero (samplesOf (x ∷ xs)))) in
+      let p = render-passed g s b (d .0) (d .1) in
       let whole : Step = record { score = s; part = out } in
       let grows : Grows [] (whole ∷ []) = (record { added = s; grown = refl }, tt) in
       let zeros = desk-chain-done g (q .known) (p .settings) (whole ∷ []) ((countOf s, p .accepted), tt) grows (omega arith) .zero-if ((λ i a b. omega arith), tt) in
-      many .words ∙ sym (desk-chain whole [] grows zeros out shelf (omega arith) fit .words)
+      many .words ∙ sym (desk-chain whole [] grows zeros b fit (omega arith) .words)
 
 -- ---- the claim
 pub words-parts-are-one : WordsPartsAreOne

@@ -3,24 +3,23 @@
 use mathlib.Core.Path.{_≡_, sym, ap, _∙_}
 use mathlib.Core.Bool.{true}
 use mathlib.Core.List.{List}
-use Prim.Native.Nat.{ℕ, _*_, _/_, _<_}
+use Prim.Native.Nat.{ℕ, _/_, _<_}
 use lib.Dec.{T}
-use lib.ListN.{length, drop}
-use lib.Ieee.{Float, binary64, fits}
-use Rattle.sections.specs.Outcome.{leaves}
+use lib.Ieee.{binary64, fits}
+use Rattle.sections.specs.Outcome.{Buffers, samplesIn, Lent, onward, leaves}
+use Rattle.sections.proofs.Room.{in-room}
 use Rattle.answers.specs.declared.Answer.the-variants.{Done}
 use Rattle.answers.specs.declared.Refusal.the-variants.{Setting}
 use Rattle.answers.specs.Numbers.{numbersOf}
 use Rattle.score.specs.declared.Difference.the-variants.{At}
 use Rattle.score.specs.Record.{countOf}
 use Rattle.score.specs.Apart.{differenceOf}
-use Rattle.shelf.specs.Shelf.{sectionSize, entryWords}
+use Rattle.shelf.specs.Shelf.{sectionSize}
 use Rattle.state.specs.declared.Settings.{Settings}
 use Rattle.state.specs.Settings.{settingsOk}
-use Rattle.judging.proofs.Refusals.{roomy}
 use Rattle.render.specs.Calls.{renderOf}
 use Rattle.rerender.specs.Rerender.{entryAt, rerenderOf}
-use Rattle.demands.specs.Demand3.{Taken, Edit, Lent, Buffers, leftIn, FromSection}
+use Rattle.demands.specs.Demand3.{Taken, Edit, BuffersOf, leftIn, FromSection}
 use Rattle.demands.proofs.Honest.{render-passed}
 use Rattle.demands.proofs.Demand3.{demand-3-holds}
 use Rattle.ffi.specs.declared.Asked.{Asked}
@@ -34,71 +33,59 @@ use Rattle.ffi_demands.proofs.Zero.{refused-not-zero, zero-done}
 use Rattle.ffi_demands.proofs.Codes.{is-known, sustain-fits}
 
 -- ---- what is true of a gav_render whose number is 0
-pub record Good (a : Asked) (s : List ℕ) (out : List Float) (shelf : List ℕ) : Type 0 where
+pub record Good (a : Asked) (s : List ℕ) (b : Buffers) : Type 0 where
   pub settings : Settings
   pub known : choiceOf a ≡ Known settings
   pub in-domain : settingsOk settings ≡ true
   pub taken : Taken s
-  pub lent : Lent out shelf
+  pub lent : Lent b
 
-pub zero-good : (a : Asked) (s : List ℕ) (out : List Float) (shelf : List ℕ) → Zero (renderFor (choiceOf a) s out shelf .result) → Good a s out shelf
-zero-good a s out shelf z =
+pub zero-good : (a : Asked) (s : List ℕ) (b : Buffers) → Zero (renderFor (choiceOf a) s b .result) → Good a s b
+zero-good a s b z =
     let q = is-known a (λ e. refused-not-zero Setting (rw e at z)) in
     let g = q .settings in
-    let y : Zero (packedOf (renderOf g s out shelf .result .answer)) = rw (q .known) at z in
-    let d = zero-done (renderOf g s out shelf .result .answer) y in
-    let p = render-passed g s out shelf (d .0) (d .1) in
-    let r = roomy (length out) (length shelf) (p .sized) in
-    record { settings = g; known = q .known; in-domain = p .settings; taken = record { records = countOf s; accepted = p .accepted }; lent = record { short = r .short; fits = r .fits } }
+    let y : Zero (packedOf (renderOf g s b .result .answer)) = rw (q .known) at z in
+    let d = zero-done (renderOf g s b .result .answer) y in
+    let p = render-passed g s b (d .0) (d .1) in
+    record { settings = g; known = q .known; in-domain = p .settings; taken = record { records = countOf s; accepted = p .accepted }; lent = in-room b (p .sized) }
 
 -- ---- a gav_render under known settings leaves what a render leaves
 module _ (a : Asked) (g : Settings) (is : choiceOf a ≡ Known g) (s : List ℕ) where
-  pub desk-heard : {n : ℕ} (b : Buffers n) → ffiLeft a s b .heard ≡ leftIn g s b .heard
-  desk-heard b = ap (λ (c : Choice). renderFor c s (b .out) (b .shelf) .heard) is
+  pub desk-left : {n : ℕ} (r : BuffersOf n) → ffiLeft a s r .left ≡ leftIn g s r .left
+  desk-left r = ap (λ (c : Choice). renderFor c s (r .buffers) .left) is
 
-  pub desk-stored : {n : ℕ} (b : Buffers n) → ffiLeft a s b .stored ≡ leftIn g s b .stored
-  desk-stored b = ap (λ (c : Choice). renderFor c s (b .out) (b .shelf) .stored) is
-
-  pub desk-from : (m : ℕ) (out : List Float) (shelf : List ℕ) (ys : List Float) (ws : List ℕ) → FromSection out shelf (leftIn g s) m ys ws → FromSection out shelf (ffiLeft a s) m ys ws
-  desk-from m out shelf ys ws f =
-      record {
-        samples-are = λ b. f .samples-are b ∙ sym (ap (drop (m * sectionSize)) (desk-heard b));
-        entries-are = λ b. f .entries-are b ∙ sym (ap (drop (m * entryWords)) (desk-stored b));
-        samples-stay = f .samples-stay;
-        entries-stay = f .entries-stay;
-      }
+  pub desk-from : (m : ℕ) (came left : Buffers) → FromSection came (leftIn g s) m left → FromSection came (ffiLeft a s) m left
+  desk-from m came left f = record { are-rendered = λ r. f .are-rendered r ∙ sym (ap (onward m) (desk-left r)); stay = f .stay }
 
 -- ---- the claim
-module _ (a : Asked) (sus : T (fits binary64 (a .sustain))) (old new : List ℕ) (t : Taken new) (out : List Float) (shelf : List ℕ) (z : Lent out shelf) where
-  edit : (b : Buffers (length out)) (q : Good a old (b .out) (b .shelf)) → Edit (q .settings) old new
-  edit b q = record { settings = q .in-domain; sustain-fits = sustain-fits a sus (q .settings) (q .known); old-taken = q .taken; new-taken = t }
+module _ (a : Asked) (sus : T (fits binary64 (a .sustain))) (old new : List ℕ) (t : Taken new) (b : Buffers) (z : Lent b) where
+  edit : (r : BuffersOf (samplesIn b)) (q : Good a old (r .buffers)) → Edit (q .settings) old new
+  edit r q = record { settings = q .in-domain; sustain-fits = sustain-fits a sus (q .settings) (q .known); old-taken = q .taken; new-taken = t }
 
-  in-words : (g : Settings) → choiceOf a ≡ Known g → rerenderFor (choiceOf a) old new out shelf ≡ rerendered (rerenderOf g old new out shelf)
-  in-words g is = ap (λ (c : Choice). rerenderFor c old new out shelf) is
+  in-words : (g : Settings) → choiceOf a ≡ Known g → rerenderFor (choiceOf a) old new b ≡ rerendered (rerenderOf g old new b)
+  in-words g is = ap (λ (c : Choice). rerenderFor c old new b) is
 
-  remade : (p : ℕ) → differenceOf old new ≡ At p → p < length out → (b : Buffers (length out)) → Zero (ffiLeft a old b .result) → entryAt shelf (p / sectionSize) ≡ entryAt (ffiLeft a old b .stored) (p / sectionSize)
-      → FfiRemade a new (p / sectionSize) out shelf (rerenderFor (choiceOf a) old new out shelf)
-  remade p e heard b zero left =
-      let q = zero-good a old (b .out) (b .shelf) zero in
+  remade : (p : ℕ) → differenceOf old new ≡ At p → p < samplesIn b → (r : BuffersOf (samplesIn b)) → Zero (ffiLeft a old r .result) → entryAt (b .stored) (p / sectionSize) ≡ entryAt (ffiLeft a old r .left .stored) (p / sectionSize)
+      → FfiRemade a new (p / sectionSize) b (rerenderFor (choiceOf a) old new b)
+  remade p e heard r zero left =
+      let q = zero-good a old (r .buffers) zero in
       let g = q .settings in
       let m = p / sectionSize in
-      let d = demand-3-holds .re-rendered g old new (edit b q) out shelf z p e heard b (left ∙ ap (λ (ws : List ℕ). entryAt ws m) (desk-stored a g (q .known) old b)) in
-      let r = rerenderOf g old new out shelf in
+      let d = demand-3-holds .re-rendered g old new (edit r q) b z p e heard r (left ∙ ap (λ (c : Buffers). entryAt (c .stored) m) (desk-left a g (q .known) old r)) in
       rw (in-words g (q .known))
       (record {
         counted = ap packedOf (d .counted);
-        reads = rerender-reads g old new out shelf ∙ ap numbersOf (d .counted);
-        left = desk-from a g (q .known) new m out shelf (r .heard) (r .stored) (d .left);
+        reads = rerender-reads g old new b ∙ ap numbersOf (d .counted);
+        left = desk-from a g (q .known) new m b (rerenderOf g old new b .left) (d .left);
       })
 
-  nothing : (b : Buffers (length out)) → Zero (ffiLeft a old b .result) → ((g : Settings) → Edit g old new → rerenderOf g old new out shelf ≡ leaves (Done 0) out shelf)
-      → rerenderFor (choiceOf a) old new out shelf ≡ leaves (packedOf (Done 0)) out shelf
-  nothing b zero f = let q = zero-good a old (b .out) (b .shelf) zero in in-words (q .settings) (q .known) ∙ ap rerendered (f (q .settings) (edit b q))
+  nothing : (r : BuffersOf (samplesIn b)) → Zero (ffiLeft a old r .result) → ((g : Settings) → Edit g old new → rerenderOf g old new b ≡ leaves (Done 0) b) → rerenderFor (choiceOf a) old new b ≡ leaves (packedOf (Done 0)) b
+  nothing r zero f = let q = zero-good a old (r .buffers) zero in in-words (q .settings) (q .known) ∙ ap rerendered (f (q .settings) (edit r q))
 
 pub words-demand-3 : WordsDemand3
 words-demand-3 =
     record {
       re-rendered = remade;
-      equal = λ a sus s out shelf z b zero. nothing a sus s s (zero-good a s (b .out) (b .shelf) zero .taken) out shelf z b zero (λ g x. demand-3-holds .equal g s x out shelf z);
-      late = λ a sus old new t out shelf z p e l b zero. nothing a sus old new t out shelf z b zero (λ g x. demand-3-holds .late g old new x out shelf z p e l);
+      equal = λ a sus s b z r zero. nothing a sus s s (zero-good a s (r .buffers) zero .taken) b z r zero (λ g x. demand-3-holds .equal g s x b z);
+      late = λ a sus old new t b z p e l r zero. nothing a sus old new t b z r zero (λ g x. demand-3-holds .late g old new x b z p e l);
     }

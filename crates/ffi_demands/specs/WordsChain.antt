@@ -11,8 +11,9 @@ use Prim.Native.Nat.{ℕ, _+_, _≤_}
 use lib.Dec.{T}
 use lib.ListN.{length}
 use lib.Ieee.{Float, binary64, fits}
+use Rattle.sections.specs.Outcome.{Buffers, samplesIn, Lent}
 use Rattle.answers.specs.declared.Answer.the-variants.{Done}
-use Rattle.shelf.specs.Shelf.{entryWords, wordsFor, entryOf}
+use Rattle.shelf.specs.Shelf.{entryWords, entryOf}
 use Rattle.state.specs.declared.Settings.{Settings}
 use Rattle.state.specs.Settings.{settingsOk}
 use Rattle.judging.specs.Judging.{mostSamples}
@@ -40,9 +41,9 @@ abbrev pub wordsChain : Asked → List ℕ → List Step → Continued (List ℕ
 wordsChain a room xs = wordsChainFrom a (freshFor room .left) 0 xs
 
 -- the words of a render's end state; none where the settings are unknown
-abbrev pub endWords : Choice → List ℕ → List Float → List ℕ → List ℕ
-endWords (Known g) s out shelf = entryOf (renderOf g s out shelf .result .state)
-endWords Unknown s out shelf = []
+abbrev pub endWords : Choice → List ℕ → Buffers → List ℕ
+endWords (Known g) s b = entryOf (renderOf g s b .result .state)
+endWords Unknown s b = []
 
 -- ---- what is asked of the answers: number 0 in every word
 abbrev pub AllZero : List ℕ → Type 0
@@ -52,11 +53,11 @@ AllZero (word ∷ rest) = (numbersIn word .number ≡ 0) × AllZero rest
 -- ---- what is promised
 -- each call's count is its part's length, and together the calls leave what one render of the last score leaves, which
 -- is done
-pub record OneFfiRender (a : Asked) (xs : List Step) (out : List Float) (shelf : List ℕ) (o : Continued (List ℕ)) : Type 0 where
+pub record OneFfiRender (a : Asked) (xs : List Step) (b : Buffers) (o : Continued (List ℕ)) : Type 0 where
   pub result : o .result ≡ map packedOf (doneAll xs)
-  pub done : renderFor (choiceOf a) (lastOf [] xs) out shelf .result ≡ packedOf (Done (samplesOf xs))
-  pub heard : o .heard ≡ renderFor (choiceOf a) (lastOf [] xs) out shelf .heard
-  pub words : o .words ≡ endWords (choiceOf a) (lastOf [] xs) out shelf
+  pub done : renderFor (choiceOf a) (lastOf [] xs) b .result ≡ packedOf (Done (samplesOf xs))
+  pub heard : o .heard ≡ renderFor (choiceOf a) (lastOf [] xs) b .left .heard
+  pub words : o .words ≡ endWords (choiceOf a) (lastOf [] xs) b
 
 -- every number is 0 exactly when no record was added below the position already reached
 pub record ZeroExactly (a : Asked) (room : List ℕ) (xs : List Step) : Type 0 where
@@ -68,7 +69,7 @@ pub record ZeroExactly (a : Asked) (room : List ℕ) (xs : List Step) : Type 0 w
 pub record WordsPartsAreOne : Type 0 where
   -- for one call or more
   pub one-render : (a : Asked) → T (fits binary64 (a .sustain)) → (room : List ℕ) → length room ≡ entryWords → (x : Step) (xs : List Step) → Grows [] (x ∷ xs) → AllZero (wordsChain a room (x ∷ xs) .result)
-      → (out : List Float) (shelf : List ℕ) → length out ≡ samplesOf (x ∷ xs) → length shelf ≡ wordsFor (length out) → OneFfiRender a (x ∷ xs) out shelf (wordsChain a room (x ∷ xs))
+      → (b : Buffers) → Lent b → samplesIn b ≡ samplesOf (x ∷ xs) → OneFfiRender a (x ∷ xs) b (wordsChain a room (x ∷ xs))
   -- gav_render gives no end state: the words left last are those that one gav_continue of the last score over the whole
   -- output leaves
   pub one-call : (a : Asked) → T (fits binary64 (a .sustain)) → (room : List ℕ) → length room ≡ entryWords → (x : Step) (xs : List Step) → Grows [] (x ∷ xs) → AllZero (wordsChain a room (x ∷ xs) .result)
