@@ -32,10 +32,18 @@
  * reset), note (0 to 127), velocity (0 to 127), 00. Positions never fall, a reset has note and velocity 0, and there
  * are at most 4,096 records. An on with velocity 0 is the release of its key, as most keyboards send it: it acts as an
  * off of its note. Samples, shelves and states that an earlier library made of a score with such an on are stale, and
- * no call can tell: render the score anew. GAV_VERSION did not grow with this rule; every library of version 3 has it.
+ * no call can tell: render the score anew. GAV_VERSION did not grow with this rule; every library since version 3 has
+ * it.
  *
  * An output is divided into sections of 4,096 samples, the last of which may be short: section k starts at sample
  * 4096k. The shelf of an output has an entry for each section: the state before the section's first sample.
+ *
+ * The summary of an output has for each section its peak, for a level line: the largest magnitude of the section's
+ * samples, 0 or more, and the number of the first sample where it stands, counted from 0 at the output's start. A
+ * magnitude is a sample without its sign, +0 for -0. It is two buffers, the magnitudes (double) and the numbers
+ * (uint64_t), one of each a section: a silent section 1 has magnitude +0 and number 4,096. A section's peak begins as
+ * +0 at its first sample, and a sample takes over only where its magnitude is larger; so a NaN, which no call writes,
+ * would not count. A summary that was right for an output of finite samples is right for it after every re-render.
  *
  * A state, and an entry of a shelf, is GAV_STATE_WORDS words, a float as its 64 bits (IEEE 754 binary64):
  *    0       phase of the oscillator, a float: radians, 0 or more and below 1,000
@@ -65,11 +73,10 @@ extern "C" {
 
 /* The version of what this header declares; gav_version gives the library's. It grows with every change of a call's
  * arguments or of the number of words of a state, so a host and a library of one version fit each other. The shared
- * library's name carries the version: libgavberin.so.3. Since version 2 there is a tremolo; since version 3 notes may
- * be joined. It did not grow with GAV_ROUNDED_TRIANGLE, since no argument changed: an older library of version 3 takes
- * the same calls and refuses that code with 6. A host can ask: gav_sample_says(GAV_ROUNDED_TRIANGLE, 0, 0, 0) is 0 where the library has
- * it. */
-#define GAV_VERSION 3
+ * library's name carries the version: libgavberin.so.4. Since version 2 there is a tremolo; since version 3 notes may
+ * be joined; since version 4 a render and a re-render take a summary, and GAV_ROUNDED_TRIANGLE is a waveform of every
+ * library (of version 3 some libraries refuse it). */
+#define GAV_VERSION 4
 
 /* The codes of the waveforms. The rounded triangle is a triangle whose corners are really rounded, so that it buzzes
  * less. Its peak is 1 - 4 * dt / 3, where dt is cycles a sample, so that it is softer the higher the note; above half a
@@ -102,7 +109,8 @@ enum gav_answer {
     GAV_SCORE_ORDER = 5,       /* a record of the score: its position is below that of the record before */
     GAV_SETTING = 6,           /* a rate, a code, a pulse's duty, an envelope setting, the LFO's frequency or depth, or
                                   joined outside its limits */
-    GAV_SIZE = 7,              /* too many samples, a shelf of the wrong size, or too little room for a listing */
+    GAV_SIZE = 7,              /* too many samples, a shelf or a summary of the wrong size, or too little room for a
+                                  listing */
     GAV_START_ENTRY = 8,       /* re-render: the entry to start from is no state, or the new score has another number of
                                   records before it than have acted */
     GAV_ARGUMENT = 9,          /* another argument outside its limits */
@@ -126,8 +134,12 @@ const char *gav_words(uint64_t answer);
 /* GAV_VERSION of the library that is linked. */
 uint32_t gav_version(void);
 
+/* The sections that an output of n samples has begun: 0 of none, 1 of 4,096, 2 of 4,097. So many magnitudes and so many
+ * numbers are its summary. */
+static inline size_t gav_sections(size_t n) { return n / GAV_SECTION + (n % GAV_SECTION != 0); }
+
 /* The words of the shelf for an output of n samples: an entry for each section. */
-static inline size_t gav_shelf_words(size_t n) { return (n / GAV_SECTION + (n % GAV_SECTION != 0)) * GAV_STATE_WORDS; }
+static inline size_t gav_shelf_words(size_t n) { return gav_sections(n) * GAV_STATE_WORDS; }
 
 /* Whether a score is accepted: 0, or 1 to 5 with the place. The count is 0.
  * score, score_len: the bytes of the score; any number of them. */
@@ -181,44 +193,53 @@ struct gav_settings {
     (s)->rate, (s)->code, (s)->duty, (s)->attack, (s)->decay, (s)->sustain, (s)->release, (s)->lfo_code, \
     (s)->lfo_duty, (s)->lfo_frequency, (s)->lfo_depth, (s)->joined
 
-/* Renders a score: n samples from sample zero, and their shelf. The count is n. The end state is not given: for that
- * use gav_continue.
+/* Renders a score: n samples from sample zero, their shelf and their summary. The count is n. The end state is not
+ * given: for that use gav_continue.
  * score, score_len: the score; records at n or later are legal
  * out, n:           the samples, 0 to GAV_MOST_SAMPLES; else 7. All are written
  * shelf, words:     gav_shelf_words(n) words exactly; else 7. All are written: entry k, from word GAV_STATE_WORDS * k
- *                   on, is the state before sample 4096k */
+ *                   on, is the state before sample 4096k
+ * magnitudes, magnitudes_len, numbers, numbers_len: the summary, gav_sections(n) of each exactly; else 7, where either
+ *                   length is another. All are written: magnitudes[k] is the peak of section k, 0 or more, and
+ *                   numbers[k] the first sample where it stands, 4096k or above and below n */
 uint64_t gav_render(uint32_t rate, uint32_t code, double duty, double attack, double decay, double sustain,
                     double release, uint32_t lfo_code, double lfo_duty, double lfo_frequency, double lfo_depth,
                     uint32_t joined, const uint8_t *score, size_t score_len, double *out, size_t n, uint64_t *shelf,
-                    size_t words);
+                    size_t words, double *magnitudes, size_t magnitudes_len, uint64_t *numbers, size_t numbers_len);
 
-static inline uint64_t gav_render_with(const struct gav_settings *s, const uint8_t *score, size_t score_len, double *out,
-                                       size_t n, uint64_t *shelf, size_t words) {
-    return gav_render(GAV_SETTINGS_OF(s), score, score_len, out, n, shelf, words);
+static inline uint64_t gav_render_with(const struct gav_settings *s, const uint8_t *score, size_t score_len,
+                                       double *out, size_t n, uint64_t *shelf, size_t words, double *magnitudes,
+                                       size_t magnitudes_len, uint64_t *numbers, size_t numbers_len) {
+    return gav_render(GAV_SETTINGS_OF(s), score, score_len, out, n, shelf, words, magnitudes, magnitudes_len, numbers,
+                      numbers_len);
 }
 
-/* Makes the output and shelf of an old score those of a new one, under the same settings: starts at the section that
- * holds the position of the first changed record (of two different records at one index the lower position), and writes
- * from the start of that section to the end. The count is the samples written; 0, and nothing written, where the scores
- * are equal or the first change lies at n or later.
- * old, old_len:   the score that out and shelf were rendered of
+/* Makes the output, shelf and summary of an old score those of a new one, under the same settings: starts at the
+ * section that holds the position of the first changed record (of two different records at one index the lower
+ * position), and writes from the start of that section to the end. The count is the samples written; 0, and nothing
+ * written, where the scores are equal or the first change lies at n or later.
+ * old, old_len:   the score that out, shelf and summary were rendered of
  * new_, new_len:  the score to render now; it may be the same buffer
- * out, n; shelf, words: as for gav_render, holding what gav_render or the last gav_rerender left. What lies before the
- *                       section stays */
+ * out, n; shelf, words; magnitudes, magnitudes_len, numbers, numbers_len: as for gav_render, holding what gav_render or
+ *                 the last gav_rerender left. Written are the samples, entries, magnitudes and numbers from the start
+ *                 section on; those before it stay, wrong ones too. Of the samples and the summary none is read */
 uint64_t gav_rerender(uint32_t rate, uint32_t code, double duty, double attack, double decay, double sustain,
                       double release, uint32_t lfo_code, double lfo_duty, double lfo_frequency, double lfo_depth,
                       uint32_t joined, const uint8_t *old, size_t old_len, const uint8_t *new_, size_t new_len,
-                      double *out, size_t n, uint64_t *shelf, size_t words);
+                      double *out, size_t n, uint64_t *shelf, size_t words, double *magnitudes, size_t magnitudes_len,
+                      uint64_t *numbers, size_t numbers_len);
 
 static inline uint64_t gav_rerender_with(const struct gav_settings *s, const uint8_t *old, size_t old_len,
                                          const uint8_t *new_, size_t new_len, double *out, size_t n, uint64_t *shelf,
-                                         size_t words) {
-    return gav_rerender(GAV_SETTINGS_OF(s), old, old_len, new_, new_len, out, n, shelf, words);
+                                         size_t words, double *magnitudes, size_t magnitudes_len, uint64_t *numbers,
+                                         size_t numbers_len) {
+    return gav_rerender(GAV_SETTINGS_OF(s), old, old_len, new_, new_len, out, n, shelf, words, magnitudes,
+                        magnitudes_len, numbers, numbers_len);
 }
 
-/* Renders the next part, from a state. Parts of any lengths, one after the other from gav_fresh at position 0, under
- * the same settings and a score that grows only at its end, are the samples of one gav_render of the last score; a
- * record that is added below the position already reached is 10. The count is n.
+/* Renders the next part, from a state; it has no shelf and no summary. Parts of any lengths, one after the other from
+ * gav_fresh at position 0, under the same settings and a score that grows only at its end, are the samples of one
+ * gav_render of the last score; a record that is added below the position already reached is 10. The count is n.
  * score, score_len:   the score so far
  * state, state_words: GAV_STATE_WORDS words; else 10. The state before the sample at position; when done, the state
  *                     after the part. From words that a host has made up, with a phase near 1,000, a phase after the

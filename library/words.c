@@ -24,7 +24,7 @@ static const struct {
     {GAV_SETTING,
      "the rate, a waveform, a pulse's duty, an envelope setting, the tremolo's frequency or depth, or the choice of "
      "struck or joined notes is outside its limits"},
-    {GAV_SIZE, "too many samples, a shelf of the wrong size, or too little room for a listing"},
+    {GAV_SIZE, "too many samples, a shelf or a summary of the wrong size, or too little room for a listing"},
     {GAV_START_ENTRY, "the shelf's entry to start from is no state, or has acted on another number of records than the "
                       "new score has before it"},
     {GAV_ARGUMENT, "an argument is outside its limits"},

@@ -65,8 +65,12 @@ static uint64_t judged(const struct gav_settings *s, bool fits, const uint8_t *s
     return reference_check_score(score, len);
 }
 
-/* "N above 16,777,216, or shelf not 12 words per entry"; then "7 asks for 13 words an entry". */
-static bool is_room(size_t n, size_t words) { return n <= GAV_MOST_SAMPLES && words == gav_shelf_words(n); }
+/* "N above 16,777,216, or shelf not 12 words per entry"; then "7 asks for 13 words an entry", and "7 also when the
+ * summary has not one entry a section", which is a magnitude and a number. */
+static bool is_room(size_t n, size_t words, size_t magnitudes, size_t numbers) {
+    return n <= GAV_MOST_SAMPLES && words == gav_shelf_words(n) && magnitudes == gav_sections(n) &&
+           numbers == gav_sections(n);
+}
 
 /* "A continuing call that would pass 16,777,216 is 7." */
 static bool is_stretch(uint64_t position, size_t n) {
@@ -97,12 +101,24 @@ static void play(const struct gav_settings *settings, struct records score, stru
     }
 }
 
+/* "for each 4,096-sample section, the largest magnitude and the number, from the output's start, of the first sample
+ * where it stands; the last section may be short": of the sections from a sample on. */
+static void sum_up(const double *out, size_t from, size_t n, double *magnitudes, uint64_t *numbers) {
+    for (size_t i = from; i < n; i++) {
+        size_t k = i / GAV_SECTION;
+        if (i % GAV_SECTION == 0) magnitudes[k] = 0.0, numbers[k] = i;
+        if (fabs(out[i]) > magnitudes[k]) magnitudes[k] = fabs(out[i]), numbers[k] = i;
+    }
+}
+
 uint64_t reference_render(const struct gav_settings *s, const uint8_t *score, size_t len, double *out, size_t n,
-                          uint64_t *shelf, size_t words) {
-    uint64_t refusal = judged(s, is_room(n, words), score, len);
+                          uint64_t *shelf, size_t words, double *magnitudes, size_t magnitudes_len, uint64_t *numbers,
+                          size_t numbers_len) {
+    uint64_t refusal = judged(s, is_room(n, words, magnitudes_len, numbers_len), score, len);
     if (refusal) return refusal;
     struct voice voice = voice_fresh();
     play(s, (struct records){score, len / RECORD}, &voice, 0, out, n, shelf);
+    sum_up(out, 0, n, magnitudes, numbers);
     return says(0, 0, n);
 }
 
@@ -116,10 +132,12 @@ uint64_t first_change(const uint8_t *old, size_t old_len, const uint8_t *new_, s
     return p < q ? p : q;
 }
 
-/* "It starts at entry floor(P/4096). Equal scores, or P at or above N, write nothing and count 0." */
+/* "It starts at entry floor(P/4096). Equal scores, or P at or above N, write nothing and count 0." It "touches only
+ * sections from its start entry on". */
 uint64_t reference_rerender(const struct gav_settings *s, const uint8_t *old, size_t old_len, const uint8_t *new_,
-                            size_t new_len, double *out, size_t n, uint64_t *shelf, size_t words) {
-    uint64_t refusal = judged(s, is_room(n, words), old, old_len);
+                            size_t new_len, double *out, size_t n, uint64_t *shelf, size_t words, double *magnitudes,
+                            size_t magnitudes_len, uint64_t *numbers, size_t numbers_len) {
+    uint64_t refusal = judged(s, is_room(n, words, magnitudes_len, numbers_len), old, old_len);
     if (refusal) return refusal;
     refusal = reference_check_score(new_, new_len);
     if (refusal) return refusal + 16;
@@ -129,6 +147,7 @@ uint64_t reference_rerender(const struct gav_settings *s, const uint8_t *old, si
     struct voice voice;
     if (!is_start(&voice, shelf + from / GAV_SECTION * GAV_STATE_WORDS, score, from)) return says(8, 0, 0);
     play(s, score, &voice, from, out + from, n - from, shelf);
+    sum_up(out, from, n, magnitudes, numbers);
     return says(0, 0, n - from);
 }
 

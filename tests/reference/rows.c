@@ -100,8 +100,9 @@ static bool near_block(struct tally *tally, const struct block *b, double phase,
  * the LFO's; 3 and 4 set the phase back before they play. */
 static void block_row(struct rows *rows, struct tally *tally) {
     const uint64_t *row = take(rows, 10), *theirs = take(rows, row[7]);
-    const struct block b = {(uint32_t)row[3], (uint32_t)row[1],          number(row[2]),
-                            number(row[4]),   row[0] % 3 == 1 ? 100 : 20000, number(row[5])};
+    const struct block b = {
+        (uint32_t)row[3], (uint32_t)row[1], number(row[2]), number(row[4]), row[0] % 3 == 1 ? 100 : 20000,
+        number(row[5])};
     size_t n = (size_t)row[7];
     double start = row[0] == 3 || row[0] == 4 ? 0.0 : number(row[6]), phase = start, *out = room(n * sizeof *out);
     for (size_t i = 0; i < n; i++) out[i] = UNWRITTEN;
@@ -122,6 +123,10 @@ struct asked {
     size_t n, len, old_len, words;
     uint64_t position;
     const uint64_t *state, *found, *answer, *samples, *scales, *shelf;
+    /* No row has a summary: it is lent, and not compared. */
+    double *magnitudes;
+    uint64_t *numbers;
+    size_t sections;
 };
 
 /* Takes so many bytes of the row, padded to whole words. */
@@ -148,6 +153,9 @@ static void read_asked(struct rows *rows, struct asked *a) {
     a->scales = is_sine ? here : NULL;
     a->samples = is_sine ? here + a->n : here;
     a->shelf = a->samples + a->n;
+    a->sections = gav_sections(a->n);
+    a->magnitudes = room(a->sections * sizeof *a->magnitudes);
+    a->numbers = room(a->sections * sizeof *a->numbers);
     a->records = (struct records){a->score, a->len / RECORD};
 }
 
@@ -193,7 +201,8 @@ static bool same_call(struct tally *tally, const struct asked *a, bool is_render
     if (is_render) reference_fresh(state, GAV_STATE_WORDS);
     memcpy(after, state, sizeof after);
     if (is_render) {
-        answer = reference_render(&a->settings, a->score, a->len, out, a->n, shelf, a->words);
+        answer = reference_render(&a->settings, a->score, a->len, out, a->n, shelf, a->words, a->magnitudes,
+                                  a->sections, a->numbers, a->sections);
     } else {
         answer = reference_continue(&a->settings, a->score, a->len, after, GAV_STATE_WORDS, a->position, out, a->n);
     }
@@ -207,8 +216,8 @@ static bool same_call(struct tally *tally, const struct asked *a, bool is_render
 static bool same_edit(struct tally *tally, const struct asked *a, double *out, uint64_t *shelf) {
     memcpy(out, a->found, a->n * sizeof *out);
     memcpy(shelf, a->found + a->n, a->words * sizeof *shelf);
-    uint64_t answer =
-        reference_rerender(&a->settings, a->old, a->old_len, a->score, a->len, out, a->n, shelf, a->words);
+    uint64_t answer = reference_rerender(&a->settings, a->old, a->old_len, a->score, a->len, out, a->n, shelf, a->words,
+                                         a->magnitudes, a->sections, a->numbers, a->sections);
     bool fine = answer == a->answer[0];
     size_t start = a->n - gav_count(answer);
     fine &= same_words(out, a->samples, a->scales ? start : a->n);
@@ -231,6 +240,8 @@ static void render_row(struct rows *rows, struct tally *tally) {
     tally->equal += fine && (a.scales || same_words(out, a.samples, a.n)) && same_words(shelf, a.shelf, a.words);
     free(out);
     free(shelf);
+    free(a.magnitudes);
+    free(a.numbers);
     free(a.score);
     free(a.old);
 }

@@ -104,9 +104,11 @@ uint64_t reference_check_score(const uint8_t *score, size_t len);
 double reference_sample(uint32_t code, double phase, double dt, double duty);
 uint64_t reference_sample_says(uint32_t code, double phase, double dt, double duty);
 uint64_t reference_render(const struct gav_settings *settings, const uint8_t *score, size_t len, double *out, size_t n,
-                          uint64_t *shelf, size_t words);
+                          uint64_t *shelf, size_t words, double *magnitudes, size_t magnitudes_len, uint64_t *numbers,
+                          size_t numbers_len);
 uint64_t reference_rerender(const struct gav_settings *settings, const uint8_t *old, size_t old_len,
-                            const uint8_t *new_, size_t new_len, double *out, size_t n, uint64_t *shelf, size_t words);
+                            const uint8_t *new_, size_t new_len, double *out, size_t n, uint64_t *shelf, size_t words,
+                            double *magnitudes, size_t magnitudes_len, uint64_t *numbers, size_t numbers_len);
 uint64_t reference_continue(const struct gav_settings *settings, const uint8_t *score, size_t len, uint64_t *state,
                             size_t state_words, uint64_t position, double *part, size_t n);
 uint64_t reference_fresh(uint64_t *state, size_t state_words);

@@ -13,9 +13,10 @@ struct calls {
     uint64_t (*check)(const uint8_t *, size_t);
     uint64_t (*list)(const uint8_t *, size_t, uint8_t *, size_t);
     uint64_t (*fresh)(uint64_t *, size_t);
-    uint64_t (*render)(const struct gav_settings *, const uint8_t *, size_t, double *, size_t, uint64_t *, size_t);
+    uint64_t (*render)(const struct gav_settings *, const uint8_t *, size_t, double *, size_t, uint64_t *, size_t,
+                       double *, size_t, uint64_t *, size_t);
     uint64_t (*rerender)(const struct gav_settings *, const uint8_t *, size_t, const uint8_t *, size_t, double *,
-                         size_t, uint64_t *, size_t);
+                         size_t, uint64_t *, size_t, double *, size_t, uint64_t *, size_t);
     uint64_t (*go_on)(const struct gav_settings *, const uint8_t *, size_t, uint64_t *, size_t, uint64_t, double *,
                       size_t);
     double (*sample)(uint32_t, double, double, double);
@@ -41,8 +42,9 @@ void differ(const struct round *r, const char *format, ...) {
 static uint64_t make(const struct calls *who, const struct call *c, struct buffers *b) {
     const uint8_t *old = address(b, OLD), *new_ = address(b, NEW);
     double *out = address(b, OUT), *part = c->samples == 0 && b->has_nulls ? NULL : out + c->from;
-    uint64_t *shelf = address(b, SHELF);
-    size_t n = b->len[OUT] / 8, words = b->len[SHELF] / 8;
+    uint64_t *shelf = address(b, SHELF), *numbers = address(b, NUMBERS);
+    double *magnitudes = address(b, MAGNITUDES);
+    size_t n = b->len[OUT] / 8, words = b->len[SHELF] / 8, peaks = b->len[MAGNITUDES] / 8, at = b->len[NUMBERS] / 8;
     switch (c->which) {
     case CHECK:
         return who->check(old, b->len[OLD]);
@@ -51,9 +53,10 @@ static uint64_t make(const struct calls *who, const struct call *c, struct buffe
     case FRESH:
         return who->fresh(address(b, STATE), c->words);
     case RENDER:
-        return who->render(&c->settings, old, b->len[OLD], out, n, shelf, words);
+        return who->render(&c->settings, old, b->len[OLD], out, n, shelf, words, magnitudes, peaks, numbers, at);
     case RERENDER:
-        return who->rerender(&c->settings, old, b->len[OLD], new_, b->len[NEW], out, n, shelf, words);
+        return who->rerender(&c->settings, old, b->len[OLD], new_, b->len[NEW], out, n, shelf, words, magnitudes, peaks,
+                             numbers, at);
     default:
         return who->go_on(&c->settings, old, b->len[OLD], address(b, STATE), c->words, c->position, part, c->samples);
     }
@@ -75,8 +78,8 @@ static size_t first_other(const uint8_t *a, const uint8_t *b) {
 }
 
 static void tell_word(const struct round *r, const char *who, enum lent which, size_t at, uint64_t ours, uint64_t due) {
-    static const char *const NAMES[BUFFERS] = {"score", "new score", "sample", "word of the shelf",
-                                               "word of the state"};
+    static const char *const NAMES[BUFFERS] = {
+        "score", "new score", "sample", "word of the shelf", "word of the state", "magnitude", "number"};
     differ(r, "%s: %s %zu is %016llX (%.17g), due is %016llX (%.17g)", who, NAMES[which], at, (unsigned long long)ours,
            number(ours), (unsigned long long)due, number(due));
 }
@@ -113,6 +116,19 @@ static void same_samples(struct round *r, struct written w) {
     }
 }
 
+/* The peaks that a render or a re-render is due, from the section of the first sample that it writes on: those of the
+ * samples that are expected. */
+static void expect_peaks(struct round *r, struct written w) {
+    const size_t first = w.from / GAV_SECTION, sections = w.samples > 0 ? gav_sections(r->n) : first;
+    double *out = inside(&r->expected, OUT), *magnitudes = inside(&r->expected, MAGNITUDES);
+    judge_peaks(out, w.from, r->n, magnitudes, words_of(&r->expected, NUMBERS));
+    for (size_t i = first; i < sections; i++) {
+        r->tally->peaks++;
+        r->tally->silent += magnitudes[i] == 0.0;
+        r->tally->above += magnitudes[i] > 1.0;
+    }
+}
+
 /* The library beside the reference, which is lent copies of the same. */
 static uint64_t both(struct round *r, const struct call *c) {
     copy_buffers(&r->twins, &r->lent);
@@ -126,6 +142,7 @@ static uint64_t both(struct round *r, const struct call *c) {
 void call_done(struct round *r, const struct call *c, uint64_t answer, struct written written) {
     same_answer(r, REFERENCE.name, both(r, c), answer);
     same_samples(r, written);
+    if (c->which == RENDER || c->which == RERENDER) expect_peaks(r, written);
     same_buffers(r, REFERENCE.name, &r->twins, &r->expected);
     r->tally->samples += written.samples;
 }

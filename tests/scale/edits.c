@@ -6,29 +6,34 @@
 
 /* What a re-render must do: the first sample of the section that it starts at, or the end where it writes nothing. */
 struct plan {
-    size_t from, entry; /* in samples, and in words of the shelf */
+    size_t from, section, entry; /* in samples, in sections, and in words of the shelf */
     uint64_t answer;
 };
 
 static struct plan plan_of(const struct round *r, const struct score *new_) {
     uint64_t p = first_change(r->score.bytes, r->score.len, new_->bytes, new_->len);
-    size_t from = p < r->n ? (size_t)p / GAV_SECTION * GAV_SECTION : r->n;
-    size_t entry = p < r->n ? from / GAV_SECTION * GAV_STATE_WORDS : gav_shelf_words(r->n);
-    return (struct plan){from, entry, says(0, 0, r->n - from)};
+    size_t section = p < r->n ? (size_t)p / GAV_SECTION : gav_sections(r->n);
+    size_t from = p < r->n ? section * GAV_SECTION : r->n;
+    return (struct plan){from, section, section * GAV_STATE_WORDS, says(0, 0, r->n - from)};
 }
 
 /* Everything but the entry to start from may be rubbish: what lies before the start stays, and no call reads what lies
  * after it. */
 static void spoil(struct round *r, struct plan plan, bool before, bool behind) {
     uint64_t *out = words_of(&r->lent, OUT), *shelf = words_of(&r->lent, SHELF);
+    uint64_t *magnitudes = words_of(&r->lent, MAGNITUDES), *numbers = words_of(&r->lent, NUMBERS);
     size_t words = gav_shelf_words(r->n), after = plan.entry + GAV_STATE_WORDS;
     if (before) {
         rubbish(&r->chance, out, plan.from);
         rubbish(&r->chance, shelf, plan.entry);
+        rubbish(&r->chance, magnitudes, plan.section);
+        rubbish(&r->chance, numbers, plan.section);
     }
     if (behind && plan.entry < words) {
         rubbish(&r->chance, out + plan.from, r->n - plan.from);
         rubbish(&r->chance, shelf + after, words - after);
+        rubbish(&r->chance, magnitudes + plan.section, gav_sections(r->n) - plan.section);
+        rubbish(&r->chance, numbers + plan.section, gav_sections(r->n) - plan.section);
     }
 }
 
@@ -47,7 +52,20 @@ static void rerender(struct round *r, const struct score *new_, struct plan plan
     expect(r, plan, heard);
     call_done(r, &call, plan.answer, (struct written){plan.from, r->n - plan.from, heard->scales + plan.from});
     r->tally->words += gav_shelf_words(r->n) - plan.entry;
-    r->tally->kept += 8 * (plan.from + plan.entry);
+    r->tally->kept += 8 * (plan.from + plan.entry + 2 * plan.section);
+}
+
+/* "If it was right for the buffer as that came, all finite, it afterwards equals a summary of the finished buffer
+ * worked out from nothing." */
+static void same_summary(const struct round *r) {
+    const size_t bytes = 8 * gav_sections(r->n);
+    double magnitudes[MOST_ENTRIES];
+    uint64_t numbers[MOST_ENTRIES];
+    judge_peaks(inside(&r->lent, OUT), 0, r->n, magnitudes, numbers);
+    if (memcmp(magnitudes, inside(&r->lent, MAGNITUDES), bytes) != 0 ||
+        memcmp(numbers, inside(&r->lent, NUMBERS), bytes) != 0) {
+        differ(r, "the summary is not that of the finished output");
+    }
 }
 
 /* Rubbish before the start is replaced afterwards by the judge's samples: there the two scores play the same. */
@@ -64,7 +82,9 @@ static void edit(struct round *r, int number) {
     if (before) {
         memcpy(inside(&r->lent, OUT), r->heard.samples, 8 * plan.from);
         memcpy(inside(&r->lent, SHELF), r->heard.shelf, 8 * plan.entry);
+        judge_peaks(r->heard.samples, 0, plan.from, inside(&r->lent, MAGNITUDES), words_of(&r->lent, NUMBERS));
     }
+    same_summary(r);
     r->score = new_;
 }
 

@@ -88,6 +88,18 @@ struct gav_settings random_settings(struct chance *c) {
     return s;
 }
 
+/* Triangles that pass 1, the oscillator's at few samples a cycle and the LFO's near its corners. */
+struct gav_settings loud_settings(struct chance *c) {
+    struct gav_settings s = random_settings(c);
+    s.rate = 8000;
+    s.code = s.lfo_code = GAV_TRIANGLE;
+    s.lfo_frequency = 100.0;
+    s.lfo_depth = 1.0;
+    s.attack = s.decay = 0.001;
+    s.sustain = 1.0;
+    return s;
+}
+
 static double random_nan(struct chance *c) {
     return number(UINT64_C(0x7FF0000000000001) | chance_word(c) << 52 | chance_word(c) >> 12);
 }

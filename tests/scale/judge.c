@@ -42,6 +42,18 @@ void judge_hear(struct round *r, const struct score *score, struct heard *heard)
     }
 }
 
+/* First the largest magnitude, then the first sample where it stands. */
+void judge_peaks(const double *samples, size_t from, size_t n, double *magnitudes, uint64_t *numbers) {
+    for (size_t first = from; first < n; first += GAV_SECTION) {
+        size_t end = n - first < GAV_SECTION ? n : first + GAV_SECTION, at = first;
+        double largest = 0.0;
+        for (size_t i = first; i < end; i++) largest = fmax(largest, fabs(samples[i]));
+        while (fabs(samples[at]) != largest) at++;
+        magnitudes[first / GAV_SECTION] = largest;
+        numbers[first / GAV_SECTION] = at;
+    }
+}
+
 bool is_judged(const struct round *r, double ours, double judged, double scale) {
     if (bits(ours) == bits(judged)) return true;
     return original_is_here && has_sine(&r->settings) && fabs(ours - judged) <= 0.000001 * scale;

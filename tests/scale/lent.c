@@ -14,9 +14,14 @@ static const uint64_t GUARDS[GUARD / 8] = {
 };
 
 void make_buffers(struct buffers *b) {
-    static const size_t MOST[BUFFERS] = {
-        sizeof((struct score *)0)->bytes,         sizeof((struct score *)0)->bytes, 8 * LONGEST,
-        8 * (MOST_ENTRIES + 1) * GAV_STATE_WORDS, 8 * (GAV_STATE_WORDS + 1),        GAV_LIST_ROOM + 8};
+    static const size_t MOST[BUFFERS] = {sizeof((struct score *)0)->bytes,
+                                         sizeof((struct score *)0)->bytes,
+                                         8 * LONGEST,
+                                         8 * (MOST_ENTRIES + 1) * GAV_STATE_WORDS,
+                                         8 * (GAV_STATE_WORDS + 1),
+                                         8 * (MOST_ENTRIES + 1),
+                                         8 * (MOST_ENTRIES + 1),
+                                         GAV_LIST_ROOM + 8};
     for (int i = 0; i < BUFFERS; i++) {
         b->room[i] = malloc(MOST[i] + 2 * GUARD);
         if (b->room[i]) continue;

@@ -41,9 +41,10 @@ int main(int argc, char **argv) {
         run_round(&round);
     }
     printf("scale: %" PRIu64 " rounds equal: %" PRIu64 " calls, %" PRIu64 " of them refused, %" PRIu64
-           " samples, %" PRIu64 " words of entries and states, %" PRIu64 " bytes left as they came (seed %" PRIu64
-           "), judged by %s\n",
-           rounds, tally.calls, tally.refused, tally.samples, tally.words, tally.kept, seed,
+           " samples, %" PRIu64 " words of entries and states, %" PRIu64 " peaks (%" PRIu64 " of silence, %" PRIu64
+           " above 1), %" PRIu64 " bytes left as they came (seed %" PRIu64 "), judged by %s\n",
+           rounds, tally.calls, tally.refused, tally.samples, tally.words, tally.peaks, tally.silent, tally.above,
+           tally.kept, seed,
            original_is_here ? "the original and the reference voice" : "the reference voice: the original is not here");
     return 0;
 }

@@ -28,10 +28,26 @@ static uint64_t lend_faulty(struct round *r, enum lent which, const struct score
 }
 
 /* A word too few or too many, an entry too many, or a word too few in each entry. */
-static void lend_shelf(struct round *r, struct faults f) {
+static size_t other_words(struct round *r) {
     size_t words = gav_shelf_words(r->n), fewer = words - words / GAV_STATE_WORDS;
     const size_t others[] = {words > 0 ? words - 1 : 1, words + 1, words + GAV_STATE_WORDS, words > 0 ? fewer : 1};
-    resize(&r->chance, &r->lent, SHELF, 8 * (has(f, SIZE) ? PICK(&r->chance, others) : words));
+    return PICK(&r->chance, others);
+}
+
+/* One too few or too many, or none of some. */
+static size_t other_sections(struct round *r) {
+    size_t sections = gav_sections(r->n);
+    const size_t others[] = {sections > 0 ? sections - 1 : 1, sections + 1, sections > 0 ? 0 : 1};
+    return PICK(&r->chance, others);
+}
+
+/* The shelf, the magnitudes and the numbers: of a wrong size is one of them alone, or some, or all. */
+static void lend_sizes(struct round *r, struct faults f) {
+    uint64_t wrong = has(f, SIZE) ? 1 + below(&r->chance, 7) : 0;
+    size_t sections = gav_sections(r->n);
+    resize(&r->chance, &r->lent, SHELF, 8 * (wrong & 1 ? other_words(r) : gav_shelf_words(r->n)));
+    resize(&r->chance, &r->lent, MAGNITUDES, 8 * (wrong & 2 ? other_sections(r) : sections));
+    resize(&r->chance, &r->lent, NUMBERS, 8 * (wrong & 4 ? other_sections(r) : sections));
 }
 
 static void refuse(struct round *r, const struct call *call, const char *name, struct faults f, uint64_t due) {
@@ -46,7 +62,7 @@ static void refused_render(struct round *r, struct faults f) {
     const struct call call = {.which = RENDER, .settings = settings_of(r, f)}, check = {.which = CHECK};
     uint64_t due = lend_faulty(r, OLD, &r->score, has(f, SCORE));
     resize(&r->chance, &r->lent, OUT, 8 * r->n);
-    lend_shelf(r, f);
+    lend_sizes(r, f);
     if (f.first == SCORE) refuse(r, &check, "check", f, due);
     refuse(r, &call, "render", f, due);
 }
@@ -87,11 +103,11 @@ static void refused_rerender(struct round *r, const uint64_t *rendered, struct f
     uint64_t of_old = lend_faulty(r, OLD, &r->score, has(f, SCORE));
     uint64_t of_new = lend_faulty(r, NEW, &edited, has(f, NEW_SCORE));
     resize(&r->chance, &r->lent, OUT, 8 * r->n);
-    lend_shelf(r, f);
+    lend_sizes(r, f);
     if (p >= r->n && f.first == START) return; /* no entry is read */
     size_t entry = p < r->n ? (size_t)p / GAV_SECTION * GAV_STATE_WORDS : 0;
     uint64_t *start = words_of(&r->lent, SHELF) + entry;
-    if (p < r->n && !has(f, SIZE)) {
+    if (p < r->n && r->lent.len[SHELF] == 8 * gav_shelf_words(r->n)) {
         memcpy(start, rendered + entry, 8 * GAV_STATE_WORDS);
         if (has(f, START)) doctor_state(&r->chance, start);
     }

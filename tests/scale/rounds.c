@@ -8,6 +8,8 @@ static void lend_output(struct round *r) {
     resize(&r->chance, &r->lent, OUT, 8 * r->n);
     resize(&r->chance, &r->lent, SHELF, 8 * gav_shelf_words(r->n));
     resize(&r->chance, &r->lent, STATE, 8 * GAV_STATE_WORDS);
+    resize(&r->chance, &r->lent, MAGNITUDES, 8 * gav_sections(r->n));
+    resize(&r->chance, &r->lent, NUMBERS, 8 * gav_sections(r->n));
     lend_score(&r->lent, OLD, &r->score);
     lend(&r->lent, NEW, NULL, 0);
     lend(&r->lent, TEXT, NULL, 0);
@@ -153,13 +155,20 @@ static void samples(struct round *r) {
     }
 }
 
+/* One round in sixteen is silent, and one has peaks above 1. */
+static void draw(struct round *r) {
+    struct chance *c = &r->chance;
+    uint64_t kind = below(c, 16);
+    r->settings = kind == 1 ? loud_settings(c) : random_settings(c);
+    (kind == 0 ? silent_score : kind == 1 ? loud_score : random_score)(c, r->n, &r->score);
+}
+
 void run_round(struct round *r) {
     static const size_t LENGTHS[] = {0, 1, 63, 64, 65, 4095, 4096, 4097, 8191, 8192, 8193, 12287, 12288, LONGEST};
     struct chance *c = &r->chance;
     r->lent.has_nulls = one_in(c, 2);
     r->n = one_in(c, 4) ? PICK(c, LENGTHS) : below(c, 12001);
-    r->settings = random_settings(c);
-    random_score(c, r->n, &r->score);
+    draw(r);
     snprintf(r->what, sizeof r->what, "the judge");
     judge_hear(r, &r->score, &r->heard);
     parts(r);

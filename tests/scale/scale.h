@@ -22,6 +22,9 @@ size_t score_count(const struct score *score);
 uint32_t score_position(const struct score *score, size_t index);
 size_t score_below(const struct score *score, uint64_t position); /* how many records are */
 void random_score(struct chance *c, size_t n, struct score *score);
+/* No key; or high keys, struck hard, whose peaks are above 1 under loud_settings. */
+void silent_score(struct chance *c, size_t n, struct score *score);
+void loud_score(struct chance *c, size_t n, struct score *score);
 void edit_score(struct chance *c, size_t n, struct score *score);
 /* A key struck at a position, among the others there; a full score stays as it is. */
 void strike(struct chance *c, struct score *score, uint64_t position);
@@ -32,6 +35,7 @@ void damage_score(struct chance *c, struct score *score);
 
 /* given.c: settings and states, within their limits and outside. */
 struct gav_settings random_settings(struct chance *c);
+struct gav_settings loud_settings(struct chance *c);
 struct gav_settings bad_settings(struct chance *c, struct gav_settings settings);
 void move_state(struct chance *c, uint64_t *state);   /* another state, which no score may reach */
 void move_keys(struct chance *c, uint64_t *state);    /* the same with other keys alone */
@@ -40,7 +44,7 @@ double odd_unit(struct chance *c);                    /* no number from 0 to 1 *
 double random_duty(struct chance *c);
 
 /* lent.c: what is lent to a call, each buffer between guards, with its length in bytes. A float is held as its bits. */
-enum lent { OLD, NEW, OUT, SHELF, STATE, TEXT, BUFFERS };
+enum lent { OLD, NEW, OUT, SHELF, STATE, MAGNITUDES, NUMBERS, TEXT, BUFFERS };
 
 struct buffers {
     uint8_t *room[BUFFERS];
@@ -61,6 +65,7 @@ void copy_buffers(struct buffers *to, const struct buffers *from);
 /* A round, and what was compared in all of them. */
 struct tally {
     uint64_t calls, refused, samples, words, kept;
+    uint64_t peaks, silent, above; /* sections whose peaks were compared; those without a sound, and those above 1 */
 };
 
 struct heard {
@@ -87,6 +92,8 @@ void judge_play(const struct gav_settings *settings, const struct score *score, 
 void judge_hear(struct round *r, const struct score *score, struct heard *heard);
 /* Whether a sample is the judge's; where a sine is heard the original's is another one and only near. */
 bool is_judged(const struct round *r, double ours, double judged, double scale);
+/* The peaks of the sections that samples from one on fill, worked out from the samples alone. */
+void judge_peaks(const double *samples, size_t from, size_t n, double *magnitudes, uint64_t *numbers);
 
 /* calls.c: one call, of the library and of the reference. */
 enum which { CHECK, LIST, FRESH, RENDER, RERENDER, CONTINUE };

@@ -107,6 +107,29 @@ static void random_positions(struct chance *c, size_t n, uint32_t *positions, si
     qsort(positions, count, sizeof *positions, by_size);
 }
 
+/* Releases of keys that are not down, and resets. */
+void silent_score(struct chance *c, size_t n, struct score *score) {
+    size_t count = below(c, 4), position = 0;
+    score->len = RECORD * count;
+    for (size_t i = 0; i < count; i++) {
+        position += below(c, n + 1);
+        if (one_in(c, 4)) {
+            put_record(score->bytes + RECORD * i, (uint32_t)position, RESET, 0, 0);
+        } else {
+            put_release(c, score->bytes + RECORD * i, (uint32_t)position, (uint8_t)below(c, 128));
+        }
+    }
+}
+
+void loud_score(struct chance *c, size_t n, struct score *score) {
+    size_t count = 1 + below(c, 4), position = below(c, 64);
+    score->len = RECORD * count;
+    for (size_t i = 0; i < count; i++) {
+        put_record(score->bytes + RECORD * i, (uint32_t)position, ON, (uint8_t)(100 + below(c, 28)), 127);
+        position += below(c, n + 1);
+    }
+}
+
 /* From no record to 4,096. */
 void random_score(struct chance *c, size_t n, struct score *score) {
     static uint32_t positions[MOST_RECORDS];

@@ -1,8 +1,7 @@
 /* Wrong libraries: each is put between the program at scale and the library (gcc's --wrap) and spoils one thing of one
  * call. WRONG in the environment chooses it, from 1 on; 0 spoils nothing, and one past the last says how many there
  * are. */
-#include "../settings.h"
-#include "scale.h"
+#include "wrong.h"
 
 #include <math.h>
 #include <stdio.h>
@@ -14,9 +13,9 @@ uint64_t __real_gav_fresh(uint64_t *state, size_t words);
 double __real_gav_sample(uint32_t code, double phase, double dt, double duty);
 uint64_t __real_gav_sample_says(uint32_t code, double phase, double dt, double duty);
 uint64_t __real_gav_render(SETTINGS, const uint8_t *score, size_t len, double *out, size_t n, uint64_t *shelf,
-                           size_t words);
+                           size_t words, SUMMARY);
 uint64_t __real_gav_rerender(SETTINGS, const uint8_t *old, size_t old_len, const uint8_t *new_, size_t new_len,
-                             double *out, size_t n, uint64_t *shelf, size_t words);
+                             double *out, size_t n, uint64_t *shelf, size_t words, SUMMARY);
 uint64_t __real_gav_continue(SETTINGS, const uint8_t *score, size_t len, uint64_t *state, size_t state_words,
                              uint64_t position, double *part, size_t n);
 
@@ -77,7 +76,9 @@ enum wrong {
     RERENDER_LFO_CODES = RERENDER_CODES + 4,
     CONTINUE_CODES = RERENDER_LFO_CODES + 4,
     CONTINUE_LFO_CODES = CONTINUE_CODES + 4,
-    WRONGS = CONTINUE_LFO_CODES + 4
+    RENDER_SUMMARIES = CONTINUE_LFO_CODES + 4,       /* those of wrong.h that a render has, in that order */
+    RERENDER_SUMMARIES = RENDER_SUMMARIES + OF_BOTH, /* all of them */
+    WRONGS = RERENDER_SUMMARIES + SUMMARIES
 };
 
 static enum wrong wrong(void) {
@@ -87,6 +88,11 @@ static enum wrong wrong(void) {
         if (chosen == WRONGS) printf("%d wrong libraries\n", WRONGS - 1), exit(0);
     }
     return (enum wrong)chosen;
+}
+
+/* The wrong summary of a call that has so many, from one wrong library on. */
+static enum summary wrong_summary(enum wrong first, int count) {
+    return wrong() >= first && (int)wrong() < (int)first + count ? (enum summary)(wrong() - first) : RIGHT;
 }
 
 static void flip(double *x) { *x = number(bits(*x) ^ 1); }
@@ -153,8 +159,23 @@ static bool is_lfo_wrongly_refused(uint32_t lfo_code, double lfo_duty, double lf
     return wrong() == RENDER_LFO_ZERO && bits(lfo_depth) == bits(-0.0);
 }
 
+/* What a call with a wrong summary answers, where the right call's answer is another: with 7 for the lengths alone it
+ * may be done, or the score may come first. */
+static uint64_t answer_of(enum summary how, uint64_t answer, const struct lent_summary *lent, const uint8_t *score,
+                          size_t len) {
+    if (how == REFUSED_WRITES && gav_number(answer) != 0 && lent->numbers_len > 0) lent->numbers[0] ^= 1;
+    if (gav_number(answer) != 7 || is_summary(lent)) return answer;
+    if (is_wrongly_taken(how, lent)) return says(0, 0, lent->n);
+    uint64_t fault = __real_gav_check_score(score, len);
+    return how == AFTER_SCORE && fault != 0 ? fault : answer;
+}
+
 uint64_t __wrap_gav_render(SETTINGS, const uint8_t *score, size_t len, double *out, size_t n, uint64_t *shelf,
-                           size_t words) {
+                           size_t words, SUMMARY) {
+    const struct lent_summary lent = {out, n, words, PEAKS};
+    const enum summary how = wrong_summary(RENDER_SUMMARIES, OF_BOTH);
+    if (how == BEFORE_SETTINGS && !is_summary(&lent)) return 7;
+    keep_summary(&lent);
     if (wrong() == RENDER_ORDER && words != gav_shelf_words(n)) return 7;
     if (wrong() == RENDER_SCORE && len > 0) ((uint8_t *)score)[len - 1] ^= 1;
     if (is_lfo_wrongly_refused(lfo_code, lfo_duty, lfo_depth)) return 6;
@@ -164,13 +185,14 @@ uint64_t __wrap_gav_render(SETTINGS, const uint8_t *score, size_t len, double *o
     code = taken_code(code, duty, RENDER_CODES);
     lfo_code = taken_code(lfo_code, lfo_duty, RENDER_LFO_CODES);
     double last = n > 0 ? out[n - 1] : 0.0;
-    uint64_t answer = __real_gav_render(GIVEN, score, len, out, n, shelf, words);
+    uint64_t answer = __real_gav_render(GIVEN, score, len, out, n, shelf, words, PEAKS);
+    if (gav_number(answer) == 0) spoil_summary(how, &lent, 0);
     if (wrong() == RENDER_TWELVE && gav_number(answer) == 7 && 13 * words == 12 * gav_shelf_words(n))
         return says(0, 0, n);
     if (gav_number(answer) == 0) spoil_render(out, n, shelf);
     if (wrong() == RENDER_NAN_REFUSED && gav_number(answer) != 0) one_payload(out, n);
     if (wrong() == RENDER_LAST_LEFT && gav_number(answer) == 0 && n > 0) out[n - 1] = last;
-    return answer;
+    return answer_of(how, answer, &lent, score, len);
 }
 
 static uint64_t spoil_rerender(uint64_t answer, double *out, size_t n, uint64_t *shelf) {
@@ -182,9 +204,13 @@ static uint64_t spoil_rerender(uint64_t answer, double *out, size_t n, uint64_t 
 }
 
 uint64_t __wrap_gav_rerender(SETTINGS, const uint8_t *old, size_t old_len, const uint8_t *new_, size_t new_len,
-                             double *out, size_t n, uint64_t *shelf, size_t words) {
+                             double *out, size_t n, uint64_t *shelf, size_t words, SUMMARY) {
     static double spare[LONGEST];
     static uint64_t entries[(MOST_ENTRIES + 1) * GAV_STATE_WORDS];
+    const struct lent_summary lent = {out, n, words, PEAKS};
+    const enum summary how = wrong_summary(RERENDER_SUMMARIES, SUMMARIES);
+    if (how == BEFORE_SETTINGS && !is_summary(&lent)) return 7;
+    keep_summary(&lent);
     if (wrong() == RERENDER_NOTHING && words <= COUNT_OF(entries)) {
         memcpy(entries, shelf, words * sizeof *entries);
         out = spare, shelf = entries;
@@ -192,9 +218,11 @@ uint64_t __wrap_gav_rerender(SETTINGS, const uint8_t *old, size_t old_len, const
     joined = taken_keying(joined, RERENDER_ALL_STRUCK);
     code = taken_code(code, duty, RERENDER_CODES);
     lfo_code = taken_code(lfo_code, lfo_duty, RERENDER_LFO_CODES);
-    uint64_t answer = __real_gav_rerender(GIVEN, old, old_len, new_, new_len, out, n, shelf, words);
+    uint64_t answer = __real_gav_rerender(GIVEN, old, old_len, new_, new_len, out, n, shelf, words, PEAKS);
     if (wrong() == RERENDER_START && gav_number(answer) == 8) return 0;
-    return gav_number(answer) == 0 ? spoil_rerender(answer, out, n, shelf) : answer;
+    if (gav_number(answer) == 0) spoil_summary(how, &lent, n - gav_count(answer));
+    return gav_number(answer) == 0 ? spoil_rerender(answer, out, n, shelf)
+                                   : answer_of(how, answer, &lent, old, old_len);
 }
 
 /* A phase of the LFO that is given, or the one that is taken for it. */
