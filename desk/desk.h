@@ -214,11 +214,15 @@ bool score_of_text(const uint8_t *text, size_t len, struct score *score, struct 
 
 /* voice.c: the library's calls on what the desk holds, and the memory that they are lent. */
 
+/* The samples, the entries, and a peak for each section. */
 struct sound {
     double *at;
     size_t samples;
     uint64_t *shelf;
     size_t words;
+    double *magnitudes;
+    uint64_t *numbers;
+    size_t sections;
 };
 
 struct state {
@@ -329,15 +333,15 @@ size_t export_clips(const struct export *export, const double *at, size_t sample
 /* The words of the head, and those beside an entry; the score is padded to a whole word, and a word with the sum
    follows. */
 #define SHELF_HEAD_WORDS (FIRST_SETTING_WORD + SETTING_WORDS)
-#define SHELF_BESIDE_WORDS 1u
+#define SHELF_BESIDE_WORDS 3u
 #define SHELF_MOST                                                                                                     \
-    (8u * (SHELF_HEAD_WORDS + (GAV_STATE_WORDS + SHELF_BESIDE_WORDS) * (GAV_MOST_SAMPLES / GAV_SECTION) +                 \
+    (8u * (SHELF_HEAD_WORDS + (GAV_STATE_WORDS + SHELF_BESIDE_WORDS) * (GAV_MOST_SAMPLES / GAV_SECTION) +              \
            MOST_SCORE / 8u + 1u))
 
 /* The version of the file: another layout, or other samples for the same score, is another version. */
-#define SHELF_VERSION 5u
+#define SHELF_VERSION 6u
 
-/* What the file has beside the words of the entries. */
+/* What the file has beside its sections. */
 struct shelf_file {
     struct gav_settings settings;
     size_t samples;
@@ -351,14 +355,15 @@ bool shelf_bytes(const struct shelf_file *about, const struct sound *sound, cons
 /* Whether a file begins as a shelf does. */
 bool shelf_begins(const uint8_t *file, size_t len);
 bool shelf_look(const uint8_t *file, size_t len, struct shelf_file *about, struct why *why);
-/* Copies the entries of a file that shelf_look has read into a sound of its length. */
+/* Copies the entries and the peaks of a file that shelf_look has read into a sound of its length. */
 void shelf_words(const uint8_t *file, struct sound *sound);
-/* How many sections of 4,096 samples there are, the last one perhaps shorter; and the sample after a section's last. */
-size_t sections_of(size_t samples);
+/* The sample after a section's last. */
 size_t section_end(size_t samples, size_t section);
 /* The sum of a section that the shelf has beside the entry; and the sum of the section's bytes in the WAV. */
 uint64_t shelf_sum(const uint8_t *file, size_t section);
 uint64_t section_sum(const struct wav *wav, const uint8_t *file, size_t section);
+/* The peak of a section that the shelf has beside the entry, of the samples as the voice made them. */
+struct peak shelf_peak(const uint8_t *file, size_t section);
 
 /* The verbs, a file each. */
 
@@ -370,7 +375,7 @@ struct verb {
 };
 
 extern const struct verb check_verb, list_verb, make_verb, render_verb, rerender_verb, play_verb, verify_verb,
-    info_verb, chart_verb;
+    info_verb, peaks_verb, chart_verb;
 
 /* from_zero.c: a WAV, and the render of its score from sample zero beside it, for verify and chart. */
 

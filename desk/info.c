@@ -93,11 +93,21 @@ static bool tell_wav(const char *path, const struct bytes *file, struct why *why
     return !readable || wav_agrees(&wav, why);
 }
 
+/* The first of the largest; below 0 where there are no sections. */
+static struct peak largest_peak(const uint8_t *file, size_t sections) {
+    struct peak largest = {.level = -1};
+    for (size_t i = 0; i < sections; i++) {
+        struct peak peak = shelf_peak(file, i);
+        if (peak.level > largest.level) largest = peak;
+    }
+    return largest;
+}
+
 static bool tell_shelf(const char *path, const struct bytes *file, struct why *why) {
     struct shelf_file about;
     printf("%s: shelf\n", path);
     if (!shelf_look(file->at, file->len, &about, why)) return false;
-    size_t entries = gav_shelf_words(about.samples) / GAV_STATE_WORDS;
+    size_t entries = gav_sections(about.samples);
     put_name("version");
     printf("%u of the file, %u of the voice\n", SHELF_VERSION, (unsigned)gav_version());
     put_name("settings");
@@ -107,6 +117,8 @@ static bool tell_shelf(const char *path, const struct bytes *file, struct why *w
     put_name("sections");
     printf("%zu %s of %d words, one each %d samples\n", entries, counted(entries, "entry", "entries"), GAV_STATE_WORDS,
            GAV_SECTION);
+    put_name("peak");
+    put_peak(stdout, largest_peak(file->at, entries), about.settings.rate, false);
     put_name("WAV");
     printf("%u-bit floats\n", about.bits);
     tell_records(&about.score);
@@ -163,7 +175,7 @@ const struct verb info_verb = {
     .summary = "tells what a file is: a WAV, a shelf, a score, or a text of one",
     .help = "desk info FILE\n"
             "Tells what the file is, its kind first. Of a WAV: format, length, peak, and chunks of other programs;\n"
-            "of a shelf: version, settings, length, sections and the records of its score; of a score, or of\n"
+            "of a shelf: version, settings, length, sections, peak and the records of its score; of a score, or of\n"
             "a text that `desk make` takes: its records. A file that is damaged, or none of these, ends with status\n"
             "1 and what is wrong. FILE may be - for standard input.\n",
     .run = run_info,

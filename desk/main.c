@@ -8,7 +8,7 @@
 
 static const struct verb *const verbs[] = {
     &check_verb, &list_verb,   &make_verb, &render_verb, &rerender_verb,
-    &play_verb,  &verify_verb, &info_verb, &chart_verb,
+    &play_verb,  &verify_verb, &info_verb, &peaks_verb,  &chart_verb,
 };
 
 static void put_usage(FILE *out) {

@@ -99,7 +99,7 @@ static void tell_wav(FILE *out, const char *path, const struct render *r) {
 
 /* What goes into a pipe is told beside it. */
 static void tell(const struct render *r) {
-    size_t entries = r->sound.words / GAV_STATE_WORDS;
+    size_t entries = r->sound.sections;
     FILE *out = is_pipe(r) ? stderr : stdout;
     tell_wav(out, is_pipe(r) ? "standard output" : r->wav_path, r);
     tell_unheard(out, r->score_path, &r->about.score, r->about.samples, r->about.settings.rate);
@@ -133,7 +133,7 @@ const struct verb render_verb = {
             "An export, by --bits 16 or 24 or by --gain, is for other programs: it has no shelf, since a re-render\n"
             "would go on without its rounding or its gain.\n"
             "  -o OUT.wav       the WAV: one channel; - for standard output: desk render SCORE -o - | aplay\n"
-            "  --shelf FILE     what `desk rerender` needs beside the WAV: states, settings, length and score\n"
+            "  --shelf FILE     what `desk rerender` needs beside the WAV: states, peaks, settings, length and score\n"
             "  --bits 32|64     floats of so many bits (32)\n"
             "  --bits 16|24     an export: whole numbers, rounded to the nearest; what is above 1 is clipped\n"
             "  --gain DB        an export: louder, or softer where DB is below 0; -200 to 200 dB\n",

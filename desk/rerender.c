@@ -1,6 +1,7 @@
 /* The verb rerender: an edited score into the WAV and the shelf of the old one. */
 #include "desk.h"
 
+#include <math.h>
 #include <stdlib.h>
 
 /* The files as they were read, and the shelf as it will be. foreign: how many of the sections rendered again were of
@@ -54,23 +55,47 @@ static bool rerender_sound(struct rerender *r, struct why *why) {
     return accepted(said, &asked, why);
 }
 
-/* Every section that is not rendered again must have the shelf's sum: those before the first that is, or all where none
-   is. */
-static bool rest_is_kept(const struct rerender *r, struct why *why) {
+static bool has_sum(const struct rerender *r, size_t section) {
+    return section_sum(&r->wav, r->wav_file.at, section) == shelf_sum(r->shelf_file.at, section);
+}
+
+/* Whether the WAV has the shelf's peak of a section. Where it has 32 bits, rounded, an earlier sample may have become
+   as large. */
+static bool has_peak(const struct rerender *r, size_t section) {
+    double values[GAV_SECTION];
+    size_t first = section * GAV_SECTION, samples = section_end(r->wav.samples, section) - first;
+    struct peak kept = shelf_peak(r->shelf_file.at, section);
+    wav_values(&r->wav, r->wav_file.at, first, samples, values);
+    struct peak found = peak_of(values, samples);
+    double level = r->wav.bits == 32 ? (float)kept.level : kept.level;
+    bool stands = level == found.level && fabs(values[kept.at - first]) == found.level;
+    return stands && (r->wav.bits == 32 || kept.at == first + found.at);
+}
+
+/* Refuses where a section that is not rendered again is not as it should be: those before the first that is, or all
+   where none is. The words are about the samples of the first such section. */
+static bool all_stay(const struct rerender *r, bool (*is_kept)(const struct rerender *, size_t), const char *words,
+                     struct why *why) {
     size_t from = r->about.samples - r->count, stay = (from + GAV_SECTION - 1) / GAV_SECTION, differ = 0, first = 0;
     for (size_t i = stay; i-- > 0;) {
-        if (section_sum(&r->wav, r->wav_file.at, i) == shelf_sum(r->shelf_file.at, i)) continue;
+        if (is_kept(r, i)) continue;
         differ++;
         first = i;
     }
     if (differ == 0) return true;
-    const char *words = counted(stay, "section that a re-render would leave as it is",
+    const char *which = counted(stay, "section that a re-render would leave as it is",
                                 "sections that a re-render would leave as they are");
-    return refuse(why,
-                  "samples %zu to %zu of %s are not what %s was made with; of %zu %s, %zu %s; nothing is written: "
-                  "render again with `desk render`",
-                  first * GAV_SECTION, section_end(r->wav.samples, first) - 1, r->wav_path, r->shelf_path, stay, words,
-                  differ, counted(differ, "differs", "differ"));
+    return refuse(
+        why,
+        "samples %zu to %zu of %s are not what %s %s; of %zu %s, %zu %s; nothing is written: render again with "
+        "`desk render`",
+        first * GAV_SECTION, section_end(r->wav.samples, first) - 1, r->wav_path, r->shelf_path, words, stay, which,
+        differ, counted(differ, "differs", "differ"));
+}
+
+/* Sums first, so that the peaks of another sound's samples are not asked for. */
+static bool rest_is_kept(const struct rerender *r, struct why *why) {
+    return all_stay(r, has_sum, "was made with", why) && all_stay(r, has_peak, "has the peaks of", why);
 }
 
 /* Writes the new samples of a section; whether the samples there were of another sound. */
@@ -86,7 +111,7 @@ static bool make_wav(struct rerender *r, struct why *why) {
     size_t first = (r->about.samples - r->count) / GAV_SECTION;
     r->wav_file.len = wav_without_peak(r->wav_file.at, r->wav_file.len);
     if (!wav_look(r->wav_file.at, r->wav_file.len, &r->wav, why)) return preface(why, "%s: ", r->wav_path);
-    for (size_t i = first; i < sections_of(r->wav.samples); i++) r->foreign += replace_section(r, i);
+    for (size_t i = first; i < r->sound.sections; i++) r->foreign += replace_section(r, i);
     return true;
 }
 
@@ -101,7 +126,7 @@ static bool write_files(struct rerender *r, struct why *why) {
 }
 
 static void tell_foreign(const struct rerender *r) {
-    size_t sections = sections_of(r->about.samples) - (r->about.samples - r->count) / GAV_SECTION;
+    size_t sections = r->sound.sections - (r->about.samples - r->count) / GAV_SECTION;
     if (r->foreign == 0) return;
     printf("%s: %zu of %zu %s rendered again %s of another sound; %s the new score's now\n", r->wav_path, r->foreign,
            sections, counted(sections, "section", "sections"), counted(r->foreign, "was", "were"),
@@ -163,10 +188,10 @@ const struct verb rerender_verb = {
         "desk rerender NEW OUT.wav --shelf FILE\n"
         "Brings OUT.wav and the shelf from the score that the shelf is of to the score NEW. A section is 4096\n"
         "samples, counted from sample zero. Only the section that holds the first changed record and those after it\n"
-        "are rendered again; those before it stay as they came, and are compared with the shelf's sums of them. So\n"
-        "both files are then what a render of NEW from sample zero with the shelf's settings and length gives. The\n"
-        "length stays: records of NEW at or past the end are not heard, and are told. NEW may be - for standard\n"
-        "input.\n"
+        "are rendered again; those before it stay as they came, and are compared with the shelf's sums and peaks of\n"
+        "them. So both files are then what a render of NEW from sample zero with the shelf's settings and length\n"
+        "gives. The length stays: records of NEW at or past the end are not heard, and are told. NEW may be - for\n"
+        "standard input.\n"
         "A shelf that is damaged, or of another length, rate or bits than the WAV, is named, and nothing is written.\n"
         "A WAV that is not the shelf's is named where it differs in a section that stays, and nothing is written; a\n"
         "section that is rendered again is told where it was of another sound. Chunks of other programs stay, but for\n"

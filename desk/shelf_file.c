@@ -2,32 +2,33 @@
    bytes, low byte first:
 
        0        "GAVSHELF"
-       1        the version of this file, 5: in version 4 there was no setting for joined notes, and in version 3 an on
-                with velocity 0 struck its key
+       1        the version of this file, 6: in version 5 there were no peaks, in version 4 there was no setting for
+                joined notes, and in version 3 an on with velocity 0 struck its key
        2        the version of the voice
        3        N, the samples of the sound
        4        bits of a sample in the WAV, 32 or 64
        5        bytes of the score
        6        words of an entry
-       7        words beside an entry, 1
+       7        words beside an entry, 3
        8 to 31  the settings, each at the word that settings.c gives it; the others are 0
-       32 ..    for each section (4,096 samples, the last perhaps fewer): the entry, then the sum of the section's bytes
-                in the WAV
+       32 ..    for each section (4,096 samples, the last perhaps fewer): the entry; the sum of the section's bytes in
+                the WAV; the section's peak, a magnitude (a float) and the number of the first sample where it stands
        then     the score, and zeros to a whole word
        last     the sum of all the bytes before it, which shows damage */
 #include "desk.h"
 
+#include <math.h>
 #include <stdlib.h>
 #include <string.h>
 
 enum word { MAGIC, VERSION, VOICE, SAMPLES, BITS, SCORE_LEN, ENTRY_WORDS, BESIDE_WORDS };
+/* The words of a section: the entry, then these. */
+enum beside { SUM = GAV_STATE_WORDS, MAGNITUDE, NUMBER };
 
 #define HEAD (8u * SHELF_HEAD_WORDS)
 #define SECTION_WORDS (GAV_STATE_WORDS + SHELF_BESIDE_WORDS)
 
 static const char magic[] = "GAVSHELF";
-
-size_t sections_of(size_t samples) { return gav_shelf_words(samples) / GAV_STATE_WORDS; }
 
 size_t section_end(size_t samples, size_t section) {
     size_t first = section * GAV_SECTION;
@@ -37,7 +38,11 @@ size_t section_end(size_t samples, size_t section) {
 /* The byte at which a section's words begin, and that of the score. */
 static size_t section_at(size_t section) { return HEAD + 8 * SECTION_WORDS * section; }
 
-static size_t score_at(size_t samples) { return section_at(sections_of(samples)); }
+static uint64_t section_word(const uint8_t *file, size_t section, size_t word) {
+    return get_u64(file + section_at(section) + 8 * word);
+}
+
+static size_t score_at(size_t samples) { return section_at(gav_sections(samples)); }
 
 /* The bytes of the whole file. */
 static size_t file_len(size_t samples, size_t score_len) { return score_at(samples) + (score_len + 7) / 8 * 8 + 8; }
@@ -47,8 +52,11 @@ uint64_t section_sum(const struct wav *wav, const uint8_t *file, size_t section)
     return sum_of(file + wav->data + frame * first, frame * (section_end(wav->samples, section) - first));
 }
 
-uint64_t shelf_sum(const uint8_t *file, size_t section) {
-    return get_u64(file + section_at(section) + 8 * GAV_STATE_WORDS);
+uint64_t shelf_sum(const uint8_t *file, size_t section) { return section_word(file, section, SUM); }
+
+struct peak shelf_peak(const uint8_t *file, size_t section) {
+    return (struct peak){.level = from_bits(section_word(file, section, MAGNITUDE)),
+                         .at = (size_t)section_word(file, section, NUMBER)};
 }
 
 static void put_head(uint8_t *head, const struct shelf_file *about) {
@@ -63,9 +71,11 @@ static void put_head(uint8_t *head, const struct shelf_file *about) {
     put_setting_words(head, &about->settings);
 }
 
-static void put_section(uint8_t *at, const uint64_t *entry, uint64_t sum) {
-    for (size_t i = 0; i < GAV_STATE_WORDS; i++) put_u64(at + 8 * i, entry[i]);
-    put_u64(at + 8 * GAV_STATE_WORDS, sum);
+static void put_section(uint8_t *at, const struct sound *sound, size_t section, uint64_t sum) {
+    for (size_t i = 0; i < GAV_STATE_WORDS; i++) put_u64(at + 8 * i, sound->shelf[GAV_STATE_WORDS * section + i]);
+    put_u64(at + 8 * SUM, sum);
+    put_u64(at + 8 * MAGNITUDE, bits_of(sound->magnitudes[section]));
+    put_u64(at + 8 * NUMBER, sound->numbers[section]);
 }
 
 bool shelf_bytes(const struct shelf_file *about, const struct sound *sound, const struct wav *wav,
@@ -74,8 +84,8 @@ bool shelf_bytes(const struct shelf_file *about, const struct sound *sound, cons
     *file = (struct bytes){.at = calloc(len, 1), .len = len};
     if (!file->at) return refuse(why, "no memory for %zu bytes", len);
     put_head(file->at, about);
-    for (size_t i = 0; i < sections_of(about->samples); i++) {
-        put_section(file->at + section_at(i), sound->shelf + GAV_STATE_WORDS * i, section_sum(wav, wav_file, i));
+    for (size_t i = 0; i < sound->sections; i++) {
+        put_section(file->at + section_at(i), sound, i, section_sum(wav, wav_file, i));
     }
     memcpy(file->at + score_at(about->samples), about->score.at, about->score.len);
     put_u64(file->at + len - 8, sum_of(file->at, len - 8));
@@ -131,16 +141,32 @@ static bool look_at_sizes(const uint8_t *file, size_t len, struct shelf_file *ab
     return true;
 }
 
+/* A peak is a number, not below +0, at a sample of its own section. */
+static bool look_at_peaks(const uint8_t *file, size_t samples, struct why *why) {
+    for (size_t i = 0; i < gav_sections(samples); i++) {
+        uint64_t at = section_word(file, i, NUMBER);
+        double level = shelf_peak(file, i).level;
+        if (isfinite(level) && !signbit(level) && at / GAV_SECTION == i && at < samples) continue;
+        return refuse(why, "it is damaged: a peak of %.17g at sample %llu cannot be, of samples %zu to %zu", level,
+                      (unsigned long long)at, i * GAV_SECTION, section_end(samples, i) - 1);
+    }
+    return true;
+}
+
 bool shelf_look(const uint8_t *file, size_t len, struct shelf_file *about, struct why *why) {
     if (!look_at_heads(file, len, why) || !look_at_sizes(file, len, about, why)) return false;
-    if (!get_setting_words(file, &about->settings, why)) return false;
+    if (!get_setting_words(file, &about->settings, why) || !look_at_peaks(file, about->samples, why)) return false;
     memcpy(about->score.at, file + score_at(about->samples), about->score.len);
     return check_score(NULL, &about->score, why) ? true : preface(why, "it is damaged: its score is ");
 }
 
 void shelf_words(const uint8_t *file, struct sound *sound) {
     for (size_t i = 0; i < sound->words; i++) {
-        size_t section = i / GAV_STATE_WORDS, word = i % GAV_STATE_WORDS;
-        sound->shelf[i] = get_u64(file + section_at(section) + 8 * word);
+        sound->shelf[i] = section_word(file, i / GAV_STATE_WORDS, i % GAV_STATE_WORDS);
+    }
+    for (size_t i = 0; i < sound->sections; i++) {
+        struct peak peak = shelf_peak(file, i);
+        sound->magnitudes[i] = peak.level;
+        sound->numbers[i] = peak.at;
     }
 }

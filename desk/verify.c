@@ -98,7 +98,7 @@ static size_t part_at(const struct score *one, const struct score *other) {
 /* Tells of the first entry that is not the render's, and how many are not. */
 static void tell_entries(struct found *f, const uint64_t *kept) {
     const struct from_zero *z = &f->beside;
-    size_t differ = 0, first = 0, entries = z->zero.words / GAV_STATE_WORDS;
+    size_t differ = 0, first = 0, entries = z->zero.sections;
     for (size_t i = entries; i-- > 0;) {
         size_t at = i * GAV_STATE_WORDS;
         if (memcmp(kept + at, z->zero.shelf + at, 8 * GAV_STATE_WORDS) == 0) continue;
@@ -110,10 +110,28 @@ static void tell_entries(struct found *f, const uint64_t *kept) {
                z->shelf_path, differ, entries, first, first * GAV_SECTION);
 }
 
+/* Tells of the first section whose peak is not the render's, and how many are not. */
+static void tell_peaks(struct found *f) {
+    const struct from_zero *z = &f->beside;
+    size_t differ = 0, first = 0, sections = z->zero.sections;
+    for (size_t i = sections; i-- > 0;) {
+        struct peak kept = shelf_peak(z->shelf.at, i);
+        if (bits_of(kept.level) == bits_of(z->zero.magnitudes[i]) && kept.at == z->zero.numbers[i]) continue;
+        differ++;
+        first = i;
+    }
+    if (differ == 0) return;
+    struct peak kept = shelf_peak(z->shelf.at, first);
+    TELL_WRONG(f, "%s has other peaks than the score's: %zu of %zu differ, the first is that of samples %zu to %zu",
+               z->shelf_path, differ, sections, first * GAV_SECTION, section_end(z->zero.samples, first) - 1);
+    printf("%s: its peak there is %.17g at sample %zu, and the render's is %.17g at sample %llu\n", z->shelf_path,
+           kept.level, kept.at, z->zero.magnitudes[first], (unsigned long long)z->zero.numbers[first]);
+}
+
 /* Tells of the first section whose bytes in the WAV are not those of the shelf's sum. */
 static void tell_sums(struct found *f) {
     const struct from_zero *z = &f->beside;
-    size_t differ = 0, first = 0, sections = z->zero.words / GAV_STATE_WORDS;
+    size_t differ = 0, first = 0, sections = z->zero.sections;
     if (z->wav.samples != z->about.samples || z->wav.bits != z->about.bits) return;
     for (size_t i = sections; i-- > 0;) {
         if (shelf_sum(z->shelf.at, i) == section_sum(&z->wav, z->file.at, i)) continue;
@@ -122,7 +140,8 @@ static void tell_sums(struct found *f) {
     }
     if (differ == 0) return;
     TELL_WRONG(f, "%s is of another WAV than %s: %zu of %zu sums differ, the first is that of samples %zu to %zu",
-               z->shelf_path, z->wav_path, differ, sections, first * GAV_SECTION, section_end(z->wav.samples, first) - 1);
+               z->shelf_path, z->wav_path, differ, sections, first * GAV_SECTION,
+               section_end(z->wav.samples, first) - 1);
 }
 
 static bool tell_shelf(struct found *f, struct why *why) {
@@ -137,6 +156,7 @@ static bool tell_shelf(struct found *f, struct why *why) {
     }
     shelf_words(z->shelf.at, &kept);
     tell_entries(f, kept.shelf);
+    tell_peaks(f);
     tell_sums(f);
     free(kept.shelf);
     return true;
@@ -151,7 +171,7 @@ static bool tell_summary(const struct found *f, struct why *why) {
         return refuse(why, "%s%s%s: not what a render of %s gives", z->wav_path, z->shelf_path ? ", " : "",
                       z->shelf_path ? z->shelf_path : "", z->score_path);
     }
-    size_t entries = z->zero.words / GAV_STATE_WORDS;
+    size_t entries = z->zero.sections;
     printf("same: %s is the score's: %zu %s", z->wav_path, f->common, counted(f->common, "sample", "samples"));
     if (z->shelf_path)
         printf(", and %s its shelf: %zu %s", z->shelf_path, entries, counted(entries, "entry", "entries"));
@@ -186,8 +206,9 @@ const struct verb verify_verb = {
     .summary = "says whether a WAV is its score's, rendered from sample zero, and what differs",
     .help = "desk verify SCORE OUT.wav [--shelf FILE] [options]\n"
             "Renders the score from sample zero, beside the files, and compares every sample as the WAV holds it,\n"
-            "bit for bit; with --shelf also every entry, the shelf's score, and its sums of the WAV. Nothing is\n"
-            "written. Settings and length are the shelf's; without --shelf the options', with the WAV's own rate\n"
+            "bit for bit; with --shelf also every entry, every peak, the shelf's score, and its sums of the WAV.\n"
+            "Nothing is written. Settings and length are the shelf's; without --shelf the options', with the WAV's own "
+            "rate\n"
             "and length. An export (--bits 16 or 24, --gain) is not compared. What differs is told line by line on\n"
             "standard output. The last line there is, for scripts, one of\n"
             "  same: OUT.wav is the score's: N samples\n"
@@ -200,6 +221,7 @@ const struct verb verify_verb = {
             "  differs: OUT.wav is not the score's: N of N samples differ, the first at sample I (S s), LEVEL\n"
             "  differs: FILE is of another score than SCORE: they part at record I\n"
             "  differs: FILE is not the score's shelf: N of N entries differ, the first is entry I, before sample I\n"
+            "  differs: FILE has other peaks than the score's: N of N differ, the first is that of samples I to I\n"
             "  differs: FILE is of another WAV than OUT.wav: N of N sums differ, the first is that of samples I to I\n"
             "where LEVEL is `level off by N %`, `the render is silent there`, or `no level: ..` and why.\n"
             "Status 1 without such a line: it could not be compared, and why.\n"

@@ -4,21 +4,25 @@
 #include <stdlib.h>
 #include <string.h>
 
-/* Zeros for the samples and the shelf. At most GAV_MOST_SAMPLES + 1 are asked for, which the library refuses. */
+/* Zeros for all of it. At most GAV_MOST_SAMPLES + 1 samples are asked for, which the library refuses. */
 bool sound_make(struct sound *sound, size_t samples, struct why *why) {
-    size_t words = gav_shelf_words(samples);
-    *sound = (struct sound){.samples = samples, .words = words};
+    size_t words = gav_shelf_words(samples), sections = gav_sections(samples);
+    *sound = (struct sound){.samples = samples, .words = words, .sections = sections};
     sound->at = calloc(samples + 1, sizeof *sound->at);
     sound->shelf = calloc(words + 1, sizeof *sound->shelf);
-    if (sound->at && sound->shelf) return true;
+    sound->magnitudes = calloc(sections + 1, sizeof *sound->magnitudes);
+    sound->numbers = calloc(sections + 1, sizeof *sound->numbers);
+    if (sound->at && sound->shelf && sound->magnitudes && sound->numbers) return true;
     sound_free(sound);
     return refuse(why, "no memory for %zu %s (%zu bytes)", samples, counted(samples, "sample", "samples"),
-                  8 * (samples + words));
+                  8 * (samples + words + 2 * sections));
 }
 
 void sound_free(struct sound *sound) {
     free(sound->at);
     free(sound->shelf);
+    free(sound->magnitudes);
+    free(sound->numbers);
     *sound = (struct sound){.at = NULL};
 }
 
@@ -29,13 +33,14 @@ struct state voice_fresh(void) {
 }
 
 uint64_t voice_render(const struct gav_settings *s, const struct score *score, struct sound *sound) {
-    return gav_render_with(s, score->at, score->len, sound->at, sound->samples, sound->shelf, sound->words);
+    return gav_render_with(s, score->at, score->len, sound->at, sound->samples, sound->shelf, sound->words,
+                           sound->magnitudes, sound->sections, sound->numbers, sound->sections);
 }
 
 uint64_t voice_rerender(const struct gav_settings *s, const struct score *before, const struct score *after,
                         struct sound *sound) {
     return gav_rerender_with(s, before->at, before->len, after->at, after->len, sound->at, sound->samples, sound->shelf,
-                             sound->words);
+                             sound->words, sound->magnitudes, sound->sections, sound->numbers, sound->sections);
 }
 
 uint64_t voice_continue(const struct gav_settings *s, const struct score *score, struct state *state, size_t position,

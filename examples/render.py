@@ -11,7 +11,7 @@ import ctypes
 import os
 import sys
 
-VERSION, SECTION, STATE_WORDS = 3, 4096, 13  # GAV_VERSION, GAV_SECTION and GAV_STATE_WORDS of gavberin.h
+VERSION, SECTION, STATE_WORDS = 4, 4096, 13  # GAV_VERSION, GAV_SECTION and GAV_STATE_WORDS of gavberin.h
 WHOLE, NUMBER = ctypes.c_uint32, ctypes.c_double
 
 # The settings in gav_render's order, each with its type and what GAV_SETTINGS_DEFAULT has.
@@ -34,30 +34,33 @@ library = ctypes.CDLL(os.environ.get("GAVBERIN_SO", f"libgavberin.so.{VERSION}")
 library.gav_version.restype = ctypes.c_uint32
 library.gav_words.argtypes = [ctypes.c_uint64]
 library.gav_words.restype = ctypes.c_char_p
-library.gav_render.argtypes = [kind for kind, _ in SETTINGS.values()] + [ctypes.c_void_p, ctypes.c_size_t] * 3
+library.gav_render.argtypes = [kind for kind, _ in SETTINGS.values()] + [ctypes.c_void_p, ctypes.c_size_t] * 5
 library.gav_render.restype = ctypes.c_uint64
 
 
 def render(score, n, **given):
-    """The samples of a score, and the words of their shelf. Settings are given by name, as lfo_depth=1."""
-    out = (ctypes.c_double * n)()
-    shelf = (ctypes.c_uint64 * (-(-n // SECTION) * STATE_WORDS))()
+    """The samples of a score, the words of their shelf, and, of each section, the peak and the sample where it stands.
+    Settings are given by name, as lfo_depth=1."""
+    sections = -(-n // SECTION)
+    out, magnitudes = (ctypes.c_double * n)(), (ctypes.c_double * sections)()
+    shelf, numbers = (ctypes.c_uint64 * (sections * STATE_WORDS))(), (ctypes.c_uint64 * sections)()
     settings = {name: value for name, (_, value) in SETTINGS.items()}
     if given.keys() - settings.keys():
         raise TypeError(f"no setting: {', '.join(given.keys() - settings.keys())}")
     settings.update(given)
-    said = library.gav_render(*settings.values(), score, len(score), out, len(out), shelf, len(shelf))
+    lent = (word for buffer in (score, out, shelf, magnitudes, numbers) for word in (buffer, len(buffer)))
+    said = library.gav_render(*settings.values(), *lent)
     number, place = said & 0xFF, said >> 8 & 0xFFFFFF
     if number:
         raise ValueError(f"refused {number} at place {place}: {library.gav_words(said).decode()}")
-    return out, shelf
+    return out, shelf, magnitudes, numbers
 
 
 if __name__ == "__main__":
     if library.gav_version() != VERSION:
         sys.exit(f"render.py is written for version {VERSION} of the library, and this is {library.gav_version()}")
     try:
-        samples, _ = render(sys.stdin.buffer.read(), int(sys.argv[1]))
+        samples = render(sys.stdin.buffer.read(), int(sys.argv[1]))[0]
     except ValueError as wrong:
         sys.exit(f"render.py: {wrong}")
     sys.stdout.buffer.write(samples)

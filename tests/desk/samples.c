@@ -1,6 +1,6 @@
 /* What the library renders, for comparing: samples SETTING.. N <SCORE
-   The settings are those of struct gav_settings, in its order. Writes the answer, N samples and the shelf's words to
-   standard output, 8 bytes each as this machine has them. */
+   The settings are those of struct gav_settings, in its order. Writes the answer, N samples, the shelf's words, and
+   the magnitudes and the numbers of the peaks to standard output, 8 bytes each as this machine has them. */
 #include "gavberin.h"
 
 #include <stdio.h>
@@ -27,15 +27,20 @@ int main(int argc, char **argv) {
         .joined = whole(argv[12]),
     };
     size_t len = fread(score, 1, sizeof score, stdin);
-    size_t n = strtoul(argv[13], NULL, 10), words = (n + 4095) / 4096 * GAV_STATE_WORDS;
-    double *out = calloc(n + 1, sizeof *out);
-    uint64_t *shelf = calloc(words + 1, sizeof *shelf);
-    if (!out || !shelf) return 1;
-    uint64_t said = gav_render_with(&settings, score, len, out, n, shelf, words);
+    size_t n = strtoul(argv[13], NULL, 10), sections = (n + 4095) / 4096, words = sections * GAV_STATE_WORDS;
+    double *out = calloc(n + 1, sizeof *out), *magnitudes = calloc(sections + 1, sizeof *magnitudes);
+    uint64_t *shelf = calloc(words + 1, sizeof *shelf), *numbers = calloc(sections + 1, sizeof *numbers);
+    if (!out || !shelf || !magnitudes || !numbers) return 1;
+    uint64_t said =
+        gav_render_with(&settings, score, len, out, n, shelf, words, magnitudes, sections, numbers, sections);
     fwrite(&said, sizeof said, 1, stdout);
     fwrite(out, sizeof *out, n, stdout);
     fwrite(shelf, sizeof *shelf, words, stdout);
+    fwrite(magnitudes, sizeof *magnitudes, sections, stdout);
+    fwrite(numbers, sizeof *numbers, sections, stdout);
     free(out);
+    free(magnitudes);
     free(shelf);
+    free(numbers);
     return fflush(stdout) == 0 ? 0 : 1;
 }
