@@ -5,14 +5,27 @@
 #include <stdio.h>
 #include <stdlib.h>
 
-static uint64_t *shelf, *plain_shelf;
+/* What a call is lent beside its samples. */
+struct beside {
+    uint64_t *shelf, *numbers;
+    double *magnitudes;
+};
 
-void library_prepare(size_t samples) {
-    shelf = calloc(gav_shelf_words(samples) + 1, sizeof *shelf);
-    plain_shelf = calloc(gav_shelf_words(samples) + 1, sizeof *plain_shelf);
-    if (shelf && plain_shelf) return;
+static struct beside ours, plain;
+
+static struct beside make_beside(size_t samples) {
+    const size_t sections = gav_sections(samples) + 1;
+    struct beside made = {.shelf = calloc(sections * GAV_STATE_WORDS, sizeof *made.shelf),
+                          .numbers = calloc(sections, sizeof *made.numbers),
+                          .magnitudes = calloc(sections, sizeof *made.magnitudes)};
+    if (made.shelf && made.numbers && made.magnitudes) return made;
     fputs("bench: no memory\n", stderr);
     exit(2);
+}
+
+void library_prepare(size_t samples) {
+    ours = make_beside(samples);
+    plain = make_beside(samples);
 }
 
 static size_t done(uint64_t said) {
@@ -22,11 +35,15 @@ static size_t done(uint64_t said) {
 }
 
 void ours_render(const struct gav_settings *s, const struct score *score, double *out, size_t n) {
-    done(gav_render_with(s, score->bytes, score->len, out, n, shelf, gav_shelf_words(n)));
+    const size_t sections = gav_sections(n);
+    done(gav_render_with(s, score->bytes, score->len, out, n, ours.shelf, gav_shelf_words(n), ours.magnitudes, sections,
+                         ours.numbers, sections));
 }
 
 void plain_render(const struct gav_settings *s, const struct score *score, double *out, size_t n) {
-    done(reference_render(s, score->bytes, score->len, out, n, plain_shelf, gav_shelf_words(n)));
+    const size_t sections = gav_sections(n);
+    done(reference_render(s, score->bytes, score->len, out, n, plain.shelf, gav_shelf_words(n), plain.magnitudes,
+                          sections, plain.numbers, sections));
 }
 
 void ours_continue(const struct gav_settings *s, const struct score *score, double *out, size_t n, size_t part) {
@@ -40,11 +57,13 @@ void ours_continue(const struct gav_settings *s, const struct score *score, doub
 
 void ours_from(const struct gav_settings *s, const struct score *score, double *out, size_t n, size_t from) {
     uint64_t state[GAV_STATE_WORDS];
-    memcpy(state, shelf + from / GAV_SECTION * GAV_STATE_WORDS, sizeof state);
+    memcpy(state, ours.shelf + from / GAV_SECTION * GAV_STATE_WORDS, sizeof state);
     done(gav_continue_with(s, score->bytes, score->len, state, GAV_STATE_WORDS, from, out + from, n - from));
 }
 
 size_t ours_rerender(const struct gav_settings *s, const struct score *old, const struct score *new_, double *out,
                      size_t n) {
-    return done(gav_rerender_with(s, old->bytes, old->len, new_->bytes, new_->len, out, n, shelf, gav_shelf_words(n)));
+    const size_t sections = gav_sections(n);
+    return done(gav_rerender_with(s, old->bytes, old->len, new_->bytes, new_->len, out, n, ours.shelf,
+                                  gav_shelf_words(n), ours.magnitudes, sections, ours.numbers, sections));
 }

@@ -21,6 +21,8 @@ static unsigned char *entered;
 
 static double out[GAV_MOST_SAMPLES];
 static uint64_t shelf[GAV_MOST_SAMPLES / GAV_SECTION * GAV_STATE_WORDS], state[GAV_STATE_WORDS];
+static double magnitudes[GAV_MOST_SAMPLES / GAV_SECTION];
+static uint64_t numbers[GAV_MOST_SAMPLES / GAV_SECTION];
 static uint8_t score[10 * RECORDS], edited[10 * RECORDS], text[GAV_LIST_ROOM];
 static struct gav_settings settings = GAV_SETTINGS_DEFAULT;
 
@@ -59,7 +61,8 @@ static uint64_t sample_refused(void) {
 
 static uint64_t render_of(uint32_t code, size_t n) {
     settings.code = code;
-    return gav_render_with(&settings, score, sizeof score, out, n, shelf, gav_shelf_words(n));
+    return gav_render_with(&settings, score, sizeof score, out, n, shelf, gav_shelf_words(n), magnitudes,
+                           gav_sections(n), numbers, gav_sections(n));
 }
 /* With a tremolo; the other calls have none. */
 static uint64_t tremolo_of(uint32_t code, uint32_t lfo_code, uint64_t (*make)(uint32_t)) {
@@ -96,10 +99,15 @@ static uint64_t render_triangle(void) { return render_of(GAV_TRIANGLE, N); }
 static uint64_t render_rounded(void) { return render_of(GAV_ROUNDED_TRIANGLE, N); }
 static uint64_t render_pulse(void) { return render_of(GAV_PULSE, N); }
 static uint64_t render_refused(void) { return render_of(GAV_PULSE + 1, N); }
+static uint64_t summary_refused(void) {
+    return gav_render_with(&settings, score, sizeof score, out, N, shelf, gav_shelf_words(N), magnitudes,
+                           gav_sections(N), numbers, gav_sections(N) - 1);
+}
 
 /* After a render of the pulse. The edit is in the last record, which lies before N. */
 static uint64_t rerender_of(const uint8_t *old, const uint8_t *new_, size_t new_len) {
-    return gav_rerender_with(&settings, old, sizeof score, new_, new_len, out, N, shelf, gav_shelf_words(N));
+    return gav_rerender_with(&settings, old, sizeof score, new_, new_len, out, N, shelf, gav_shelf_words(N), magnitudes,
+                             gav_sections(N), numbers, gav_sections(N));
 }
 static uint64_t rerender_late(void) { return rerender_of(score, edited, sizeof edited); }
 static uint64_t rerender_all(void) { return rerender_of(edited, score, 0); }
@@ -176,6 +184,7 @@ static const struct call calls[] = {
     {"gav_render, a refused keying", keying_refused, GAV_SETTING},
     {"gav_render, refused", render_refused, GAV_SETTING},
     {"gav_render, pulse", render_pulse, 0},
+    {"gav_render, a refused summary", summary_refused, GAV_SIZE},
     {"gav_rerender, the last record", rerender_late, 0},
     {"gav_rerender, into no record", rerender_all, 0},
     {"gav_rerender, equal scores", rerender_equal, 0},

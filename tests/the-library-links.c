@@ -16,6 +16,10 @@
 #define SETTINGS KEYED(GAV_STRUCK)
 #define JOINED KEYED(GAV_JOINED)
 #define WORDS GAV_STATE_WORDS
+#define SECTIONS 2
+#define SUMMARY magnitudes, SECTIONS, numbers, SECTIONS
+#define SUMMARY_BEFORE magnitudes_before, SECTIONS, numbers_before, SECTIONS
+#define SUMMARY_OF_ALL peaks, SECTIONS, places, SECTIONS
 #define LEN(a) (sizeof(a) / sizeof *(a))
 
 #define ON_69 0x56, 0x4E, 0, 0, 0, 0, 1, 69, 127, 0
@@ -37,6 +41,8 @@ static const uint8_t falling[] = {OFF_69_AT_100, ON_69};
 
 static double out[N], out_before[N], played[N], all[N];
 static uint64_t shelf[2 * GAV_STATE_WORDS], shelf_before[LEN(shelf)], entries[LEN(shelf)];
+static double magnitudes[SECTIONS], magnitudes_before[SECTIONS], peaks[SECTIONS];
+static uint64_t numbers[SECTIONS], numbers_before[SECTIONS], places[SECTIONS];
 static uint64_t state[GAV_STATE_WORDS + 1], state_before[LEN(state)];
 static uint8_t text[GAV_LIST_ROOM], text_before[LEN(text)];
 
@@ -77,20 +83,35 @@ static void put_nans(double *at, size_t n) {
     for (size_t i = 0; i < n; i++) put_nan(at + i, i);
 }
 
+static void keep_shelf(void) {
+    memcpy(shelf_before, shelf, sizeof shelf);
+    memcpy(magnitudes_before, magnitudes, sizeof magnitudes);
+    memcpy(numbers_before, numbers, sizeof numbers);
+}
+
 /* Every buffer with a pattern that no call leaves, and a copy of each. */
 static void spoil(void) {
     put_nans(out, N);
+    put_nans(magnitudes, SECTIONS);
     memset(shelf, 0xA5, sizeof shelf);
+    memset(numbers, 0xA5, sizeof numbers);
     memset(state, 0xA5, sizeof state);
     memset(text, '~', sizeof text);
     memcpy(out_before, out, sizeof out);
-    memcpy(shelf_before, shelf, sizeof shelf);
+    keep_shelf();
     memcpy(state_before, state, sizeof state);
     memcpy(text_before, text, sizeof text);
 }
 
+/* Shelf and summary: as they were, and as those of all. */
+static int is_before(void) {
+    return SAME(shelf, shelf_before) && SAME(magnitudes, magnitudes_before) && SAME(numbers, numbers_before);
+}
+
+static int is_of_all(void) { return SAME(shelf, entries) && SAME(magnitudes, peaks) && SAME(numbers, places); }
+
 static int untouched(void) {
-    return SAME(out, out_before) && SAME(shelf, shelf_before) && SAME(state, state_before) && SAME(text, text_before);
+    return SAME(out, out_before) && is_before() && SAME(state, state_before) && SAME(text, text_before);
 }
 
 static void answers(void) {
@@ -104,6 +125,7 @@ static void answers(void) {
         int known = number <= 10 || (number >= 17 && number <= 21);
         HOLD((strcmp(gav_words(number), unknown) != 0) == known);
     }
+    HOLD(gav_sections(0) == 0 && gav_sections(1) == 1 && gav_sections(4096) == 1 && gav_sections(4097) == 2);
     HOLD(gav_shelf_words(0) == 0 && gav_shelf_words(1) == 13 && gav_shelf_words(4096) == 13 && gav_shelf_words(4097) == 26);
 }
 
@@ -134,18 +156,18 @@ static void samples(void) {
 
 static void renders(void) {
     spoil();
-    HOLD(gav_render(7999, GAV_SAWTOOTH, 0.5, ADSR, PLAIN, example, 20, out, N, shelf, 25) == says(6, 0, 0));
-    HOLD(gav_render(RATE, 5, 0.5, ADSR, PLAIN, example, 19, out, N, shelf, 2 * WORDS) == says(6, 0, 0));
-    HOLD(gav_render(RATE, 7, 0.5, ADSR, PLAIN, example, 19, out, N, shelf, 2 * WORDS) == says(6, 0, 0));
-    HOLD(gav_render(RATE, GAV_PULSE, NAN, ADSR, PLAIN, example, 20, out, N, shelf, 2 * WORDS) == says(6, 0, 0));
-    HOLD(gav_render(RATE, GAV_SINE, 0.5, NAN, 0, 0, 0, PLAIN, example, 20, out, N, shelf, 2 * WORDS) == says(6, 0, 0));
-    HOLD(gav_render(SETTINGS, example, 19, out, N, shelf, 2 * WORDS - 1) == says(7, 0, 0));
-    HOLD(gav_render(SETTINGS, example, 19, out, N, shelf, 2 * 12) == says(7, 0, 0));
-    HOLD(gav_render(SETTINGS, wrong_kind, 20, out, N, shelf, 2 * WORDS) == says(3, 1, 0));
+    HOLD(gav_render(7999, GAV_SAWTOOTH, 0.5, ADSR, PLAIN, example, 20, out, N, shelf, 25, SUMMARY) == says(6, 0, 0));
+    HOLD(gav_render(RATE, 5, 0.5, ADSR, PLAIN, example, 19, out, N, shelf, 2 * WORDS, SUMMARY) == says(6, 0, 0));
+    HOLD(gav_render(RATE, 7, 0.5, ADSR, PLAIN, example, 19, out, N, shelf, 2 * WORDS, SUMMARY) == says(6, 0, 0));
+    HOLD(gav_render(RATE, GAV_PULSE, NAN, ADSR, PLAIN, example, 20, out, N, shelf, 2 * WORDS, SUMMARY) == says(6, 0, 0));
+    HOLD(gav_render(RATE, GAV_SINE, 0.5, NAN, 0, 0, 0, PLAIN, example, 20, out, N, shelf, 2 * WORDS, SUMMARY) == says(6, 0, 0));
+    HOLD(gav_render(SETTINGS, example, 19, out, N, shelf, 2 * WORDS - 1, SUMMARY) == says(7, 0, 0));
+    HOLD(gav_render(SETTINGS, example, 19, out, N, shelf, 2 * 12, SUMMARY) == says(7, 0, 0));
+    HOLD(gav_render(SETTINGS, wrong_kind, 20, out, N, shelf, 2 * WORDS, SUMMARY) == says(3, 1, 0));
     HOLD(untouched());
 
-    HOLD(gav_render(SETTINGS, NULL, 0, NULL, 0, NULL, 0) == 0);
-    HOLD(gav_render(SETTINGS, example, 20, out, N, shelf, 2 * WORDS) == says(0, 0, N));
+    HOLD(gav_render(SETTINGS, NULL, 0, NULL, 0, NULL, 0, NULL, 0, NULL, 0) == 0);
+    HOLD(gav_render(SETTINGS, example, 20, out, N, shelf, 2 * WORDS, SUMMARY) == says(0, 0, N));
     /* entry 0 is the fresh state; in entry 1 both records have acted, and the note's pitch and velocity are kept */
     const uint64_t *second = shelf + WORDS;
     HOLD(shelf[0] == 0 && shelf[1] == 0 && shelf[5] == 255 && shelf[6] == bits(440.0) && shelf[7] == 0 && shelf[12] == 0);
@@ -162,45 +184,51 @@ static void rerenders(void) {
     memcpy(played, out, sizeof out);
     put_nans(out, N);
     memcpy(out_before, out, sizeof out);
-    memcpy(shelf_before, shelf, sizeof shelf);
-    HOLD(gav_rerender(SETTINGS, example, 20, example, 20, out, N, shelf, 2 * WORDS) == 0);
-    HOLD(gav_rerender(RATE, 5, 0, ADSR, PLAIN, example, 19, example, 20, out, N, shelf, 2 * WORDS) == says(6, 0, 0));
-    HOLD(gav_rerender(SETTINGS, example, 20, longer, 30, out, N, shelf, WORDS) == says(7, 0, 0));
-    HOLD(gav_rerender(SETTINGS, example, 19, wrong_kind, 20, out, N, shelf, 2 * WORDS) == says(1, 0, 0));
-    HOLD(gav_rerender(SETTINGS, example, 20, wrong_kind, 20, out, N, shelf, 2 * WORDS) == says(19, 1, 0));
-    HOLD(SAME(out, out_before) && SAME(shelf, shelf_before));
+    keep_shelf();
+    HOLD(gav_rerender(SETTINGS, example, 20, example, 20, out, N, shelf, 2 * WORDS, SUMMARY) == 0);
+    HOLD(gav_rerender(RATE, 5, 0, ADSR, PLAIN, example, 19, example, 20, out, N, shelf, 2 * WORDS, SUMMARY) == says(6, 0, 0));
+    HOLD(gav_rerender(SETTINGS, example, 20, longer, 30, out, N, shelf, WORDS, SUMMARY) == says(7, 0, 0));
+    HOLD(gav_rerender(SETTINGS, example, 19, wrong_kind, 20, out, N, shelf, 2 * WORDS, SUMMARY) == says(1, 0, 0));
+    HOLD(gav_rerender(SETTINGS, example, 20, wrong_kind, 20, out, N, shelf, 2 * WORDS, SUMMARY) == says(19, 1, 0));
+    HOLD(SAME(out, out_before) && is_before());
     shelf[WORDS + 1] = 5;
-    HOLD(gav_rerender(SETTINGS, example, 20, longer, 30, out, N, shelf, 2 * WORDS) == says(8, 0, 0));
+    HOLD(gav_rerender(SETTINGS, example, 20, longer, 30, out, N, shelf, 2 * WORDS, SUMMARY) == says(8, 0, 0));
     shelf[WORDS + 1] = 4;
-    HOLD(SAME(out, out_before) && SAME(shelf, shelf_before));
+    HOLD(SAME(out, out_before) && is_before());
     memcpy(out, played, sizeof out);
     memcpy(out_before, played, sizeof out);
 
     /* from section 1 on, sample 4,096, it is the new score's render; what lies before stays, here NaNs of every kind */
+    double strange;
+    put_nan(&strange, 3);
+    put_nan(magnitudes, 3);
+    numbers[0] = 77;
     put_nans(out, GAV_SECTION);
     memcpy(played, out, sizeof out);
-    HOLD(gav_rerender(SETTINGS, example, 20, longer, 30, out, N, shelf, 2 * WORDS) == says(0, 0, N - GAV_SECTION));
+    HOLD(gav_rerender(SETTINGS, example, 20, longer, 30, out, N, shelf, 2 * WORDS, SUMMARY) == says(0, 0, N - GAV_SECTION));
     HOLD(memcmp(out, played, GAV_SECTION * sizeof *out) == 0);
+    HOLD(memcmp(magnitudes, &strange, sizeof strange) == 0 && numbers[0] == 77);
     memcpy(out, out_before, GAV_SECTION * sizeof *out);
-    HOLD(gav_render(SETTINGS, longer, 30, all, N, entries, 2 * WORDS) == says(0, 0, N));
-    HOLD(SAME(out, all) && SAME(shelf, entries));
+    HOLD(gav_render(SETTINGS, longer, 30, all, N, entries, 2 * WORDS, SUMMARY_OF_ALL) == says(0, 0, N));
+    magnitudes[0] = peaks[0], numbers[0] = places[0];
+    HOLD(SAME(out, all) && is_of_all());
     HOLD(!SAME(out, out_before));
 }
 
 /* After rerenders(): out is the render of the longer score. The old score and the new one in one buffer. */
 static void overlaps(void) {
-    HOLD(gav_rerender(SETTINGS, longer, 30, longer, 20, out, N, shelf, 2 * WORDS) == says(0, 0, N - GAV_SECTION));
-    HOLD(SAME(out, out_before) && SAME(shelf, shelf_before));
-    HOLD(gav_rerender(SETTINGS, longer, 20, longer, 20, out, N, shelf, 2 * WORDS) == 0);
-    HOLD(SAME(out, out_before) && SAME(shelf, shelf_before));
-    HOLD(gav_rerender(SETTINGS, longer, 20, longer, 30, out, N, shelf, 2 * WORDS) == says(0, 0, N - GAV_SECTION));
-    HOLD(SAME(out, all) && SAME(shelf, entries));
-    HOLD(gav_rerender(SETTINGS, longer, 30, longer + 1, 20, out, N, shelf, 2 * WORDS) == says(18, 0, 0));
-    HOLD(SAME(out, all) && SAME(shelf, entries));
+    HOLD(gav_rerender(SETTINGS, longer, 30, longer, 20, out, N, shelf, 2 * WORDS, SUMMARY) == says(0, 0, N - GAV_SECTION));
+    HOLD(SAME(out, out_before) && is_before());
+    HOLD(gav_rerender(SETTINGS, longer, 20, longer, 20, out, N, shelf, 2 * WORDS, SUMMARY) == 0);
+    HOLD(SAME(out, out_before) && is_before());
+    HOLD(gav_rerender(SETTINGS, longer, 20, longer, 30, out, N, shelf, 2 * WORDS, SUMMARY) == says(0, 0, N - GAV_SECTION));
+    HOLD(SAME(out, all) && is_of_all());
+    HOLD(gav_rerender(SETTINGS, longer, 30, longer + 1, 20, out, N, shelf, 2 * WORDS, SUMMARY) == says(18, 0, 0));
+    HOLD(SAME(out, all) && is_of_all());
     /* the second record is the first of the new score, so it begins at entry 0 */
-    HOLD(gav_rerender(SETTINGS, longer, 30, longer + 10, 20, out, N, shelf, 2 * WORDS) == says(0, 0, N));
-    HOLD(gav_render(SETTINGS, longer + 10, 20, played, N, shelf_before, 2 * WORDS) == says(0, 0, N));
-    HOLD(SAME(out, played) && SAME(shelf, shelf_before));
+    HOLD(gav_rerender(SETTINGS, longer, 30, longer + 10, 20, out, N, shelf, 2 * WORDS, SUMMARY) == says(0, 0, N));
+    HOLD(gav_render(SETTINGS, longer + 10, 20, played, N, shelf_before, 2 * WORDS, SUMMARY_BEFORE) == says(0, 0, N));
+    HOLD(SAME(out, played) && is_before());
 }
 
 /* The wrappers hand each setting on in its place: pulses of their own duties, settings that all differ, and keys that
@@ -220,16 +248,16 @@ static void wrappers(void) {
     s.lfo_frequency = 7;
     s.lfo_depth = 0.875;
     s.joined = GAV_JOINED;
-    HOLD(gav_render(PULSE, overlapping, 20, out, N, shelf, 2 * WORDS) == says(0, 0, N));
-    HOLD(gav_render_with(&s, overlapping, 20, played, N, shelf_before, 2 * WORDS) == says(0, 0, N));
-    HOLD(SAME(out, played) && SAME(shelf, shelf_before));
+    HOLD(gav_render(PULSE, overlapping, 20, out, N, shelf, 2 * WORDS, SUMMARY) == says(0, 0, N));
+    HOLD(gav_render_with(&s, overlapping, 20, played, N, shelf_before, 2 * WORDS, SUMMARY_BEFORE) == says(0, 0, N));
+    HOLD(SAME(out, played) && is_before());
     const uint64_t done = says(0, 0, N - GAV_SECTION);
-    HOLD(gav_render_with(&s, overlapping, 10, played, N, shelf_before, 2 * WORDS) == says(0, 0, N));
-    HOLD(gav_rerender(PULSE, overlapping, 20, overlapping, 10, out, N, shelf, 2 * WORDS) == done);
-    HOLD(SAME(out, played) && SAME(shelf, shelf_before));
-    HOLD(gav_rerender(PULSE, overlapping, 10, overlapping, 20, out, N, shelf, 2 * WORDS) == done);
-    HOLD(gav_rerender_with(&s, overlapping, 10, overlapping, 20, played, N, shelf_before, 2 * WORDS) == done);
-    HOLD(SAME(out, played) && SAME(shelf, shelf_before));
+    HOLD(gav_render_with(&s, overlapping, 10, played, N, shelf_before, 2 * WORDS, SUMMARY_BEFORE) == says(0, 0, N));
+    HOLD(gav_rerender(PULSE, overlapping, 20, overlapping, 10, out, N, shelf, 2 * WORDS, SUMMARY) == done);
+    HOLD(SAME(out, played) && is_before());
+    HOLD(gav_rerender(PULSE, overlapping, 10, overlapping, 20, out, N, shelf, 2 * WORDS, SUMMARY) == done);
+    HOLD(gav_rerender_with(&s, overlapping, 10, overlapping, 20, played, N, shelf_before, 2 * WORDS, SUMMARY_BEFORE) == done);
+    HOLD(SAME(out, played) && is_before());
     HOLD(gav_fresh(state, WORDS) == 0);
     HOLD(gav_continue_with(&s, overlapping, 20, state, WORDS, 0, played, N) == says(0, 0, N));
     HOLD(SAME(out, played));
@@ -281,7 +309,7 @@ static void tremolo_of(uint32_t code, double duty, double frequency, double dept
     double phase = 0, lfo;
     int right = 1;
     HOLD(gav_render(RATE, GAV_SAWTOOTH, NAN, ADSR, code, duty, frequency, depth, GAV_STRUCK, reset, 40, out, N, shelf,
-                    2 * WORDS) == says(0, 0, N));
+                    2 * WORDS, SUMMARY) == says(0, 0, N));
     for (size_t i = 0; i < N; i++) {
         if (i == GAV_SECTION) HOLD(shelf[WORDS + 12] == bits(phase));
         if (i % 64 == 0 || i == 100 || i == 300 || i == 4500) phase = i == 300 ? 0 : fmod(phase, tau);
@@ -305,7 +333,7 @@ static uint64_t from_phase(uint64_t phase) {
 
 #define SLOW RATE, GAV_SQUARE, NAN, ADSR, GAV_TRIANGLE, NAN, 12.5, 0.9, GAV_STRUCK
 static void tremolos(void) {
-    HOLD(gav_render(SETTINGS, reset, 40, played, N, entries, 2 * WORDS) == says(0, 0, N));
+    HOLD(gav_render(SETTINGS, reset, 40, played, N, entries, 2 * WORDS, SUMMARY_OF_ALL) == says(0, 0, N));
     tremolo_of(GAV_SINE, NAN, 5, 1);
     tremolo_of(GAV_SQUARE, 2, 33.3, 0.5);
     tremolo_of(GAV_SAWTOOTH, NAN, 100, 1);
@@ -322,10 +350,10 @@ static void tremolos(void) {
     HOLD(SAME(out, played));
 
     /* an edit with a tremolo, and parts of any lengths */
-    HOLD(gav_render(SLOW, example, 20, out, N, shelf, 2 * WORDS) == says(0, 0, N));
-    HOLD(gav_rerender(SLOW, example, 20, longer, 30, out, N, shelf, 2 * WORDS) == says(0, 0, N - GAV_SECTION));
-    HOLD(gav_render(SLOW, longer, 30, all, N, entries, 2 * WORDS) == says(0, 0, N));
-    HOLD(SAME(out, all) && SAME(shelf, entries));
+    HOLD(gav_render(SLOW, example, 20, out, N, shelf, 2 * WORDS, SUMMARY) == says(0, 0, N));
+    HOLD(gav_rerender(SLOW, example, 20, longer, 30, out, N, shelf, 2 * WORDS, SUMMARY) == says(0, 0, N - GAV_SECTION));
+    HOLD(gav_render(SLOW, longer, 30, all, N, entries, 2 * WORDS, SUMMARY_OF_ALL) == says(0, 0, N));
+    HOLD(SAME(out, all) && is_of_all());
     HOLD(gav_fresh(state, WORDS) == 0);
     for (size_t at = 0; at < N; at += 250) {
         HOLD(gav_continue(SLOW, longer, 30, state, WORDS, at, played + at, 250) == says(0, 0, 250));
@@ -336,8 +364,8 @@ static void tremolos(void) {
 /* Each of the three calls is 6, before all else: the score, the shelf and the state are wrong too. */
 static int are_six(uint32_t code, double duty, double frequency, double depth, uint32_t joined) {
 #define WRONG RATE, GAV_SAWTOOTH, NAN, ADSR, code, duty, frequency, depth, joined
-    return gav_render(WRONG, example, 19, out, N, shelf, 1) == says(6, 0, 0) &&
-           gav_rerender(WRONG, example, 19, example, 19, out, N, shelf, 1) == says(6, 0, 0) &&
+    return gav_render(WRONG, example, 19, out, N, shelf, 1, SUMMARY) == says(6, 0, 0) &&
+           gav_rerender(WRONG, example, 19, example, 19, out, N, shelf, 1, SUMMARY) == says(6, 0, 0) &&
            gav_continue(WRONG, example, 19, state, 1, UINT64_MAX, out, N) == says(6, 0, 0);
 }
 
@@ -362,10 +390,10 @@ static void refused_tremolos(void) {
     HOLD(from_phase(bits(999.9)) == says(0, 0, 10) && state[12] > bits(1000.0) && state[12] < bits(1001.0));
     HOLD(gav_continue(FAST, NULL, 0, state, WORDS, 11, out, 1) == says(10, 0, 0));
     /* and of the entry that a re-render starts from */
-    HOLD(gav_render(SETTINGS, example, 20, out, N, shelf, 2 * WORDS) == says(0, 0, N));
+    HOLD(gav_render(SETTINGS, example, 20, out, N, shelf, 2 * WORDS, SUMMARY) == says(0, 0, N));
     memcpy(out_before, out, sizeof out);
     shelf[WORDS + 12] = bits(1000.0);
-    HOLD(gav_rerender(SETTINGS, example, 20, longer, 30, out, N, shelf, 2 * WORDS) == says(8, 0, 0));
+    HOLD(gav_rerender(SETTINGS, example, 20, longer, 30, out, N, shelf, 2 * WORDS, SUMMARY) == says(8, 0, 0));
     HOLD(SAME(out, out_before));
 }
 
@@ -447,11 +475,11 @@ static void joined_to_none_held(void) {
 
 /* An edit that joins a key, and parts of any lengths. */
 static void joined_edits(void) {
-    HOLD(gav_render(JOINED, overlapping, 20, all, N, entries, 2 * WORDS) == says(0, 0, N));
-    HOLD(gav_render(JOINED, overlapping, 10, out, N, shelf, 2 * WORDS) == says(0, 0, N));
+    HOLD(gav_render(JOINED, overlapping, 20, all, N, entries, 2 * WORDS, SUMMARY_OF_ALL) == says(0, 0, N));
+    HOLD(gav_render(JOINED, overlapping, 10, out, N, shelf, 2 * WORDS, SUMMARY) == says(0, 0, N));
     HOLD(!SAME(out, all));
-    HOLD(gav_rerender(JOINED, overlapping, 10, overlapping, 20, out, N, shelf, 2 * WORDS) == says(0, 0, 904));
-    HOLD(SAME(out, all) && SAME(shelf, entries));
+    HOLD(gav_rerender(JOINED, overlapping, 10, overlapping, 20, out, N, shelf, 2 * WORDS, SUMMARY) == says(0, 0, 904));
+    HOLD(SAME(out, all) && is_of_all());
     HOLD(gav_fresh(state, WORDS) == 0);
     for (size_t at = 0; at < N; at += 250) {
         HOLD(gav_continue(JOINED, overlapping, 20, state, WORDS, at, played + at, 250) == says(0, 0, 250));
@@ -491,7 +519,7 @@ static void rounded_note(uint32_t rate, uint8_t note, double frequency) {
     const double tau = 6.283185307179586, step = frequency / rate * tau, dt = step * (1 / tau);
     double phase = 0;
     int right = 1;
-    HOLD(gav_render(rate, GAV_ROUNDED_TRIANGLE, 2, 0.001, 0.001, 1, 0.2, PLAIN, key, 10, out, N, shelf, 2 * WORDS) ==
+    HOLD(gav_render(rate, GAV_ROUNDED_TRIANGLE, 2, 0.001, 0.001, 1, 0.2, PLAIN, key, 10, out, N, shelf, 2 * WORDS, SUMMARY) ==
          says(0, 0, N));
     for (size_t i = 0; i < N; i++) {
         if (i % 64 == 0) phase = fmod(phase, tau);
@@ -511,7 +539,6 @@ static void rounded_samples(void) {
     HOLD(gav_sample(GAV_TRIANGLE, 1, 0.25, 0) == -1);
     HOLD(fabs(gav_sample(GAV_ROUNDED_TRIANGLE, 0.5, 0.0202, 0) - 0.9731) < 0.00005);
     HOLD(fabs(gav_sample(GAV_ROUNDED_TRIANGLE, 1, 4, 0) + 2.3229) < 0.00005);
-    /* so a host asks whether the library has it */
     HOLD(gav_sample_says(GAV_ROUNDED_TRIANGLE, 0, 0, 0) == 0);
     HOLD(gav_sample_says(GAV_ROUNDED_TRIANGLE, 1, 4, NAN) == 0);
     HOLD(gav_sample_says(GAV_ROUNDED_TRIANGLE, 1, 4.5, 0) == says(9, 0, 0));
@@ -530,15 +557,102 @@ static void rounded_renders(void) {
     rounded_note(RATE, 105, 3520);
     rounded_note(8000, 117, 7040);
     rounded_note(8000, 127, 12543.85546875);
-    HOLD(gav_render(ROUNDED, example, 20, out, N, shelf, 2 * WORDS) == says(0, 0, N));
-    HOLD(gav_rerender(ROUNDED, example, 20, longer, 30, out, N, shelf, 2 * WORDS) == says(0, 0, N - GAV_SECTION));
-    HOLD(gav_render(ROUNDED, longer, 30, all, N, entries, 2 * WORDS) == says(0, 0, N));
-    HOLD(SAME(out, all) && SAME(shelf, entries));
+    HOLD(gav_render(ROUNDED, example, 20, out, N, shelf, 2 * WORDS, SUMMARY) == says(0, 0, N));
+    HOLD(gav_rerender(ROUNDED, example, 20, longer, 30, out, N, shelf, 2 * WORDS, SUMMARY) == says(0, 0, N - GAV_SECTION));
+    HOLD(gav_render(ROUNDED, longer, 30, all, N, entries, 2 * WORDS, SUMMARY_OF_ALL) == says(0, 0, N));
+    HOLD(SAME(out, all) && is_of_all());
     HOLD(gav_fresh(state, WORDS) == 0);
     for (size_t at = 0; at < N; at += 250) {
         HOLD(gav_continue(ROUNDED, longer, 30, state, WORDS, at, played + at, 250) == says(0, 0, 250));
     }
     HOLD(SAME(played, all));
+}
+
+/* 02's peaks, of samples that lie there: as the document says them, one by one. */
+static int are_peaks(const double *samples, size_t n, const double *m, const uint64_t *at) {
+    int right = 1;
+    for (size_t k = 0; k < gav_sections(n); k++) {
+        size_t first = GAV_SECTION * k, end = n - first < GAV_SECTION ? n : first + GAV_SECTION, where = first;
+        for (size_t i = first; i < end; i++) right &= fabs(samples[i]) <= m[k];
+        while (where < end && bits(fabs(samples[where])) != bits(m[k])) where++;
+        right &= where < end && at[k] == where;
+    }
+    return right;
+}
+
+/* A render of so many samples, over NaNs, whose summary has the length that it must have and is right. */
+static int is_summed_up(const struct gav_settings *s, const uint8_t *score, size_t len, size_t n) {
+    spoil();
+    uint64_t said = gav_render_with(s, score, len, out, n, shelf, gav_shelf_words(n), magnitudes, gav_sections(n),
+                                    numbers, gav_sections(n));
+    int right = said == says(0, 0, (uint32_t)n) && are_peaks(out, n, magnitudes, numbers);
+    /* nothing is written after the last section */
+    for (size_t k = gav_sections(n); k < SECTIONS; k++) {
+        right &= bits(magnitudes[k]) == bits(magnitudes_before[k]) && numbers[k] == numbers_before[k];
+    }
+    return right;
+}
+
+static void summaries(void) {
+    static const size_t lengths[] = {0, 1, 100, 4095, 4096, 4097, N};
+    static const uint8_t loud[] = {0x56, 0x4E, 0, 0, 0, 0, 1, 127, 127, 0};
+    struct gav_settings s = GAV_SETTINGS_DEFAULT;
+    for (size_t i = 0; i < LEN(lengths); i++) {
+        HOLD(is_summed_up(&s, longer, 30, lengths[i]));
+        HOLD(is_summed_up(&s, NULL, 0, lengths[i]));
+    }
+    /* in silence samples are +0 or -0, and the peak is +0 at the section's first sample */
+    HOLD(bits(magnitudes[0]) == 0 && numbers[0] == 0 && bits(magnitudes[1]) == 0 && numbers[1] == 4096);
+    int has_minus_zero = 0;
+    for (size_t i = 0; i < N; i++) has_minus_zero |= bits(out[i]) == bits(-0.0);
+    HOLD(has_minus_zero);
+    /* of equal magnitudes the first counts, here of a square after its decay */
+    s.code = GAV_SQUARE;
+    s.decay = 0.01;
+    HOLD(is_summed_up(&s, example, 10, N) && magnitudes[1] == fabs(out[numbers[1] + 1]));
+    /* nothing clamps a triangle of few samples a cycle, nor the LFO's */
+    s.rate = 8000;
+    s.code = s.lfo_code = GAV_TRIANGLE;
+    s.lfo_frequency = 100;
+    s.lfo_depth = 1;
+    HOLD(is_summed_up(&s, loud, 10, N) && magnitudes[0] > 1);
+}
+
+/* A summary of other lengths is 7, after 6 and before the score. */
+static void refused_summaries(void) {
+    static const size_t wrong[][2] = {{2, 1}, {1, 2}, {3, 2}, {2, 3}, {0, 0}, {1, 1}, {3, 3}, {2, 0}, {0, 2}};
+    const size_t n = 4097, words = gav_shelf_words(n);
+    spoil();
+    for (size_t i = 0; i < LEN(wrong); i++) {
+        const size_t m = wrong[i][0], at = wrong[i][1];
+        HOLD(gav_render(SETTINGS, example, 20, out, n, shelf, words, magnitudes, m, numbers, at) == says(7, 0, 0));
+        HOLD(gav_render(SETTINGS, example, 19, out, n, shelf, words, magnitudes, m, numbers, at) == says(7, 0, 0));
+        HOLD(gav_render(0, GAV_SINE, 0, ADSR, PLAIN, example, 19, out, n, shelf, words, magnitudes, m, numbers, at) == says(6, 0, 0));
+        HOLD(gav_rerender(SETTINGS, example, 20, longer, 30, out, n, shelf, words, magnitudes, m, numbers, at) == says(7, 0, 0));
+        HOLD(gav_rerender(SETTINGS, example, 20, example, 20, out, n, shelf, words, magnitudes, m, numbers, at) == says(7, 0, 0));
+        HOLD(gav_rerender(SETTINGS, example, 19, longer, 29, out, n, shelf, words, magnitudes, m, numbers, at) == says(7, 0, 0));
+        HOLD(gav_rerender(0, GAV_SINE, 0, ADSR, PLAIN, example, 19, longer, 29, out, n, shelf, words, magnitudes, m, numbers, at) == says(6, 0, 0));
+    }
+    HOLD(gav_render(SETTINGS, example, 20, out, 0, shelf, 0, magnitudes, 1, NULL, 0) == says(7, 0, 0));
+    HOLD(gav_render(SETTINGS, example, 20, out, 4096, shelf, WORDS, magnitudes, 1, numbers, 2) == says(7, 0, 0));
+    HOLD(untouched());
+}
+
+/* A re-render works sections out from the samples that it writes: a wrong peak from the start on is mended, one before
+ * it stays. Equal scores and a late change leave both. */
+static void summed_edits(void) {
+    static const uint8_t late[] = {ON_69, OFF_69_AT_100, 0x56, 0x4E, 0x88, 0x13, 0, 0, 1, 60, 100, 0};
+    HOLD(gav_render(SETTINGS, longer, 30, all, N, entries, 2 * WORDS, SUMMARY_OF_ALL) == says(0, 0, N));
+    HOLD(gav_render(SETTINGS, example, 20, out, N, shelf, 2 * WORDS, SUMMARY) == says(0, 0, N));
+    HOLD(are_peaks(out, N, magnitudes, numbers) && are_peaks(all, N, peaks, places));
+    magnitudes[1] = 99, numbers[1] = UINT64_MAX;
+    keep_shelf();
+    HOLD(gav_rerender(SETTINGS, example, 20, example, 20, out, N, shelf, 2 * WORDS, SUMMARY) == 0 && is_before());
+    HOLD(gav_rerender(SETTINGS, example, 20, late, 30, out, N, shelf, 2 * WORDS, SUMMARY) == 0 && is_before());
+    HOLD(gav_rerender(SETTINGS, example, 20, longer, 30, out, N, shelf, 2 * WORDS, SUMMARY) == says(0, 0, N - GAV_SECTION));
+    HOLD(SAME(out, all) && is_of_all());
+    HOLD(gav_rerender(SETTINGS, longer, 30, example, 20, out, N, shelf, 2 * WORDS, SUMMARY) == says(0, 0, N - GAV_SECTION));
+    HOLD(are_peaks(out, N, magnitudes, numbers) && !SAME(magnitudes, peaks));
 }
 
 static void lists(void) {
@@ -573,6 +687,9 @@ int main(void) {
     refused_keyings();
     rounded_samples();
     rounded_renders();
+    summaries();
+    refused_summaries();
+    summed_edits();
     printf("%d facts held, %d faults\n", held - faults, faults);
     return faults != 0;
 }
