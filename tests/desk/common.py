@@ -24,11 +24,13 @@ SETTINGS = {
 }  # fmt: skip
 SETTING_WORDS = 24  # of a shelf's head, in use or free
 FREE_WORDS = SETTING_WORDS - len(SETTINGS)
-SHELF_VERSION = 5
+SHELF_VERSION = 6
 SHELF_NAMES = ["magic", "version", "voice", "samples", "bits", "score_len", "entry", "beside", *SETTINGS]
 SHELF_HEAD = struct.Struct("<8s7Q" + "".join("d" if isinstance(x, float) else "Q" for x in SETTINGS.values()) + f"{FREE_WORDS}Q")
 STATE_WORDS = 13
 ENTRY = 8 * STATE_WORDS
+BESIDE_WORDS = 3  # the sum of a section's bytes in the WAV, and its peak: the magnitude and the number
+SECTION = ENTRY + 8 * BESIDE_WORDS  # bytes
 
 faults = []
 runs = 0
@@ -191,14 +193,15 @@ class Shelf:
         self.samples, self.bits = head["samples"], head["bits"]
         self.settings = tuple(head[name] for name in SHELF_NAMES[8:])
         sections = -(-self.samples // 4096)
-        end = SHELF_HEAD.size + (ENTRY + 8) * sections
-        parts = [data[at : at + ENTRY + 8] for at in range(SHELF_HEAD.size, end, ENTRY + 8)]
+        end = SHELF_HEAD.size + SECTION * sections
+        parts = [data[at : at + SECTION] for at in range(SHELF_HEAD.size, end, SECTION)]
         self.entries = b"".join(part[:ENTRY] for part in parts)
-        self.sums = [int.from_bytes(part[ENTRY:], "little") for part in parts]
+        self.sums = [int.from_bytes(part[ENTRY : ENTRY + 8], "little") for part in parts]
+        self.peaks = [struct.unpack_from("<dQ", part, ENTRY + 8) for part in parts]
         self.score = data[end : end + head["score_len"]]
         filled = self.score + b"\0" * (-len(self.score) % 8)
         fixed = tuple(head[name] for name in ("magic", "version", "voice", "entry", "beside"))
-        hold(f"{path}: its head", fixed == (b"GAVSHELF", SHELF_VERSION, voice_version(), STATE_WORDS, 1), f"{fixed}")
+        hold(f"{path}: its head", fixed == (b"GAVSHELF", SHELF_VERSION, voice_version(), STATE_WORDS, BESIDE_WORDS), f"{fixed}")
         hold(f"{path}: free words", not any(SHELF_HEAD.unpack_from(data)[len(SHELF_NAMES) :]))
         hold(f"{path}: its end", data[end:] == filled + struct.pack("<Q", sum_of(data[:-8])), f"{len(data)} bytes")
 
@@ -233,13 +236,24 @@ def settings_of(rate=48000, wave="saw", duty=0.5, adsr=(0.01, 0.1, 0.7, 0.3), **
 
 
 def library(score, samples, *some, **others):
-    """What the library renders by itself: samples as bytes of f64, and the shelf's words."""
+    """What the library renders by itself: samples as bytes of f64, the shelf's words, and its peaks, each as its
+    magnitude and its number."""
     given = map(str, (*settings_of(*some, **others), samples))
     ran = subprocess.run([ROOT / "build/samples", *given], input=score, capture_output=True, check=True)
     answer = struct.unpack_from("<Q", ran.stdout)[0]
     if answer != samples << 32:
         fault(f"the library answers {answer:x} to {samples} samples")
-    return ran.stdout[8 : 8 + 8 * samples], ran.stdout[8 + 8 * samples :]
+    sections, end = -(-samples // 4096), 8 + 8 * samples
+    shelf, peaks = ran.stdout[end : end + ENTRY * sections], ran.stdout[end + ENTRY * sections :]
+    return ran.stdout[8:end], shelf, [*zip(struct.unpack(f"<{sections}d", peaks[: 8 * sections]), struct.unpack(f"<{sections}Q", peaks[8 * sections :]))]
+
+
+def peaks_of(samples):
+    """The peaks of samples, given as bytes of f64, worked out from 02's words."""
+    values = struct.unpack(f"<{len(samples) // 8}d", samples)
+    sections = [values[at : at + 4096] for at in range(0, len(values), 4096)]
+    largest = [max(map(abs, some)) for some in sections]
+    return [(most, 4096 * k + [*map(abs, some)].index(most)) for k, (some, most) in enumerate(zip(sections, largest))]
 
 
 def narrow(samples):

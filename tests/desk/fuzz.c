@@ -102,6 +102,8 @@ static void good_shelf(struct dice *dice, struct bytes *file) {
     about.bits = roll(dice, 2) ? 32 : 64;
     random_score(dice, &about.score);
     if (!sound_make(&sound, about.samples, &why)) exit(1);
+    /* For settings that the voice refuses: silence. */
+    for (size_t i = 0; i < sound.sections; i++) sound.numbers[i] = i * GAV_SECTION;
     voice_render(&settings, &about.score, &sound);
     wav_samples(about.bits, sound.at, sound.samples, samples);
     struct wav wav = {.bits = about.bits, .rate = settings.rate, .samples = about.samples};

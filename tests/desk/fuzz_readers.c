@@ -4,10 +4,12 @@
 
    Promised is: an accepted score is listed, and the list makes that score; an accepted text makes a score whose list
    makes it again; an accepted shelf has as many words as its length asks for, the library answers to them, and the desk
-   has words for the answer; the samples of a WAV lie in it, and are the same after its PEAK chunks are taken out; what
-   is refused is refused in words. */
+   has words for the answer; each peak of it is a number at a sample of its section, and after a re-render those of the
+   sections rendered again are the samples'; the samples of a WAV lie in it, and are the same after its PEAK chunks are
+   taken out; what is refused is refused in words. */
 #include "fuzz_readers.h"
 
+#include <math.h>
 #include <stdlib.h>
 #include <string.h>
 #include <time.h>
@@ -96,6 +98,26 @@ static bool take_text(const uint8_t *at, size_t len) {
     return false;
 }
 
+static void hold_peaks(const uint8_t *file, size_t samples) {
+    for (size_t i = 0; i < gav_sections(samples); i++) {
+        struct peak peak = shelf_peak(file, i);
+        hold(isfinite(peak.level) && !signbit(peak.level), "a peak of an accepted shelf is no number, or below 0");
+        hold(peak.at / GAV_SECTION == i && peak.at < samples,
+             "a peak of an accepted shelf is in no sample of its section");
+        shelf_sum(file, i);
+    }
+}
+
+/* The peaks from a sample on, where a section begins. */
+static void hold_new_peaks(const struct sound *sound, size_t from) {
+    for (size_t first = from; first < sound->samples; first += GAV_SECTION) {
+        size_t section = first / GAV_SECTION;
+        struct peak peak = peak_of(sound->at + first, section_end(sound->samples, section) - first);
+        hold(bits_of(peak.level) == bits_of(sound->magnitudes[section]) && first + peak.at == sound->numbers[section],
+             "a peak after a re-render is not the samples'");
+    }
+}
+
 /* The library answers to whatever words an accepted shelf has: the first half of its score is made of it. */
 static void use_shelf(const uint8_t *file, const struct shelf_file *about) {
     static struct score after;
@@ -105,7 +127,6 @@ static void use_shelf(const uint8_t *file, const struct shelf_file *about) {
     after.len -= after.len / RECORD_BYTES / 2 * RECORD_BYTES;
     if (about->samples > MOST_MADE || !sound_make(&sound, about->samples, why)) return;
     shelf_words(file, &sound);
-    for (size_t i = 0; i < sound.words / GAV_STATE_WORDS; i++) shelf_sum(file, i);
     uint64_t answer = voice_rerender(&about->settings, &about->score, &after, &sound);
     unsigned number = gav_number(answer);
     struct asked asked = {.old_path = "shelf",
@@ -116,6 +137,7 @@ static void use_shelf(const uint8_t *file, const struct shelf_file *about) {
                           .samples = about->samples};
     hold(number == 0 || (number >= 6 && number <= 8), "a re-render gives a number that is not its own");
     hold(accepted(answer, &asked, why) == (number == 0), "an answer is told as another");
+    hold_new_peaks(&sound, sound.samples - gav_count(answer));
     sound_free(&sound);
 }
 
@@ -123,6 +145,7 @@ static bool take_shelf(const uint8_t *at, size_t len) {
     static struct shelf_file about;
     struct why *why = no_words();
     if (shelf_look(at, len, &about, why)) {
+        hold_peaks(at, about.samples);
         use_shelf(at, &about);
         return true;
     }
