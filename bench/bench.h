@@ -20,9 +20,9 @@ render best_render;
 /* floor.c: nothing but the writing. */
 render floor_render;
 
-/* library.c: the calls of the library and of the reference voice, the plain C, on the settings and a shelf of their
- * own: a render by either; a render in parts, the samples from the start of a section on as one part, and a re-render,
- * which gives back its count. */
+/* library.c: the calls of the library and of the reference voice, the plain C, on the settings, and a shelf and peaks
+ * of their own: a render by either; a render in parts, the samples from the start of a section on as one part, and a
+ * re-render, which gives back its count. */
 void library_prepare(size_t samples);
 render ours_render, plain_render;
 void ours_continue(const struct gav_settings *settings, const struct score *score, double *out, size_t n, size_t part);
@@ -54,9 +54,10 @@ struct bench {
     unsigned met, missed, differences;
 };
 
-/* report.c: what is printed of a goal, and of bits that differ. */
+/* report.c: what is printed of a goal, and of samples or peaks whose bits differ from those of the plain C. */
 const char *goal(struct bench *bench, double value, double most);
 void same_bits(struct bench *bench, const char *who, const char *wave);
+void same_peaks(struct bench *bench, const char *who, const char *wave); /* library.c has both */
 void differ(struct bench *bench, const char *what);
 void report_end(const struct bench *bench);
 
@@ -68,12 +69,14 @@ extern const char *const WAVES[CODES];
 void measure_renders(struct bench *bench);
 void measure_tremolos(struct bench *bench);
 void measure_keyings(struct bench *bench);
+void measure_peaks(struct bench *bench);
 void measure_continuing(struct bench *bench);
 void measure_edits(struct bench *bench);
 void measure_scores(struct bench *bench);
 
-/* Nanoseconds of one check, and of a whole render of ours. */
+/* Nanoseconds of one check, of a whole render of ours, and of the same samples by continuing calls of so many each. */
 double check_time(const struct score *score, uint64_t check(const uint8_t *, size_t), size_t repetitions);
 double render_time(struct bench *bench);
+double continue_time(struct bench *bench, size_t part);
 
 #endif

@@ -3,8 +3,16 @@
 
 #include <stdio.h>
 
-/* Nanoseconds of a call, and of what it takes beyond its samples, at a render's pace, and one check. All three are
- * measured in turn, so that a slower moment of the machine is in each of them. */
+/* Over rubbish, so that a sample that is not written is seen. */
+double continue_time(struct bench *b, size_t part) {
+    memset(b->out, 0xa5, b->samples * sizeof *b->out);
+    double start = now();
+    ours_continue(&b->settings, &b->score, b->out, b->samples, part);
+    return now() - start;
+}
+
+/* Nanoseconds of a call, and of what it takes beyond its samples, at the pace of one call for all of them, and one
+ * check. All three are measured in turn, so that a slower moment of the machine is in each of them. */
 struct cost {
     double call, beyond;
 };
@@ -13,11 +21,10 @@ static struct cost measure_parts(struct bench *b, size_t part) {
     double call[MOST_REPETITIONS], beyond[MOST_REPETITIONS];
     double calls = (double)((b->samples + part - 1) / part);
     for (size_t i = 0; i < b->repetitions; i++) {
-        double check = check_time(&b->score, gav_check_score, 1), render = render_time(b), start = now();
-        ours_continue(&b->settings, &b->score, b->out, b->samples, part);
-        double took = now() - start;
+        double check = check_time(&b->score, gav_check_score, 1), whole = continue_time(b, b->samples);
+        double took = continue_time(b, part);
         call[i] = took / calls;
-        beyond[i] = (took - render) / calls - check;
+        beyond[i] = (took - whole) / calls - check;
     }
     same_bits(b, "the continuing calls", WAVES[b->settings.code]);
     return (struct cost){median(call, b->repetitions), median(beyond, b->repetitions)};

@@ -47,9 +47,11 @@ static size_t compare_edit(struct bench *b, const char *where, const struct scor
     if (count != due) differ(b, "the count of a re-render");
     plain_render(&b->settings, edited, b->reference, b->samples);
     same_bits(b, "the re-render", where);
+    same_peaks(b, "the re-render", where);
     ours_rerender(&b->settings, edited, &b->score, b->out, b->samples);
     plain_render(&b->settings, &b->score, b->reference, b->samples);
     same_bits(b, "the re-render back", where);
+    same_peaks(b, "the re-render back", where);
     return count;
 }
 

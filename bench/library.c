@@ -46,6 +46,18 @@ void plain_render(const struct gav_settings *s, const struct score *score, doubl
                           sections, plain.numbers, sections));
 }
 
+void same_peaks(struct bench *b, const char *who, const char *wave) {
+    char what[200];
+    size_t i = 0, sections = gav_sections(b->samples);
+    while (i < sections && bits(ours.magnitudes[i]) == bits(plain.magnitudes[i]) && ours.numbers[i] == plain.numbers[i])
+        i++;
+    if (i == sections) return;
+    snprintf(what, sizeof what, "%s, %s: the peak of section %zu is %a at %llu, of the plain C %a at %llu", who, wave,
+             i, ours.magnitudes[i], (unsigned long long)ours.numbers[i], plain.magnitudes[i],
+             (unsigned long long)plain.numbers[i]);
+    differ(b, what);
+}
+
 void ours_continue(const struct gav_settings *s, const struct score *score, double *out, size_t n, size_t part) {
     uint64_t state[GAV_STATE_WORDS];
     done(gav_fresh(state, GAV_STATE_WORDS));

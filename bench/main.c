@@ -51,6 +51,7 @@ int main(int argc, char **argv) {
     measure_renders(&b);
     measure_tremolos(&b);
     measure_keyings(&b);
+    measure_peaks(&b);
     measure_continuing(&b);
     measure_edits(&b);
     measure_scores(&b);
