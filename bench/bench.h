@@ -57,7 +57,7 @@ struct bench {
 /* report.c: what is printed of a goal, and of samples or peaks whose bits differ from those of the plain C. */
 const char *goal(struct bench *bench, double value, double most);
 void same_bits(struct bench *bench, const char *who, const char *wave);
-void same_peaks(struct bench *bench, const char *who, const char *wave); /* library.c has both */
+void same_peaks(struct bench *bench, const char *who, const char *wave); /* in library.c, which holds them */
 void differ(struct bench *bench, const char *what);
 void report_end(const struct bench *bench);
 
