@@ -40,30 +40,32 @@ static struct cost measure(struct bench *b) {
     return (struct cost){median(continuing, n), median(render, n), median(ratio, n)};
 }
 
-static void measure_rise(struct bench *b, const struct rise *rise) {
-    if (rise->attack > 0.0) b->settings.attack = rise->attack;
-    compare(b);
-    const struct cost cost = measure(b);
-    printf(" %10.2f %9.2f %5.2f <= %.2f %6s", cost.continuing, cost.render, cost.ratio, rise->most,
-           goal(b, cost.ratio, rise->most));
+static void print_wave(struct bench *b, const struct cost *costs) {
+    printf("%-12s", WAVES[b->settings.code]);
+    for (size_t i = 0; i < RISES_COUNT; i++) {
+        double most = RISES[i].most;
+        printf(" %10.2f %9.2f %5.2f <= %.2f %6s", costs[i].continuing, costs[i].render, costs[i].ratio, most,
+               goal(b, costs[i].ratio, most));
+    }
+    putchar('\n');
 }
 
 void measure_peaks(struct bench *b) {
     const struct gav_settings settings = b->settings;
-    puts("\npeaks: ns a sample of one continuing call, which has none, and of a render, and how many times as long "
-         "that is");
+    puts("\npeaks: ns a sample of one continuing call, which has none, and of a render, and how many times as long");
     printf("%-12s", "");
     for (size_t i = 0; i < RISES_COUNT; i++) printf(" %41s", RISES[i].name);
     putchar('\n');
     for (uint32_t code = 0; code < CODES; code++) {
         if (!WAVES[code]) continue;
-        printf("%-12s", WAVES[code]);
+        struct cost costs[RISES_COUNT];
+        b->settings.code = code;
         for (size_t i = 0; i < RISES_COUNT; i++) {
-            b->settings = settings;
-            b->settings.code = code;
-            measure_rise(b, &RISES[i]);
+            b->settings.attack = RISES[i].attack > 0.0 ? RISES[i].attack : settings.attack;
+            compare(b);
+            costs[i] = measure(b);
         }
-        putchar('\n');
+        print_wave(b, costs);
     }
     b->settings = settings;
 }
