@@ -205,15 +205,15 @@ static uint64_t spoil_rerender(uint64_t answer, double *out, size_t n, uint64_t 
 
 uint64_t __wrap_gav_rerender(SETTINGS, const uint8_t *old, size_t old_len, const uint8_t *new_, size_t new_len,
                              double *out, size_t n, uint64_t *shelf, size_t words, SUMMARY) {
-    static double spare[LONGEST];
-    static uint64_t entries[(MOST_ENTRIES + 1) * GAV_STATE_WORDS];
+    static double spare[LONGEST], peaks[MOST_ENTRIES + 1];
+    static uint64_t entries[(MOST_ENTRIES + 1) * GAV_STATE_WORDS], places[MOST_ENTRIES + 1];
     const struct lent_summary lent = {out, n, words, PEAKS};
     const enum summary how = wrong_summary(RERENDER_SUMMARIES, SUMMARIES);
     if (how == BEFORE_SETTINGS && !is_summary(&lent)) return 7;
     keep_summary(&lent);
     if (wrong() == RERENDER_NOTHING && words <= COUNT_OF(entries)) {
         memcpy(entries, shelf, words * sizeof *entries);
-        out = spare, shelf = entries;
+        out = spare, shelf = entries, magnitudes = peaks, numbers = places;
     }
     joined = taken_keying(joined, RERENDER_ALL_STRUCK);
     code = taken_code(code, duty, RERENDER_CODES);
