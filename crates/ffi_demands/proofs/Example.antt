@@ -12,10 +12,10 @@ use lib.Dec.{T}
 use lib.ListN.{replicate}
 use lib.Ieee.{binary64, fits}
 use lib.Ieee.Bits.{ofBits-fits}
-use Rattle.sections.specs.Outcome.{Outcome}
+use Rattle.sections.specs.Outcome.{Lent, Outcome}
 use Rattle.shelf.specs.Shelf.{entryWords}
 use Rattle.floats.specs.Double.{half}
-use Rattle.demands.proofs.ChainExamples.{trembling, trembling-ok, begins, begins-accepted, endsAt, played, on-time}
+use Rattle.demands.proofs.ChainExamples.{trembling, trembling-ok, begins, begins-accepted, endsAt, played, room, on-time}
 use Rattle.demands.specs.Demand3.{Taken}
 use Rattle.ffi.specs.declared.Asked.{Asked}
 use Rattle.ffi.specs.declared.Choice.the-variants.{Known}

@@ -1,6 +1,7 @@
 -- Edits as C makes them, as a claim: gav_render of a score, then gav_rerender into each next one, in one output, shelf
 -- and summary.
--- include/gavberin.h, of gav_rerender: HEADER-OLD; HEADER-BUFFERS.
+-- include/gavberin.h, of gav_rerender: "old, old_len: the score that out, shelf and summary were rendered of"; "as for
+-- gav_render, holding what gav_render or the last gav_rerender left".
 -- Of the answers the claim asks only what a host sees: the number in every word is 0. The argument is in
 -- proofs/FfiEdits.antt. Definitions only.
 use mathlib.Core.Path.{_≡_}
