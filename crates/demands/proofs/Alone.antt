@@ -1,14 +1,14 @@
 -- A re-render's statement is total: it covers any start entry that is a state, even one that no render leaves. What
 -- lies before the start section stays as it came, and so does the start entry. The answer, and the samples, entries and
--- summary from the start section on, depend on the settings, the new score, the number of samples, the start section and
--- its entry alone, not on the old samples, the other entries or the old summary. Assumes nothing.
+-- summary from the start section on, depend on the settings, the new score, the number of samples, the start section
+-- and its entry alone, not on the old samples, the other entries or the old summary. Assumes nothing.
 use mathlib.Core.Path.{_≡_, refl, sym, ap, _∙_}
 use mathlib.Core.Bool.{true, _&&_}
-use mathlib.Core.List.{List, [], _++_}
-use Prim.Native.Nat.{ℕ, _+_, _-_, _*_, _≤_, _<_}
+use mathlib.Core.List.{List, []}
+use Prim.Native.Nat.{ℕ, _-_, _*_, _<_}
 use native.Mathlib.Omega.{arith}
 use lib.Dec.{eqb}
-use lib.ListN.{length, take}
+use lib.ListN.{take}
 use lib.Ieee.{Float}
 use Rattle.peaks.specs.declared.Peak.{Peak}
 use Rattle.sections.specs.Outcome.{Buffers, lends, samplesIn, roomIn, Lent, before, onward, Outcome}

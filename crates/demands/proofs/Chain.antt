@@ -8,8 +8,8 @@ use native.Mathlib.Nat.{zero-add}
 use native.Mathlib.Omega.{arith}
 use lib.Dec.{T}
 use lib.ListN.{length}
-use lib.Ieee.{Float, binary64, fits}
-use borrow.Author.Tests.{le-leb, eq-eqb}
+use lib.Ieee.{binary64, fits}
+use borrow.Author.Tests.{le-leb}
 use Rattle.runs.specs.Runs.{run, listed}
 use Rattle.score.specs.declared.Verdict.the-variants.{Accepted}
 use Rattle.score.specs.Record.{countOf}
@@ -17,7 +17,6 @@ use Rattle.score.specs.Score.{verdictOf}
 use Rattle.score.specs.Below.{countBelow}
 use Rattle.score.proofs.Cuts.{accepted-few}
 use Rattle.score.proofs.Examples.{refusals}
-use Rattle.shelf.specs.Shelf.{wordsFor}
 use Rattle.state.specs.declared.Settings.{Settings}
 use Rattle.state.specs.declared.State.{State}
 use Rattle.state.specs.Settings.{settingsOk}

@@ -6,7 +6,6 @@ use Prim.Native.Nat.{ℕ, _+_, _-_, _*_, _≤_, _<_}
 use native.Mathlib.Omega.{arith}
 use lib.ListN.{length, take, drop, take-append-drop}
 use lib.Seq.{take-at, drop-at, take-add, take-take, drop-drop, take-append-le, drop-append-le, length-take-le, length-front}
-use lib.Ieee.{Float}
 use Rattle.shelf.specs.Shelf.{sectionSize, entryWords, entriesFor, wordsFor}
 use Rattle.judging.specs.Judging.{mostSamples}
 use Rattle.sections.specs.Outcome.{Buffers, lends, samplesIn, Lent, before, onward}

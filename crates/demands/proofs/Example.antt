@@ -74,8 +74,8 @@ kept = take-all entryWords (entryOf (atSection trembling begins 1)) (omega (arit
 pub an-edit-over-rubbish : rerenderOf trembling begins edited rubbish ≡ leaves (Done 1904) (overAt 1 rubbish (wholeOf trembling edited 6000))
 an-edit-over-rubbish = rw long at (demand-3 trembling begins edited an-edit 5000 differs rubbish lent (omega (arith, long)) kept)
 
--- ---- the off added and taken away again, over rubbish: section 0 holds rubbish; from section 1 on the buffers hold what
--- a render of the note alone left
+-- ---- the off added and taken away again, over rubbish: section 0 holds rubbish; from section 1 on the buffers hold
+-- what a render of the note alone left
 abbrev pub spoilt : Buffers
 spoilt = overAt 1 rubbish (wholeOf trembling begins 6000)
 

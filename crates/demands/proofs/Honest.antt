@@ -14,8 +14,8 @@ use native.Mathlib.Nat.{zero-add}
 use native.Mathlib.Omega.{arith}
 use borrow.Author.Tests.{eq-eqb}
 use lib.Dec.{T}
-use lib.ListN.{length, take, drop}
-use lib.Ieee.{Float, binary64, fits}
+use lib.ListN.{take, drop}
+use lib.Ieee.{binary64, fits}
 use Rattle.answers.specs.declared.Answer.the-variants.{Done}
 use Rattle.score.specs.declared.Verdict.the-variants.{Accepted}
 use Rattle.score.specs.Record.{countOf}

@@ -1,11 +1,11 @@
--- The claim of specs/Peaks.antt: what a summary tells in the samples' own numbers, by the peaks of its sections; that it
--- stays right, by the sections that stay and those that are worked out anew; that every sample made is finite. Assumes
--- nothing.
+-- The claim of specs/Peaks.antt: what a summary tells in the samples' own numbers, by the peaks of its sections; that
+-- the summary stays right, by the sections that stay and those that are worked out anew; that every sample made is
+-- finite. Assumes nothing.
 use mathlib.Core.Path.{_≡_, refl, sym, ap, subst, _∙_}
 use mathlib.Core.Bool.{true}
-use mathlib.Core.List.{List, _++_}
+use mathlib.Core.List.{List}
 use mathlib.Core.Logic.{⊎-elim}
-use Prim.Native.Nat.{ℕ, suc, _+_, _-_, _*_, _≤_, _<_}
+use Prim.Native.Nat.{ℕ, _+_, _-_, _*_, _≤_, _<_}
 use native.Mathlib.Nat.{zero-add, eq-or-lt-of-le}
 use native.Mathlib.Omega.{arith}
 use lib.Dec.{T, eqb}
@@ -15,7 +15,7 @@ use lib.Ieee.{Float, nan, binary64, fits, lt, le}
 use lib.Ieee.Bits.{ofBits-fits}
 use lib.Ieee.Scale.{finite}
 use Rattle.floats.proofs.Order.{lt-not-le}
-use Rattle.runs.proofs.Listed.{listed-at, listed-length}
+use Rattle.runs.proofs.Listed.{listed-at}
 use Rattle.answers.specs.declared.Answer.{Answer}
 use Rattle.answers.specs.declared.Answer.the-variants.{Done, Refused}
 use Rattle.answers.specs.declared.Refusal.{Refusal}
@@ -46,7 +46,7 @@ use Rattle.state.proofs.Limits.{fresh-in, state-in}
 use Rattle.state.proofs.RunsOn.{samples-length}
 use Rattle.state.proofs.Samples.{every-sample-finite}
 use Rattle.judging.proofs.Refusals.{all-passed}
-use Rattle.render.specs.Calls.{madeOf, renderOf}
+use Rattle.render.specs.Calls.{renderOf}
 use Rattle.render.specs.declared.Rendered.{Rendered}
 use Rattle.render.proofs.Outcomes.{render-decided}
 use Rattle.rerender.specs.declared.Plan.{Plan}

@@ -13,7 +13,6 @@ use mathlib.Core.Bool.{true, false}
 use mathlib.Core.List.{List}
 use Prim.Native.Nat.{ℕ, _-_, _*_}
 use lib.Dec.{T}
-use lib.ListN.{length}
 use lib.Ieee.{Float, binary64, ofBits, lt, le, fits}
 use Rattle.floats.specs.Double.{zero64}
 use Rattle.sections.specs.Outcome.{Buffers, samplesIn, leaves}

@@ -1,8 +1,8 @@
 -- Peaks beside the sound, as a claim.
 -- 02, R-3: "Keep, for each 4,096-sample section, the largest magnitude and the number, from the output's start, of the
 -- first sample where it stands; the last section may be short. A re-render brings the summary up to date and touches
--- only sections from its start entry on. If it was right for the buffer as that came, all finite, it afterwards equals a
--- summary of the finished buffer worked out from nothing."
+-- only sections from its start entry on. If it was right for the buffer as that came, all finite, it afterwards equals
+-- a summary of the finished buffer worked out from nothing."
 -- What a summary tells is said here in the samples' own numbers, without sections cut out of a list and without a
 -- running peak (`Tells`): of finite samples the summary that is worked out from nothing tells this, and no other does.
 -- That a summary stays right needs no finite sample; that it then tells the largest does, and every sample that a call
@@ -66,8 +66,8 @@ pub record PeaksBesideTheSound : Type 0 where
   pub stays-finite : (g : Settings) → T (fits binary64 (g .adsr .sustain)) → (old new : List ℕ) (b : Buffers) → AllFinite (b .heard) → AllFinite (rerenderOf g old new b .left .heard)
   -- so a summary that told the truth of finite samples tells it of the finished output, whatever the answer
   pub stays-told : (g : Settings) → T (fits binary64 (g .adsr .sustain)) → (old new : List ℕ) (b : Buffers) → AllFinite (b .heard) → Tells (b .heard) (b .summary) → Tells (rerenderOf g old new b .left .heard) (rerenderOf g old new b .left .summary)
-  -- what lies before the start is not touched, whatever the answer; nothing is, where the plan is nothing or the call is
-  -- refused
+  -- what lies before the start is not touched, whatever the answer; where the plan is nothing or the call is refused,
+  -- nothing is touched
   pub untouched : (g : Settings) (old new : List ℕ) (b : Buffers) (m : ℕ) → planOf old new (samplesIn b) ≡ From m → before m (rerenderOf g old new b .left) ≡ before m b
   pub untouched-whole : (g : Settings) (old new : List ℕ) (b : Buffers) → planOf old new (samplesIn b) ≡ Nothing → rerenderOf g old new b .left ≡ b
   pub untouched-refused : (g : Settings) (old new : List ℕ) (b : Buffers) (why : Refusal) → rerenderOf g old new b .result ≡ Refused why → rerenderOf g old new b .left ≡ b

@@ -3,7 +3,7 @@ use mathlib.Core.Path.{_≡_, sym, ap, _∙_}
 use mathlib.Core.List.{List}
 use Prim.Native.Nat.{ℕ}
 use lib.Ieee.{Float}
-use Rattle.sections.specs.Outcome.{Buffers, leaves}
+use Rattle.sections.specs.Outcome.{Buffers, lends, leaves}
 use Rattle.sections.proofs.Unique.{same-left}
 use Rattle.ffi.specs.declared.Choice.{Choice}
 use Rattle.ffi.specs.Packed.{packedOf}
@@ -28,11 +28,13 @@ same-filled o r t a b x y =
     let e : fills r a ≡ fills t b = x ∙ sym y in
     (ap (λ (l : Filled). l .result) e, ap (λ (l : Filled). l .left) e)
 
-pub gav-render-unique : (choice : Choice) (s : List ℕ) (b c d : Buffers) (r t : ℕ) → leaves r c ≡ renderFor choice s b → leaves t d ≡ renderFor choice s b → (r ≡ t) × (c ≡ d)
-gav-render-unique choice s b c d r t x y = same-left (renderFor choice s b) r t c d x y
+pub gav-render-unique : (choice : Choice) (s : List ℕ) (b : Buffers) (r t : ℕ) (ys zs : List Float) (ws vs : List ℕ) (ms ns : List Float) (is js : List ℕ)
+    → leaves r (lends ys ws ms is) ≡ renderFor choice s b → leaves t (lends zs vs ns js) ≡ renderFor choice s b → (r ≡ t) × (ys ≡ zs) × (ws ≡ vs) × (ms ≡ ns) × (is ≡ js)
+gav-render-unique choice s b r t ys zs ws vs ms ns is js x y = same-left (renderFor choice s b) r t ys zs ws vs ms ns is js x y
 
-pub gav-rerender-unique : (choice : Choice) (old new : List ℕ) (b c d : Buffers) (r t : ℕ) → leaves r c ≡ rerenderFor choice old new b → leaves t d ≡ rerenderFor choice old new b → (r ≡ t) × (c ≡ d)
-gav-rerender-unique choice old new b c d r t x y = same-left (rerenderFor choice old new b) r t c d x y
+pub gav-rerender-unique : (choice : Choice) (old new : List ℕ) (b : Buffers) (r t : ℕ) (ys zs : List Float) (ws vs : List ℕ) (ms ns : List Float) (is js : List ℕ)
+    → leaves r (lends ys ws ms is) ≡ rerenderFor choice old new b → leaves t (lends zs vs ns js) ≡ rerenderFor choice old new b → (r ≡ t) × (ys ≡ zs) × (ws ≡ vs) × (ms ≡ ns) × (is ≡ js)
+gav-rerender-unique choice old new b r t ys zs ws vs ms ns is js x y = same-left (rerenderFor choice old new b) r t ys zs ws vs ms ns is js x y
 
 pub gav-continue-unique : (choice : Choice) (s ws : List ℕ) (p : ℕ) (part : List Float) (r t : ℕ) (ys zs : List Float) (c d : List ℕ)
     → continues r ys c ≡ continueFor choice s ws p part → continues t zs d ≡ continueFor choice s ws p part → (r ≡ t) × (ys ≡ zs) × (c ≡ d)

@@ -3,8 +3,8 @@
 --
 -- Here a sample's number counts from the section's own first sample, and the section has any length. A magnitude is a
 -- sample without its sign, +0 for -0, so that silence has the peak +0. Of equal magnitudes the first sample counts.
--- Everything is defined for every list: no sample at all has the peak +0 at 0, and a NaN is above nothing. What the peak
--- of finite samples, one at least, means is `IsPeak`. Definitions only.
+-- Everything is defined for every list: no sample at all has the peak +0 at 0, and a NaN is above nothing. What the
+-- peak of finite samples, one at least, means is `IsPeak`. Definitions only.
 use mathlib.Core.Bool.{cond}
 use mathlib.Core.List.{List}
 use mathlib.Core.Path.{_≡_}

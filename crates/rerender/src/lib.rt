@@ -1,7 +1,7 @@
 // The re-render: after an edit the output goes on from the state that the score gives, not from the state of a part
-// that is playing. The judging, then a plan, which is nothing or the section that holds the first changed position, then
-// the plan's run, from the state that the shelf keeps for the start of that section. 01, "The shelf", demand 3, and 02,
-// R-3. No state is answered: the shelf has the states.
+// that is playing. The judging, then a plan, which is nothing or the section that holds the first changed position,
+// then the plan's run, from the state that the shelf keeps for the start of that section. 01, "The shelf", demand 3,
+// and 02, R-3. No state is answered: the shelf has the states.
 ghost use mathlib.Core.Path.{_≡_};
 ghost use mathlib.Core.Bool.{true};
 ghost use Prim.Native.Nat.{_<_};

@@ -3,7 +3,7 @@
 use mathlib.Core.Path.{_≡_, refl, sym, ap, _∙_}
 use mathlib.Core.List.{List, [], _∷_, _++_, append-assoc, append-nil}
 use mathlib.Core.Logic.{⊎-elim}
-use Prim.Native.Nat.{ℕ, zero, suc, _+_, _-_, _*_, _<_, _≤_}
+use Prim.Native.Nat.{ℕ, suc, _+_, _-_, _*_, _<_, _≤_}
 use native.Mathlib.Nat.{zero-add}
 use native.Mathlib.Omega.{arith}
 use lib.ListN.{length, take, drop, set, take-append-drop, length-drop, length-append}
@@ -14,8 +14,7 @@ use Rattle.runs.specs.Runs.{listed}
 use Rattle.runs.proofs.Listed.{listed-length, listed-on, listed-same}
 use Rattle.peaks.specs.declared.Peak.{Peak}
 use Rattle.peaks.specs.Peaks.{peakOf}
-use Rattle.shelf.specs.Shelf.{sectionSize, entriesFor}
-use Rattle.sections.specs.Outcome.{Summary}
+use Rattle.shelf.specs.Shelf.{sectionSize}
 use Rattle.sections.specs.Summary.{sectionOf, largest, firstNumber, saidFrom, summaryFrom}
 use Rattle.sections.specs.Sections.{upTo, summedUpTo}
 

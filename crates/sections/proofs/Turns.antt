@@ -31,7 +31,7 @@ use Rattle.sections.proofs.Room.{in-room}
 use Rattle.sections.proofs.Summed.{section-in, said-turn}
 use Rattle.sections.specs.Inner.{SectionEnd}
 
--- the loop's invariant: the samples up to `start` are played, and the entries and peaks of the sections below k are kept
+-- the loop's invariant: the samples up to `start` are played, and entries and peaks of the sections below k are kept
 pub record Walked (g : Settings) (s : List ℕ) (m : ℕ) (p : Place) (b : Buffers) (out : List Float) (shelf : List ℕ) (magnitudes : List Float) (numbers : List ℕ) (at : Place) (k start : ℕ) : Type 0 where
   pub len : length out ≡ samplesIn b
   pub lens : length shelf ≡ length (b .stored)
@@ -105,7 +105,7 @@ module _ (g : Settings) (s : List ℕ) (m : ℕ) (p : Place) (b : Buffers) (fits
     pub room-numbers : k < length numbers
     room-numbers = omega (arith, begins, room-is .numbers-fit, w .len, w .len-numbers)
 
-    -- a turn: the section from `start` to e is lent and its samples are ys, the words of its entry are zs, its peak is q
+    -- a turn: the section from `start` to e is lent and its samples are ys, its entry's words are zs, its peak is q
     module _ (e : ℕ) (z : SectionEnd start (length out) e) (ys : List Float) (r : Place) (x : Played g s start at (midOf start (e - start) out) ys r) (zs : List ℕ) (put : zs ≡ storedIn (midOf (k * entryWords) (k * entryWords + entryWords - k * entryWords) shelf) (at .state))
         (q : Peak) (peak-is : q ≡ peakOf (midOf start (e - start) (putMid start (e - start) out ys))) where
       abbrev out′ : List Float

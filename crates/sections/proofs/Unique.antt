@@ -2,14 +2,19 @@
 use mathlib.Core.Path.{_≡_, sym, ap, _∙_}
 use mathlib.Core.List.{List}
 use Prim.Native.Nat.{ℕ}
+use lib.Ieee.{Float}
 use Rattle.state.specs.declared.Settings.{Settings}
 use Rattle.spans.specs.declared.Place.{Place}
-use Rattle.sections.specs.Outcome.{Buffers, Outcome, leaves}
+use Rattle.sections.specs.Outcome.{Buffers, lends, Outcome, leaves}
 use Rattle.sections.specs.Sections.{playOnOf}
 
--- for a result of any type: the result, and all that was lent
-pub same-left : {R : Type 0} (o : Outcome R) (r t : R) (a b : Buffers) → leaves r a ≡ o → leaves t b ≡ o → (r ≡ t) × (a ≡ b)
-same-left o r t a b x y = let e = x ∙ sym y in (ap (λ o. o .result) e, ap (λ o. o .left) e)
+-- for a result of any type: the result, and each part of what was lent
+pub same-left : {R : Type 0} (o : Outcome R) (r t : R) (ys zs : List Float) (ws vs : List ℕ) (ms ns : List Float) (is js : List ℕ)
+    → leaves r (lends ys ws ms is) ≡ o → leaves t (lends zs vs ns js) ≡ o → (r ≡ t) × (ys ≡ zs) × (ws ≡ vs) × (ms ≡ ns) × (is ≡ js)
+same-left o r t ys zs ws vs ms ns is js x y =
+    let e = x ∙ sym y in
+    (ap (λ o. o .result) e, ap (λ o. o .left .heard) e, ap (λ o. o .left .stored) e, ap (λ o. o .left .summary .magnitudes) e, ap (λ o. o .left .summary .numbers) e)
 
-pub play-on-unique : (g : Settings) (s : List ℕ) (m : ℕ) (p : Place) (b c d : Buffers) (r t : Place) → leaves r c ≡ playOnOf g s m p b → leaves t d ≡ playOnOf g s m p b → (r ≡ t) × (c ≡ d)
-play-on-unique g s m p b c d r t x y = same-left (playOnOf g s m p b) r t c d x y
+pub play-on-unique : (g : Settings) (s : List ℕ) (m : ℕ) (p : Place) (b : Buffers) (r t : Place) (ys zs : List Float) (ws vs : List ℕ) (ms ns : List Float) (is js : List ℕ)
+    → leaves r (lends ys ws ms is) ≡ playOnOf g s m p b → leaves t (lends zs vs ns js) ≡ playOnOf g s m p b → (r ≡ t) × (ys ≡ zs) × (ws ≡ vs) × (ms ≡ ns) × (is ≡ js)
+play-on-unique g s m p b r t ys zs ws vs ms ns is js x y = same-left (playOnOf g s m p b) r t ys zs ws vs ms ns is js x y

@@ -1,5 +1,5 @@
--- From the start of a section to the end of the output: the entry of each section, then its samples, 4,096 or as many as
--- are left, then their peak. 01, "The shelf": "Entry k holds the state before sample 4096k is begun, for every 4096k
+-- From the start of a section to the end of the output: the entry of each section, then its samples, 4,096 or as many
+-- as are left, then their peak. 01, "The shelf": "Entry k holds the state before sample 4096k is begun, for every 4096k
 -- below N, the output's length". 02, R-3: "Keep, for each 4,096-sample section, the largest magnitude and the number,
 -- from the output's start, of the first sample where it stands".
 -- The samples are a walk (crate `spans`) from a place at the first sample of any section. If shelf or summary do not
@@ -7,8 +7,7 @@
 use mathlib.Core.Bool.{Bool, true, false}
 use mathlib.Core.List.{List, _++_}
 use Prim.Native.Nat.{ℕ, _+_, _-_, _*_}
-use lib.ListN.{length, take}
-use lib.Ieee.{Float}
+use lib.ListN.{take}
 use Rattle.runs.specs.Runs.{listed}
 use Rattle.shelf.specs.Shelf.{sectionSize, entryWords, entriesFor, shelfOf}
 use Rattle.spans.specs.declared.Place.{Place}
