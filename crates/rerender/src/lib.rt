@@ -95,16 +95,7 @@ fn rerender_from(
         return Answer::Refused(Refusal::StartEntry);
     }
     let next = acted as usize;
-    let place = Place { state, next };
-    sections::play_on(
-        settings,
-        new,
-        section,
-        place,
-        out,
-        shelf,
-        magnitudes,
-        numbers,
-    );
+    let at = Place { state, next };
+    sections::play_on(settings, new, section, at, out, shelf, magnitudes, numbers);
     Answer::Done(count)
 }
