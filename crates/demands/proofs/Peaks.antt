@@ -11,9 +11,10 @@ use native.Mathlib.Omega.{arith}
 use lib.Dec.{T, eqb}
 use lib.ListN.{length, getD, take, drop, length-append, length-drop, List·getD-append}
 use lib.Seq.{take-all, length-take-le, getD-take, getD-drop, getD-append-add, ext-getD}
-use lib.Ieee.{Float, nan, binary64, fits, lt, le}
+use lib.Ieee.{Float, nan, binary64, ofBits, fits, lt, le}
 use lib.Ieee.Bits.{ofBits-fits}
 use lib.Ieee.Scale.{finite}
+use Rattle.floats.specs.Double.{zero64}
 use Rattle.floats.proofs.Order.{lt-not-le}
 use Rattle.runs.proofs.Listed.{listed-at}
 use Rattle.answers.specs.declared.Answer.{Answer}
@@ -146,6 +147,20 @@ tells-alone xs sum all t =
     ext-getD 0 (sum .numbers) (summaryOf xs .numbers) (t .numbers-long ∙ sym (u .numbers-long)) (λ j h. let l : j < entriesFor (length xs) = omega (arith, h, t .numbers-long) in same-number xs j _ _ _ _ (t .each j l) (u .each j l)) in
     rw (a, b) refl
 
+-- of a silent section no sample is below another, so that the first counts
+silent : (xs : List Float) → AllFinite xs → (j : ℕ) → j < entriesFor (length xs) → ((k : ℕ) → InSection xs j k → magnitudeAt xs k ≡ zero64)
+    → (getD (summaryOf xs .magnitudes) j nan ≡ zero64) × (getD (summaryOf xs .numbers) j 0 ≡ j * sectionSize)
+silent xs all j h none =
+    let t = tells xs all .each j h in
+    let i = getD (summaryOf xs .numbers) j 0 in
+    let a : getD (summaryOf xs .magnitudes) j nan ≡ zero64 = t .here ∙ none i (t .there) in
+    let first : InSection xs j (j * sectionSize) = record { from = omega arith; to = omega arith; there = omega (arith, h) } in
+    let not-later : j * sectionSize < i → ⊥ = λ l. not-below-itself (subst (λ (x : Float). T (lt x zero64)) (none (j * sectionSize) first) (subst (λ (x : Float). T (lt (magnitudeAt xs (j * sectionSize)) x)) a (t .first (j * sectionSize) first l))) in
+    (a, ⊎-elim (λ l. absurd (not-later l)) (λ g. omega (arith, g, t .there .from)) (lt-or-ge (j * sectionSize) i))
+  where
+    not-below-itself : T (lt zero64 zero64) → ⊥
+    not-below-itself l = lt-not-le zero64 zero64 l (unfold ofBits le in tt)
+
 -- ---- what a call leaves is right
 render-right : (g : Settings) (s : List ℕ) (b : Buffers) (k : ℕ) → renderOf g s b .result .answer ≡ Done k → IsRight (renderOf g s b .left)
 render-right g s b k e = subst (λ (o : Outcome Rendered). IsRight (o .left)) (sym (render-decided g s b .makes k e)) refl
@@ -238,6 +253,7 @@ peaks-beside-the-sound =
     record {
       tells = tells;
       tells-alone = tells-alone;
+      silent = silent;
       render-right = render-right;
       stays-right = stays-right;
       render-finite = render-finite;

@@ -15,6 +15,7 @@ use lib.Dec.{T}
 use lib.ListN.{length, getD}
 use lib.Ieee.{Float, nan, binary64, fits, lt, le}
 use lib.Ieee.Scale.{finite}
+use Rattle.floats.specs.Double.{zero64}
 use Rattle.answers.specs.declared.Answer.the-variants.{Done, Refused}
 use Rattle.answers.specs.declared.Refusal.{Refusal}
 use Rattle.peaks.specs.Peaks.{sampleAt, magnitudeAt}
@@ -55,9 +56,12 @@ IsRight b = b .summary ≡ summaryOf (b .heard)
 
 -- ---- the claim
 pub record PeaksBesideTheSound : Type 0 where
-  -- the summary worked out from nothing tells this of finite samples, and no other summary tells it of any samples
+  -- of finite samples the summary worked out from nothing tells this, and no other summary does
   pub tells : (xs : List Float) → AllFinite xs → Tells xs (summaryOf xs)
   pub tells-alone : (xs : List Float) (sum : Summary) → AllFinite xs → Tells xs sum → sum ≡ summaryOf xs
+  -- a silent section, of zeros of either sign, has +0 at its first sample
+  pub silent : (xs : List Float) → AllFinite xs → (j : ℕ) → j < entriesFor (length xs) → ((k : ℕ) → InSection xs j k → magnitudeAt xs k ≡ zero64)
+      → (getD (summaryOf xs .magnitudes) j nan ≡ zero64) × (getD (summaryOf xs .numbers) j 0 ≡ j * sectionSize)
   -- a render that is done leaves a right summary, and a re-render, whatever its answer, one that is right if it came so
   pub render-right : (g : Settings) (s : List ℕ) (b : Buffers) (k : ℕ) → renderOf g s b .result .answer ≡ Done k → IsRight (renderOf g s b .left)
   pub stays-right : (g : Settings) (old new : List ℕ) (b : Buffers) → IsRight b → IsRight (rerenderOf g old new b .left)
