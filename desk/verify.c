@@ -147,6 +147,7 @@ static void tell_sums(struct found *f) {
 static bool tell_shelf(struct found *f, struct why *why) {
     const struct from_zero *z = &f->beside;
     if (!z->shelf_path) return true;
+    /* The entries alone: the peaks are compared where they stand in the file. */
     struct sound kept = {.samples = z->zero.samples, .words = z->zero.words};
     kept.shelf = malloc(8 * kept.words + 8);
     if (!kept.shelf) return refuse(why, "no memory for %zu words", kept.words);
@@ -207,10 +208,9 @@ const struct verb verify_verb = {
     .help = "desk verify SCORE OUT.wav [--shelf FILE] [options]\n"
             "Renders the score from sample zero, beside the files, and compares every sample as the WAV holds it,\n"
             "bit for bit; with --shelf also every entry, every peak, the shelf's score, and its sums of the WAV.\n"
-            "Nothing is written. Settings and length are the shelf's; without --shelf the options', with the WAV's own "
-            "rate\n"
-            "and length. An export (--bits 16 or 24, --gain) is not compared. What differs is told line by line on\n"
-            "standard output. The last line there is, for scripts, one of\n"
+            "Nothing is written. Settings and length are the shelf's; without --shelf the options', with the WAV's\n"
+            "own rate and length. An export (--bits 16 or 24, --gain) is not compared. What differs is told line by\n"
+            "line on standard output. The last line there is, for scripts, one of\n"
             "  same: OUT.wav is the score's: N samples\n"
             "  same: OUT.wav is the score's: N samples, and FILE its shelf: N entries\n"
             "with exit status 0, or, with exit status 1, the first of these that holds (N, I and S are numbers;\n"

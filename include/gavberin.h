@@ -200,7 +200,7 @@ struct gav_settings {
  * shelf, words:     gav_shelf_words(n) words exactly; else 7. All are written: entry k, from word GAV_STATE_WORDS * k
  *                   on, is the state before sample 4096k
  * magnitudes, magnitudes_len, numbers, numbers_len: the summary, gav_sections(n) of each exactly; else 7, where either
- *                   length is another. All are written: magnitudes[k] is the peak of section k, 0 or more, and
+ *                   length is another. All are written: magnitudes[k] is the largest of section k, 0 or more, and
  *                   numbers[k] the first sample where it stands, 4096k or above and below n */
 uint64_t gav_render(uint32_t rate, uint32_t code, double duty, double attack, double decay, double sustain,
                     double release, uint32_t lfo_code, double lfo_duty, double lfo_frequency, double lfo_depth,
@@ -222,7 +222,7 @@ static inline uint64_t gav_render_with(const struct gav_settings *s, const uint8
  * new_, new_len:  the score to render now; it may be the same buffer
  * out, n; shelf, words; magnitudes, magnitudes_len, numbers, numbers_len: as for gav_render, holding what gav_render or
  *                 the last gav_rerender left. Written are the samples, entries, magnitudes and numbers from the start
- *                 section on; those before it stay, wrong ones too. Of the samples and the summary none is read */
+ *                 section on; those before it stay, wrong ones too. No sample and no summary that came is read */
 uint64_t gav_rerender(uint32_t rate, uint32_t code, double duty, double attack, double decay, double sustain,
                       double release, uint32_t lfo_code, double lfo_duty, double lfo_frequency, double lfo_depth,
                       uint32_t joined, const uint8_t *old, size_t old_len, const uint8_t *new_, size_t new_len,

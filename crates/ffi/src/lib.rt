@@ -90,7 +90,7 @@ pub extern "C" fn gav_sample_says(code: u32, phase: f64, dt: f64, duty: f64) -> 
     packed(answer)
 }
 
-// Every sample of the output, every entry of the shelf and every entry of the summary, from sample zero.
+// Every sample of the output, every entry of the shelf and every peak of the summary, from sample zero.
 #[no_mangle]
 pub extern "C" fn gav_render(
     rate: u32,

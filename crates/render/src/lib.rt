@@ -22,7 +22,7 @@ pub struct Rendered {
     pub state: State,
 }
 
-// Every sample of the output, every entry of the shelf and every entry of the summary, from the fresh state at sample
+// Every sample of the output, every entry of the shelf and every peak of the summary, from the fresh state at sample
 // zero.
 pub fn render(
     settings: Settings,
