@@ -15,54 +15,143 @@ struct Settings {
 }
 
 // The words of an entry.
-const ENTRY: usize = 13;
+pub const ENTRY: usize = 13;
 
-pub fn made(now: Now, letter: u8, pair: &mut [f64], shelves: &mut [u64], old: &[u8], new: &[u8]) {
-    let n = at_most(now.samples, pair.len() / 2);
-    let w = at_most(words_for(n), shelves.len() / 2);
+// A part of a buffer.
+struct Part {
+    start: usize,
+    end: usize,
+}
+
+// Makes a call on the first half; on the second half where it is M, or after B; after B nothing is told.
+pub fn made(
+    now: Now,
+    letter: u8,
+    pair: &mut [f64],
+    shelves: &mut [u64],
+    magnitudes: &mut [f64],
+    numbers: &mut [u64],
+    old: &[u8],
+    new: &[u8],
+) {
     let before = &old[0..at_most(now.old, old.len())];
     let after = &new[0..at_most(now.new, new.len())];
-    if letter == b'M' {
-        let said = call(
-            now,
-            letter,
-            before,
-            after,
-            &mut pair[n..n + n],
-            &mut shelves[w..w + w],
-        );
-        compared::tell(said, &pair[0..n], &pair[n..n + n]);
-        return;
-    }
-    if now.beside {
-        call(
-            now,
-            letter,
-            before,
-            after,
-            &mut pair[n..n + n],
-            &mut shelves[w..w + w],
-        );
-        return;
-    }
-    let said = call(
+    let said = on_half(
+        pair,
+        shelves,
+        magnitudes,
+        numbers,
         now,
         letter,
         before,
         after,
-        &mut pair[0..n],
-        &mut shelves[0..w],
     );
-    compared::tell(said, &pair[0..n], &pair[n..n + n]);
+    if !now.beside {
+        tell_call(now, said, pair);
+    }
+}
+
+fn tell_call(now: Now, said: u64, pair: &[f64]) {
+    let n = at_most(now.samples, pair.len() / 2);
+    let half = pair.len() / 2;
+    compared::tell(said, &pair[0..n], &pair[half..half + n]);
+}
+
+// The slices of which parts are lent stand first: the search for a proof does not reach the last arguments.
+fn on_half(
+    pair: &mut [f64],
+    shelves: &mut [u64],
+    magnitudes: &mut [f64],
+    numbers: &mut [u64],
+    now: Now,
+    letter: u8,
+    old: &[u8],
+    new: &[u8],
+) -> u64 {
+    let second = now.beside | (letter == b'M');
+    let sound = part_of(second, now.samples, pair.len());
+    let shelf = part_of(second, words_for(now.samples), shelves.len());
+    let sample = sound.start;
+    let sound_end = sound.end;
+    let word = shelf.start;
+    let shelf_end = shelf.end;
+    summed(
+        magnitudes,
+        numbers,
+        now,
+        letter,
+        old,
+        new,
+        &mut pair[sample..sound_end],
+        &mut shelves[word..shelf_end],
+    )
+}
+
+// Of that half's summary as many magnitudes and numbers are lent as the script says.
+fn summed(
+    magnitudes: &mut [f64],
+    numbers: &mut [u64],
+    now: Now,
+    letter: u8,
+    old: &[u8],
+    new: &[u8],
+    out: &mut [f64],
+    shelf: &mut [u64],
+) -> u64 {
+    let second = now.beside | (letter == b'M');
+    let heights = part_of(second, now.magnitudes, magnitudes.len());
+    let places = part_of(second, now.numbers, numbers.len());
+    let height = heights.start;
+    let heights_end = heights.end;
+    let place = places.start;
+    let places_end = places.end;
+    call(
+        now,
+        letter,
+        old,
+        new,
+        out,
+        shelf,
+        &mut magnitudes[height..heights_end],
+        &mut numbers[place..places_end],
+    )
+}
+
+// What is lent of a half of a buffer: its first elements, as many as wanted or as there are.
+fn part_of(second: bool, wanted: usize, length: usize) -> Part
+    ensures { λ r. ⌜ r .start ≤ r .end ⌝ }
+    ensures { λ r. ⌜ r .end ≤ length ⌝ }
+{
+    let half = length / 2;
+    let lent = at_most(wanted, half);
+    if second {
+        return Part {
+            start: half,
+            end: half + lent,
+        };
+    }
+    Part {
+        start: 0,
+        end: lent,
+    }
 }
 
 // What the call said; 0 for a letter that is no command.
-fn call(now: Now, letter: u8, old: &[u8], new: &[u8], out: &mut [f64], shelf: &mut [u64]) -> u64 {
+fn call(
+    now: Now,
+    letter: u8,
+    old: &[u8],
+    new: &[u8],
+    out: &mut [f64],
+    shelf: &mut [u64],
+    magnitudes: &mut [f64],
+    numbers: &mut [u64],
+) -> u64 {
     let s = settings_of(now.settings);
     match letter {
         b'C' => ffi::gav_check_score(new),
-        b'R' => rendered(s, new, out, shelf),
-        b'E' => rerendered(s, old, new, out, shelf),
+        b'R' => rendered(s, new, out, shelf, magnitudes, numbers),
+        b'E' => rerendered(s, old, new, out, shelf, magnitudes, numbers),
         b'K' => {
             let mut state = at_rest(now.last);
             continued(s, new, &mut state, now.first, out)
@@ -76,7 +165,14 @@ fn call(now: Now, letter: u8, old: &[u8], new: &[u8], out: &mut [f64], shelf: &m
     }
 }
 
-fn rendered(s: Settings, score: &[u8], out: &mut [f64], shelf: &mut [u64]) -> u64 {
+fn rendered(
+    s: Settings,
+    score: &[u8],
+    out: &mut [f64],
+    shelf: &mut [u64],
+    magnitudes: &mut [f64],
+    numbers: &mut [u64],
+) -> u64 {
     ffi::gav_render(
         8000,
         s.code,
@@ -93,10 +189,20 @@ fn rendered(s: Settings, score: &[u8], out: &mut [f64], shelf: &mut [u64]) -> u6
         score,
         out,
         shelf,
+        magnitudes,
+        numbers,
     )
 }
 
-fn rerendered(s: Settings, old: &[u8], new: &[u8], out: &mut [f64], shelf: &mut [u64]) -> u64 {
+fn rerendered(
+    s: Settings,
+    old: &[u8],
+    new: &[u8],
+    out: &mut [f64],
+    shelf: &mut [u64],
+    magnitudes: &mut [f64],
+    numbers: &mut [u64],
+) -> u64 {
     ffi::gav_rerender(
         8000,
         s.code,
@@ -114,6 +220,8 @@ fn rerendered(s: Settings, old: &[u8], new: &[u8], out: &mut [f64], shelf: &mut 
         new,
         out,
         shelf,
+        magnitudes,
+        numbers,
     )
 }
 
@@ -183,9 +291,9 @@ fn entry_of(shelf: &[u64]) -> [u64; ENTRY] {
 }
 
 // Writes bits into a word of both shelves; the bits that were there before.
-pub fn doctored(samples: usize, word: u64, bits: u64, shelves: &mut [u64]) -> u64 {
+pub fn doctored(word: u64, bits: u64, shelves: &mut [u64]) -> u64 {
     let at = word as usize;
-    let beside = std::num::wrapping_add_usize(at, words_for(samples));
+    let beside = std::num::wrapping_add_usize(at, shelves.len() / 2);
     if shelves.len() <= at {
         return 0;
     }
@@ -198,35 +306,86 @@ pub fn doctored(samples: usize, word: u64, bits: u64, shelves: &mut [u64]) -> u6
     before
 }
 
-// Writes rubbish into the first sample and the first word.
-pub fn spoil(pair: &mut [f64], shelves: &mut [u64]) {
-    if pair.len() == 0 {
+// Writes rubbish into the first of some floats and the first of some words.
+pub fn spoil(floats: &mut [f64], words: &mut [u64]) {
+    if floats.len() == 0 {
         return;
     }
-    if shelves.len() == 0 {
+    if words.len() == 0 {
         return;
     }
-    pair[0] = 100000.0;
-    shelves[0] = 1;
+    floats[0] = 100000.0;
+    words[0] = 1;
 }
 
-// Prints a word of the first shelf, or how far the halves differ.
-pub fn looked(now: Now, letter: u8, pair: &[f64], shelves: &[u64]) {
-    let n = at_most(now.samples, pair.len() / 2);
-    let w = at_most(words_for(n), shelves.len() / 2);
+// Prints a word of the first shelf, a peak of the first half where it has so many, or how far the halves differ.
+pub fn looked(
+    now: Now,
+    letter: u8,
+    pair: &[f64],
+    shelves: &[u64],
+    magnitudes: &[f64],
+    numbers: &[u64],
+) {
     let at = now.last as usize;
-    if letter == b'W' {
-        compared::tell_all(
-            &pair[0..n],
-            &pair[n..n + n],
-            &shelves[0..w],
-            &shelves[w..w + w],
-        );
-    } else {
-        if at < shelves.len() {
-            io::print_hex(STDOUT_FILENO, shelves[at], 16);
+    match letter {
+        b'W' => tell_both(now, pair, shelves, magnitudes, numbers),
+        b'Q' => {
+            let m = at_most(now.magnitudes, magnitudes.len());
+            if at < at_most(m, numbers.len()) {
+                compared::tell_peak(magnitudes[at], numbers[at]);
+            }
+        }
+        _ => {
+            if at < shelves.len() {
+                io::print_hex(STDOUT_FILENO, shelves[at], 16);
+            }
         }
     }
+}
+
+// How far samples and shelves differ between the halves, then how far the summaries do.
+fn tell_both(now: Now, pair: &[f64], shelves: &[u64], magnitudes: &[f64], numbers: &[u64]) {
+    tell_halves(
+        now.samples,
+        words_for(now.samples),
+        pair,
+        shelves,
+        b" samples and ",
+        b" words",
+    );
+    io::write_all(STDOUT_FILENO, b"; ");
+    tell_halves(
+        now.magnitudes,
+        now.numbers,
+        magnitudes,
+        numbers,
+        b" magnitudes and ",
+        b" numbers",
+    );
+}
+
+// How far halves of so many floats and words differ.
+fn tell_halves(
+    n: usize,
+    w: usize,
+    floats: &[f64],
+    words: &[u64],
+    after_floats: &[u8],
+    after_words: &[u8],
+) {
+    let m = at_most(n, floats.len() / 2);
+    let k = at_most(w, words.len() / 2);
+    let float = floats.len() / 2;
+    let word = words.len() / 2;
+    compared::tell_all(
+        &floats[0..m],
+        &floats[float..float + m],
+        &words[0..k],
+        &words[word..word + k],
+        after_floats,
+        after_words,
+    );
 }
 
 pub fn at_most(wanted: usize, most: usize) -> usize
@@ -240,7 +399,7 @@ pub fn at_most(wanted: usize, most: usize) -> usize
 }
 
 // The words of a shelf of so many samples.
-fn words_for(samples: usize) -> usize {
+pub fn words_for(samples: usize) -> usize {
     if samples % 4096 == 0 {
         return samples / 4096 * ENTRY;
     }

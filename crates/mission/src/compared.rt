@@ -1,5 +1,6 @@
 // What is told of a call: what it said, and how many samples or words differ between the halves of a pair, by their
-// bits; and a check number of all samples and words.
+// bits; and a check number of all samples and words. A summary is told the same way, its magnitudes as samples and its
+// numbers as words.
 use libc::STDOUT_FILENO;
 
 // Number, place, count; then how many samples of the first half differ from those of the second.
@@ -70,10 +71,26 @@ fn mixed(number: u64, bits: u64) -> u64 {
     (number % 0x7fff_ffff * 48271 + bits % 0x7fff_ffff) % 0x7fff_ffff
 }
 
-// How many samples and words differ, and the check number of all of them.
-pub fn tell_all(first: &[f64], second: &[f64], shelf: &[u64], beside: &[u64]) {
-    let number = mixed_words(mixed_words(0, shelf), beside);
-    tell_number(unlike(first, second), b" samples and ");
-    tell_number(unlike_words(shelf, beside), b" words differ; check number ");
+// How many samples and words differ, or magnitudes and numbers of a summary, and the check number of all of them.
+pub fn tell_all(
+    first: &[f64],
+    second: &[f64],
+    kept: &[u64],
+    beside: &[u64],
+    after_floats: &[u8],
+    after_words: &[u8],
+) {
+    let number = mixed_words(mixed_words(0, kept), beside);
+    tell_number(unlike(first, second), after_floats);
+    tell_number(unlike_words(kept, beside), after_words);
+    io::write_all(STDOUT_FILENO, b" differ; check number ");
     tell_number(mixed_samples(mixed_samples(number, first), second), b"");
+}
+
+// A peak: the bits of its magnitude, and the number of the sample where it stands.
+pub fn tell_peak(magnitude: f64, number: u64) {
+    io::write_all(STDOUT_FILENO, b" ");
+    io::print_hex(STDOUT_FILENO, words::f64_bits(magnitude), 16);
+    io::write_all(STDOUT_FILENO, b" at ");
+    tell_number(number, b";");
 }

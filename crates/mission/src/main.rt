@@ -1,7 +1,8 @@
-// What 01 says to run, and what the voice exists for: the falling pad. Standard input is the script, whose head tells
-// its language; the calls are those that C makes. For each call is printed what the call said, as number, place and
-// count, and how many samples differ from what they should be. What is proved for all input, chains of edits and of
-// parts included, is not run again.
+// What 01 and 02 say to run, and what the voice exists for: the falling pad. Standard input is the script, whose head
+// tells its language; the calls are those that C makes. For each call is printed what the call said, as number, place
+// and count, and how many samples differ from what they should be. Where samples and shelf are compared, the summary is
+// compared too, by its bits, with a check number of its own. What is proved for all input, chains of edits and of parts
+// included, is not run again.
 use libc::STDIN_FILENO;
 use libc::STDOUT_FILENO;
 
@@ -12,15 +13,18 @@ mod scores;
 // The script has fewer bytes.
 const SCRIPT: usize = 16384;
 
-// Twice as many samples as an output has at most, and twice the words of its shelf: the first half is what is tried,
-// the second half what it should be.
+// Twice as many samples as an output has at most, twice the words of its shelf, and twice its sections: the first half
+// is what is tried, the second half what it should be.
 const PAIR: usize = 40000;
 
 const SHELVES: usize = 130;
 
+const SECTIONS: usize = 10;
+
 // What has been read of the script: the byte that ends a text or a remark, 0 outside of both; the base of a number, and
-// the last two numbers; which settings, how many samples, how many bytes of the two scores; whether the next call is on
-// the second half; and which word of an entry was doctored, and its bits before.
+// the last two numbers; which settings, how many samples, how many magnitudes and numbers of a summary, how many bytes
+// of the two scores; whether the next call is on the second half; and which word of an entry was doctored, and its bits
+// before.
 pub struct Now {
     pub until: u8,
     pub base: u64,
@@ -28,6 +32,8 @@ pub struct Now {
     pub last: u64,
     pub settings: u64,
     pub samples: usize,
+    pub magnitudes: usize,
+    pub numbers: usize,
     pub old: usize,
     pub new: usize,
     pub beside: bool,
@@ -39,6 +45,8 @@ fn main() {
     let mut script = [0u8; SCRIPT];
     let mut pair = [0.0; PAIR];
     let mut shelves = [0u64; SHELVES];
+    let mut magnitudes = [0.0; SECTIONS];
+    let mut numbers = [0u64; SECTIONS];
     let mut old = [0u8; scores::BYTES];
     let mut new = [0u8; scores::BYTES];
     let size = io::read_full(STDIN_FILENO, &mut script);
@@ -46,12 +54,22 @@ fn main() {
         &script[0..size],
         &mut pair,
         &mut shelves,
+        &mut magnitudes,
+        &mut numbers,
         &mut old,
         &mut new,
     );
 }
 
-fn run(script: &[u8], pair: &mut [f64], shelves: &mut [u64], old: &mut [u8], new: &mut [u8]) {
+fn run(
+    script: &[u8],
+    pair: &mut [f64],
+    shelves: &mut [u64],
+    magnitudes: &mut [f64],
+    numbers: &mut [u64],
+    old: &mut [u8],
+    new: &mut [u8],
+) {
     let mut now = Now {
         until: 0,
         base: 10,
@@ -59,6 +77,8 @@ fn run(script: &[u8], pair: &mut [f64], shelves: &mut [u64], old: &mut [u8], new
         last: 0,
         settings: 0,
         samples: 0,
+        magnitudes: 0,
+        numbers: 0,
         old: 0,
         new: 0,
         beside: false,
@@ -67,8 +87,9 @@ fn run(script: &[u8], pair: &mut [f64], shelves: &mut [u64], old: &mut [u8], new
     };
     let mut i = 0;
     while i < script.len() {
-        now = read(now, script[i], pair, shelves, old, new);
+        let byte = script[i];
         i += 1;
+        now = read(now, byte, pair, shelves, magnitudes, numbers, old, new);
     }
 }
 
@@ -92,6 +113,8 @@ fn read(
     byte: u8,
     pair: &mut [f64],
     shelves: &mut [u64],
+    magnitudes: &mut [f64],
+    numbers: &mut [u64],
     old: &mut [u8],
     new: &mut [u8],
 ) -> Now {
@@ -117,12 +140,31 @@ fn read(
             io::write_all(STDOUT_FILENO, b"\n");
         }
         b' ' | b'_' => {}
-        _ => {
-            next = obeyed(now, byte, pair, shelves, old, new);
-            next.first = 0;
-            next.last = 0;
-            next.base = 10;
+        _ => next = obeyed(now, byte, pair, shelves, magnitudes, numbers, old, new),
+    }
+    next
+}
+
+// What is known after a command that makes no call and changes no buffer; after any command the numbers are 0.
+fn chosen(now: Now, letter: u8) -> Now {
+    let mut next = now;
+    next.first = 0;
+    next.last = 0;
+    next.base = 10;
+    match letter {
+        b'G' => next.settings = now.last,
+        b'N' => {
+            let sections = calls::words_for(now.last as usize) / calls::ENTRY;
+            next.samples = now.last as usize;
+            next.magnitudes = sections;
+            next.numbers = sections;
         }
+        b'L' => {
+            next.magnitudes = now.first as usize;
+            next.numbers = now.last as usize;
+        }
+        b'B' => next.beside = true,
+        _ => {}
     }
     next
 }
@@ -132,14 +174,14 @@ fn obeyed(
     letter: u8,
     pair: &mut [f64],
     shelves: &mut [u64],
+    magnitudes: &mut [f64],
+    numbers: &mut [u64],
     old: &mut [u8],
     new: &mut [u8],
 ) -> Now {
-    let mut next = now;
+    let mut next = chosen(now, letter);
     match letter {
-        b'G' => next.settings = now.last,
-        b'N' => next.samples = now.last as usize,
-        b'B' => next.beside = true,
+        b'G' | b'N' | b'L' | b'B' => {}
         b'O' => {
             scores::copy(new, old);
             next.old = now.new;
@@ -148,15 +190,18 @@ fn obeyed(
         b'+' => next.new = scores::added(now.new, now.first, now.last, new),
         b'D' => {
             next.word = now.first;
-            next.kept = calls::doctored(now.samples, now.first, now.last, shelves);
+            next.kept = calls::doctored(now.first, now.last, shelves);
         }
         b'U' => {
-            calls::doctored(now.samples, now.word, now.kept, shelves);
+            calls::doctored(now.word, now.kept, shelves);
         }
-        b'S' => calls::spoil(pair, shelves),
-        b'P' | b'W' => calls::looked(now, letter, pair, shelves),
+        b'S' => {
+            calls::spoil(pair, shelves);
+            calls::spoil(magnitudes, numbers);
+        }
+        b'P' | b'Q' | b'W' => calls::looked(now, letter, pair, shelves, magnitudes, numbers),
         _ => {
-            calls::made(now, letter, pair, shelves, old, new);
+            calls::made(now, letter, pair, shelves, magnitudes, numbers, old, new);
             next.beside = false;
         }
     }
