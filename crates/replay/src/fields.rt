@@ -9,6 +9,10 @@ use waveform::Waveform;
 // What each number holds before a call: no sample is that high.
 pub const UNWRITTEN: f64 = 42.0;
 
+// What each word of a shelf and each number of a summary holds before a call: no entry has that stage, and no sample
+// that number.
+pub const UNKEPT: u64 = 0x2a2a_2a2a_2a2a_2a2a;
+
 // The smaller of `wanted` and `most`.
 pub fn at_most(wanted: u64, most: usize) -> usize
     ensures { λ r. ⌜ r ≤ most ⌝ }

@@ -16,6 +16,7 @@ mod pitch_rows;
 mod polyblep_rows;
 mod render_rows;
 mod sine_rows;
+mod summary;
 mod voice_rows;
 mod waveform_rows;
 

@@ -1,9 +1,11 @@
 // The original's renders, driven span by span: a row is 45 u64, then its score, its samples and its shelf. The answer,
 // the state after, every sample and every word of the shelf are compared bit for bit; but where a sine is heard, which
 // is ours, a sample must only be within 0.000001 times its scale, which the row has. A re-render's row has, before the
-// samples that it must leave, its old score and the samples and the shelf that it starts with.
+// samples that it must leave, its old score and the samples and the shelf that it starts with. A row has no summary:
+// that of the call is held to its own samples.
 use crate::fields;
 use crate::nearness::Finding;
+use crate::summary;
 use envelope::Adsr;
 use render::Rendered;
 use state::Keying;
@@ -19,46 +21,83 @@ pub const MORE: usize = 8;
 // The byte of a row where its keying is kept: 0 struck, 1 joined.
 const KEYING: usize = 104;
 
-// What each word of the shelf holds before a call: no entry has that stage.
-const UNKEPT: u64 = 0x2a2a_2a2a_2a2a_2a2a;
-
-// As many samples and words are lent as the row says, at most 10,000 and 52.
+// As many samples and words are lent as the row says, at most 10,000 and 52, and a summary of so many samples, at most
+// of three sections.
 pub fn compared(row: &[u8]) -> Finding {
     let mut out = [fields::UNWRITTEN; 10000];
-    let mut shelf = [UNKEPT; 52];
+    let mut shelf = [fields::UNKEPT; 52];
+    let mut magnitudes = [fields::UNWRITTEN; 3];
+    let mut numbers = [fields::UNKEPT; 3];
     let samples = fields::at_most(words::u64_at(row, 112), 10000);
     let kept = fields::at_most(words::u64_at(row, 128), 52);
-    judged(row, &mut out[0..samples], &mut shelf[0..kept])
+    let sections = (samples + 4095) / 4096;
+    judged(
+        row,
+        &mut out[0..samples],
+        &mut shelf[0..kept],
+        &mut magnitudes[0..sections],
+        &mut numbers[0..sections],
+    )
+}
+
+// Whether the call's answer, its state and its summary are right; then its samples and its shelf.
+fn judged(
+    row: &[u8],
+    out: &mut [f64],
+    shelf: &mut [u64],
+    magnitudes: &mut [f64],
+    numbers: &mut [u64],
+) -> Finding {
+    let told = is_called(row, out, shelf, magnitudes, numbers);
+    let summed = summary::is_right(out, began(row, out.len()), magnitudes, numbers);
+    held(told & summed, row, out, shelf)
 }
 
 // A row ends with the shelf; before it lie the samples, and before them, where a sine is heard, their scales. A sine is
 // heard where the call was done, and the oscillator is one, or the LFO at a depth other than 0, of either sign.
-fn judged(row: &[u8], out: &mut [f64], shelf: &mut [u64]) -> Finding {
-    let told = is_called(row, out, shelf);
+fn held(all_else: bool, row: &[u8], out: &[f64], shelf: &[u64]) -> Finding {
     let size = out.len() << 3;
     let more = words::u64_at(row, MORE) as usize;
     let end = std::num::wrapping_add_usize(ROW, more << 3);
     let first = std::num::wrapping_sub_usize(end, shelf.len() << 3);
     let samples = std::num::wrapping_sub_usize(first, size);
     let scales = std::num::wrapping_sub_usize(samples, size);
-    let equal = told & fields::are_words(row, first, shelf);
+    let equal = all_else & fields::are_words(row, first, shelf);
     let is_swayed = (words::u64_at(row, 72) == 0) & (words::u64_at(row, 96) << 1 != 0);
     let is_done = words::u64_at(row, 248) % 256 == 0;
     let has_sine = is_done & ((words::u64_at(row, 24) == 0) | is_swayed);
     fields::compared(equal, row, has_sine, samples, scales, 8, out)
 }
 
+// The first sample that the call has made, by the count of the row's answer: past the last one where the call was
+// refused, and of a continuing call, which keeps no summary.
+fn began(row: &[u8], samples: usize) -> usize {
+    if words::u64_at(row, 0) == 1 {
+        return samples;
+    }
+    samples - fields::at_most(words::u64_at(row, 248) / 0x1_0000_0000, samples)
+}
+
 // Whether the call's answer and the state after it are the row's. A row with a keying that is none names no call.
-fn is_called(row: &[u8], out: &mut [f64], shelf: &mut [u64]) -> bool {
+fn is_called(
+    row: &[u8],
+    out: &mut [f64],
+    shelf: &mut [u64],
+    magnitudes: &mut [f64],
+    numbers: &mut [u64],
+) -> bool {
     if words::u64_at(row, KEYING) > 1 {
         return false;
     }
     let settings = settings_of(row);
     let score = bytes_at(row, ROW, 120);
     match words::u64_at(row, 0) {
-        0 => is_outcome(row, render::render(settings, score, out, shelf)),
+        0 => is_outcome(
+            row,
+            render::render(settings, score, out, shelf, magnitudes, numbers),
+        ),
         1 => is_continued(row, settings, score, out),
-        2 => is_rerendered(row, settings, score, out, shelf),
+        2 => is_rerendered(row, settings, score, out, shelf, magnitudes, numbers),
         _ => false,
     }
 }
@@ -81,6 +120,8 @@ fn is_rerendered(
     score: &[u8],
     out: &mut [f64],
     shelf: &mut [u64],
+    magnitudes: &mut [f64],
+    numbers: &mut [u64],
 ) -> bool {
     let old_at = past(row, ROW, 120);
     let first = past(row, old_at, 136);
@@ -91,7 +132,7 @@ fn is_rerendered(
         shelf,
     );
     let old = bytes_at(row, old_at, 136);
-    let answer = rerender::rerender(settings, old, score, out, shelf);
+    let answer = rerender::rerender(settings, old, score, out, shelf, magnitudes, numbers);
     fields::says(answer, words::u64_at(row, 248))
 }
 
