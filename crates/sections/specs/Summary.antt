@@ -16,8 +16,8 @@ use Rattle.sections.specs.Outcome.{Summary}
 abbrev pub sectionOf : List Float → ℕ → List Float
 sectionOf xs j = take sectionSize (drop (j * sectionSize) xs)
 
--- what is said of section j, whose peak is p: its largest magnitude, which hangs on p alone, and the number of the first
--- sample that has it
+-- what is said of section j, whose peak is p: its largest magnitude, for which p is enough, and the number of the
+-- first sample that has it
 abbrev pub largest : ℕ → Peak → Float
 largest j p = p .magnitude
 
