@@ -9,6 +9,7 @@ use lib.Seq.{take-at, drop-at, take-add, take-take, drop-drop, take-append-le, d
 use Rattle.shelf.specs.Shelf.{sectionSize, entryWords, entriesFor, wordsFor}
 use Rattle.judging.specs.Judging.{mostSamples}
 use Rattle.sections.specs.Outcome.{Buffers, lends, samplesIn, Lent, before, onward}
+use Rattle.sections.proofs.Room.{same-buffers}
 
 module _ {A : Type 0} where
   -- the first k items of xs, then ys
@@ -126,3 +127,18 @@ module _ (n m : ℕ) (there : m < entriesFor n) (b c : Buffers) (x : Sized n b) 
 -- words that are the same from section k on are the same from any later section on
 pub cut-later : (k m : ℕ) (b z : Buffers) → k ≤ m → onward k b ≡ onward k z → drop (m * entryWords) (b .stored) ≡ drop (m * entryWords) (z .stored)
 cut-later k m b z h e = later (k * entryWords) (m * entryWords) (b .stored) (z .stored) (omega arith) (ap (λ (d : Buffers). d .stored) e)
+
+-- what lies before section m and what lies from it on are all that there is
+pub cut-whole : (m : ℕ) (b c : Buffers) → before m b ≡ before m c → onward m b ≡ onward m c → b ≡ c
+cut-whole m b c e f =
+    same-buffers b c
+    (whole (m * sectionSize) (b .heard) (c .heard) (ap (λ (d : Buffers). d .heard) e) (ap (λ (d : Buffers). d .heard) f))
+    (whole (m * entryWords) (b .stored) (c .stored) (ap (λ (d : Buffers). d .stored) e) (ap (λ (d : Buffers). d .stored) f))
+    (rw (
+      whole m (b .summary .magnitudes) (c .summary .magnitudes) (ap (λ (d : Buffers). d .summary .magnitudes) e) (ap (λ (d : Buffers). d .summary .magnitudes) f),
+      whole m (b .summary .numbers) (c .summary .numbers) (ap (λ (d : Buffers). d .summary .numbers) e) (ap (λ (d : Buffers). d .summary .numbers) f),
+    )
+    refl)
+  where
+    whole : {A : Type 0} (k : ℕ) (xs ys : List A) → take k xs ≡ take k ys → drop k xs ≡ drop k ys → xs ≡ ys
+    whole k xs ys a b = sym (take-append-drop k xs) ∙ rw (a, b) (take-append-drop k ys)

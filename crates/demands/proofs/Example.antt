@@ -50,7 +50,7 @@ an-edit =
       new-taken = record { records = 2; accepted = edited-accepted };
     }
 
--- rubbish, but for entry 1: halves, sevens, and a summary that says that sample 7 of each section is 0.5
+-- rubbish, but for entry 1: halves, sevens, and a summary that has 0.5 at sample 7 for both sections
 abbrev pub rubbish : Buffers
 rubbish = lends (replicate 6000 half) (replicate entryWords 7 ++ entryOf (atSection trembling begins 1)) (replicate 2 half) (replicate 2 7)
 

@@ -3,7 +3,7 @@
 -- finite. Assumes nothing.
 use mathlib.Core.Path.{_≡_, refl, sym, ap, subst, _∙_}
 use mathlib.Core.Bool.{true}
-use mathlib.Core.List.{List}
+use mathlib.Core.List.{List, []}
 use mathlib.Core.Logic.{⊎-elim}
 use Prim.Native.Nat.{ℕ, _+_, _-_, _*_, _≤_, _<_}
 use native.Mathlib.Nat.{zero-add, eq-or-lt-of-le}
@@ -11,7 +11,7 @@ use native.Mathlib.Omega.{arith}
 use lib.Dec.{T, eqb}
 use lib.ListN.{length, getD, take, drop, length-append, length-drop, List·getD-append}
 use lib.Seq.{take-all, length-take-le, getD-take, getD-drop, getD-append-add, ext-getD}
-use lib.Ieee.{Float, nan, binary64, ofBits, fits, lt, le}
+use lib.Ieee.{Float, nan, binary64, ofBits, fits, lt, le, eq}
 use lib.Ieee.Bits.{ofBits-fits}
 use lib.Ieee.Scale.{finite}
 use Rattle.floats.specs.Double.{zero64}
@@ -20,9 +20,11 @@ use Rattle.runs.proofs.Listed.{listed-at}
 use Rattle.answers.specs.declared.Answer.{Answer}
 use Rattle.answers.specs.declared.Answer.the-variants.{Done, Refused}
 use Rattle.answers.specs.declared.Refusal.{Refusal}
-use Rattle.answers.proofs.Order.{first-holds}
+use Rattle.answers.specs.declared.Refusal.the-variants.{StartEntry}
+use Rattle.answers.proofs.Order.{first-holds, passed, none-both}
 use Rattle.peaks.specs.declared.Peak.{Peak}
 use Rattle.peaks.specs.Peaks.{sampleAt, magnitudeAt, magnitudeOf, peakOf, IsPeak}
+use Rattle.peaks.proofs.Magnitudes.{magnitude-is}
 use Rattle.peaks.proofs.Meaning.{peak-is}
 use Rattle.score.specs.declared.Verdict.the-variants.{Accepted}
 use Rattle.score.specs.Record.{countOf}
@@ -30,18 +32,19 @@ use Rattle.score.specs.Score.{verdictOf}
 use Rattle.score.specs.Below.{countBelow}
 use Rattle.score.proofs.Codec.{both}
 use Rattle.score.proofs.Cuts.{lt-or-ge}
-use Rattle.shelf.specs.Shelf.{sectionSize, entriesFor, stateOf, isEntry}
+use Rattle.shelf.specs.Shelf.{sectionSize, entryWords, entriesFor, stateOf, isEntry, shelfOf}
 use Rattle.shelf.proofs.Back.{entry-is-state}
-use Rattle.sections.specs.Outcome.{Summary, Buffers, samplesIn, roomIn, Outcome}
+use Rattle.sections.specs.Outcome.{Summary, Buffers, samplesIn, roomIn, onward, Outcome}
 use Rattle.sections.specs.Summary.{sectionOf, largest, firstNumber, saidFrom, summaryFrom, summaryOf}
-use Rattle.sections.specs.Sections.{upTo}
-use Rattle.sections.proofs.Summed.{said-length, summed-right}
+use Rattle.sections.specs.Sections.{upTo, summedUpTo}
+use Rattle.sections.proofs.Room.{in-room}
+use Rattle.sections.proofs.Summed.{said-length, said-rest, summed-right}
 use Rattle.state.specs.declared.Settings.{Settings}
 use Rattle.state.specs.declared.State.{State}
 use Rattle.state.specs.Settings.{settingsOk}
 use Rattle.state.specs.State.{freshOf, sampleOf}
 use Rattle.state.specs.Limits.{inLimits}
-use Rattle.state.specs.Heart.{begun, stateFrom, samplesFrom}
+use Rattle.state.specs.Heart.{begun, stateFrom, samplesFrom, entriesFrom}
 use Rattle.state.proofs.Fits.{Fitting, fresh-fits}
 use Rattle.state.proofs.Limits.{fresh-in, state-in}
 use Rattle.state.proofs.RunsOn.{samples-length}
@@ -52,9 +55,10 @@ use Rattle.render.specs.declared.Rendered.{Rendered}
 use Rattle.render.proofs.Outcomes.{render-decided}
 use Rattle.rerender.specs.declared.Plan.{Plan}
 use Rattle.rerender.specs.declared.Plan.the-variants.{Nothing, From}
-use Rattle.rerender.specs.Rerender.{planOf, entryAt, startOf, isStart, madeFrom, outcomeOf, rerenderRefusals, keptOf, rerenderOf}
-use Rattle.rerender.proofs.Cases.{plan-there, heard, made-is, Checked, rerender-decided}
-use Rattle.demands.specs.Peaks.{AllFinite, InSection, TellsOf, Tells, IsRight, PeaksBesideTheSound}
+use Rattle.rerender.specs.Rerender.{planOf, entryAt, startOf, isStart, madeFrom, outcomeOf, startRefusals, rerenderRefusals, keptOf, rerenderOf}
+use Rattle.rerender.proofs.Cases.{plan-there, heard, made-is, checks, Checked, all-checked, rerender-decided}
+use Rattle.demands.specs.Peaks.{AllFinite, InSection, TellsOf, Tells, IsRight, IsRightFrom, PeaksBesideTheSound}
+use Rattle.demands.proofs.Cut.{back, cut-whole}
 use Rattle.demands.proofs.Alone.{either-way, stays}
 
 -- ---- a section in the samples' own numbers
@@ -86,15 +90,15 @@ module _ (xs : List Float) (j : ℕ) where
   sample-is : (d : ℕ) → d < length part → sampleAt part d ≡ sampleAt xs (start + d)
   sample-is d h = getD-take sectionSize (drop start xs) d nan (inside d h .0) ∙ getD-drop start xs d nan
 
-  magnitude-is : (d : ℕ) → d < length part → magnitudeAt part d ≡ magnitudeAt xs (start + d)
-  magnitude-is d h = ap magnitudeOf (sample-is d h)
+  magnitude-at : (d : ℕ) → d < length part → magnitudeAt part d ≡ magnitudeAt xs (start + d)
+  magnitude-at d h = ap magnitudeOf (sample-is d h)
 
   -- sample k, which lies in the section, is sample k - start of it
   offset-in : (k : ℕ) → InSection xs j k → k - start < length part
   offset-in k s = reach (k - start) (omega (arith, s .from, s .to)) (omega (arith, s .from, s .there))
 
   magnitude-in : (k : ℕ) → InSection xs j k → magnitudeAt part (k - start) ≡ magnitudeAt xs k
-  magnitude-in k s = let e : start + (k - start) ≡ k = omega (arith, s .from) in magnitude-is (k - start) (offset-in k s) ∙ ap (magnitudeAt xs) e
+  magnitude-in k s = let e : start + (k - start) ≡ k = omega (arith, s .from) in magnitude-at (k - start) (offset-in k s) ∙ ap (magnitudeAt xs) e
 
   -- a peak of the section tells of it
   peak-tells : (p : Peak) → IsPeak part p → TellsOf xs j (p .magnitude) (start + p .offset)
@@ -102,7 +106,7 @@ module _ (xs : List Float) (j : ℕ) where
       let w = inside (p .offset) (q .there) in
       record {
         there = record { from = omega arith; to = omega (arith, w .0); there = w .1 };
-        here = q .here ∙ magnitude-is (p .offset) (q .there);
+        here = q .here ∙ magnitude-at (p .offset) (q .there);
         largest = λ k s. subst (λ (x : Float). T (le x (p .magnitude))) (magnitude-in k s) (q .largest (k - start) (offset-in k s));
         first = λ k s l. subst (λ (x : Float). T (lt x (p .magnitude))) (magnitude-in k s) (q .first (k - start) (omega (arith, s .from, l)));
       }
@@ -148,9 +152,10 @@ tells-alone xs sum all t =
     rw (a, b) refl
 
 -- of a silent section no sample is below another, so that the first counts
-silent : (xs : List Float) → AllFinite xs → (j : ℕ) → j < entriesFor (length xs) → ((k : ℕ) → InSection xs j k → magnitudeAt xs k ≡ zero64)
+silent : (xs : List Float) → AllFinite xs → (j : ℕ) → j < entriesFor (length xs) → ((k : ℕ) → InSection xs j k → T (eq (sampleAt xs k) zero64))
     → (getD (summaryOf xs .magnitudes) j nan ≡ zero64) × (getD (summaryOf xs .numbers) j 0 ≡ j * sectionSize)
-silent xs all j h none =
+silent xs all j h zeros =
+    let none : (k : ℕ) → InSection xs j k → magnitudeAt xs k ≡ zero64 = λ k s. magnitude-is (sampleAt xs k) .none (zeros k s) in
     let t = tells xs all .each j h in
     let i = getD (summaryOf xs .numbers) j 0 in
     let a : getD (summaryOf xs .magnitudes) j nan ≡ zero64 = t .here ∙ none i (t .there) in
@@ -232,6 +237,12 @@ upTo-finite k xs ys h a b i l =
     subst (λ (x : Float). T (finite x)) (sym (ap (sampleAt (upTo k xs ys)) (sym d) ∙ getD-append-add (take k xs) ys (i - k) nan)) (b (i - k) (omega (arith, e, l, length-append (take k xs) ys))))
     (lt-or-ge i k)
 
+-- the state of a start entry is within the limits
+start-in : (new : List ℕ) (m : ℕ) (b : Buffers) → isStart new m (b .stored) ≡ true → inLimits (startOf (b .stored) m) ≡ true
+start-in new m b i =
+    let v = startOf (b .stored) m in
+    state-in v (entry-is-state (entryAt (b .stored) m) (both (isEntry (entryAt (b .stored) m)) (eqb (v .acted) (countBelow new (m * sectionSize))) i .0))
+
 stays-finite : (g : Settings) → T (fits binary64 (g .adsr .sustain)) → (old new : List ℕ) (b : Buffers) → AllFinite (b .heard) → AllFinite (rerenderOf g old new b .left .heard)
 stays-finite g w old new b all = left-holds g old new b (λ (c : Buffers). AllFinite (c .heard)) all made
   where
@@ -239,10 +250,59 @@ stays-finite g w old new b all = left-holds g old new b (λ (c : Buffers). AllFi
     made m h i c =
         let n = samplesIn b in
         let v = startOf (b .stored) m in
-        let l : inLimits v ≡ true = state-in v (entry-is-state (entryAt (b .stored) m) (both (isEntry (entryAt (b .stored) m)) (eqb (v .acted) (countBelow new (m * sectionSize))) i .0)) in
         subst (λ (o : Outcome Answer). AllFinite (o .left .heard)) (sym (made-is g old new m b (c .fits)))
         (upTo-finite (m * sectionSize) (b .heard) (samplesFrom g new (m * sectionSize) v (n - m * sectionSize)) (omega (arith, h)) all
-        (samples-finite g (c .settings) w new (countOf new) (c .new-accepted) (m * sectionSize) v (read-fits (entryAt (b .stored) m)) l (n - m * sectionSize)))
+        (samples-finite g (c .settings) w new (countOf new) (c .new-accepted) (m * sectionSize) v (read-fits (entryAt (b .stored) m)) (start-in new m b i) (n - m * sectionSize)))
+
+render-told : (g : Settings) → T (fits binary64 (g .adsr .sustain)) → (s : List ℕ) (b : Buffers) (k : ℕ) → renderOf g s b .result .answer ≡ Done k → Tells (renderOf g s b .left .heard) (renderOf g s b .left .summary)
+render-told g w s b k e = rw (render-right g s b k e) (tells (renderOf g s b .left .heard) (render-finite g w s b k e))
+
+-- ---- a re-render that is done from section m on
+module _ (g : Settings) (old new : List ℕ) (b : Buffers) (m : ℕ) (planned : planOf old new (samplesIn b) ≡ From m) (k : ℕ) (done : rerenderOf g old new b .result ≡ Done k) where
+  abbrev n : ℕ
+  n = samplesIn b
+
+  abbrev xs : List Float
+  xs = samplesFrom g new (m * sectionSize) (startOf (b .stored) m) (n - m * sectionSize)
+
+  there : m < entriesFor n
+  there = plan-there old new n m planned
+
+  -- it was not refused
+  none-refused : rerenderRefusals g old new b ≡ []
+  none-refused = rerender-decided g old new b .done k done
+
+  is-checked : Checked g old new (roomIn b)
+  is-checked = all-checked g old new (roomIn b) (none-both (checks g old new (roomIn b)) (startRefusals new (planOf old new n) (b .stored)) none-refused .0)
+
+  is-start : isStart new m (b .stored) ≡ true
+  is-start = passed (isStart new m (b .stored)) StartEntry (rw planned at (none-both (checks g old new (roomIn b)) (startRefusals new (planOf old new n) (b .stored)) none-refused .1))
+
+  -- what is left
+  abbrev made : Buffers
+  made = record { heard = heard g old new m b; stored = upTo (m * entryWords) (b .stored) (shelfOf (entriesFrom g new m (startOf (b .stored) m) (entriesFor n - m))); summary = summedUpTo m (b .summary) (summaryFrom (heard g old new m b) m (entriesFor n - m)) }
+
+  left-is : rerenderOf g old new b .left ≡ made
+  left-is =
+      ap (λ (o : Outcome Answer). o .left) (rerender-decided g old new b .makes k done) ∙ ap (λ (q : Plan). outcomeOf g old new q b .left) planned
+      ∙ ap (λ (o : Outcome Answer). o .left) (made-is g old new m b (is-checked .fits))
+
+  rerender-finite : T (fits binary64 (g .adsr .sustain)) → AllFinite (onward m (rerenderOf g old new b .left) .heard)
+  rerender-finite w =
+      rw (ap (λ (c : Buffers). c .heard) left-is, back (m * sectionSize) (b .heard) xs (omega (arith, there)))
+      (samples-finite g (is-checked .settings) w new (countOf new) (is-checked .new-accepted) (m * sectionSize) (startOf (b .stored) m) (read-fits (entryAt (b .stored) m)) (start-in new m b is-start) (n - m * sectionSize))
+
+  -- what is said of the sections from section m on
+  said-is : {A : Type 0} (f : ℕ → Peak → A) (came : List A) → length came ≡ entriesFor n → drop m (upTo m came (saidFrom f (heard g old new m b) m (entriesFor n - m))) ≡ drop m (saidFrom f (heard g old new m b) 0 (entriesFor (length (heard g old new m b))))
+  said-is f came e =
+      back m came (saidFrom f (heard g old new m b) m (entriesFor n - m)) (omega (arith, e, there))
+      ∙ sym (said-rest f (heard g old new m b) m (entriesFor n) (omega (arith, there)))
+      ∙ ap (λ (i : ℕ). drop m (saidFrom f (heard g old new m b) 0 (entriesFor i))) (sym (heard-long g old new m b there))
+
+  rerender-right : IsRightFrom m (rerenderOf g old new b .left)
+  rerender-right =
+      let z = in-room b (is-checked .fits) in
+      rw left-is (record { magnitudes = said-is largest (b .summary .magnitudes) (z .magnitudes-fit); numbers = said-is firstNumber (b .summary .numbers) (z .numbers-fit) })
 
 -- ---- so what was told of finite samples is told of the finished output
 stays-told : (g : Settings) → T (fits binary64 (g .adsr .sustain)) → (old new : List ℕ) (b : Buffers) → AllFinite (b .heard) → Tells (b .heard) (b .summary) → Tells (rerenderOf g old new b .left .heard) (rerenderOf g old new b .left .summary)
@@ -251,15 +311,20 @@ stays-told g w old new b all t = rw (stays-right g old new b (tells-alone (b .he
 pub peaks-beside-the-sound : PeaksBesideTheSound
 peaks-beside-the-sound =
     record {
+      magnitudes = magnitude-is;
       tells = tells;
       tells-alone = tells-alone;
       silent = silent;
-      render-right = render-right;
-      stays-right = stays-right;
       render-finite = render-finite;
+      render-right = render-right;
+      render-told = render-told;
+      rerender-finite = λ g w old new b m q k e. rerender-finite g old new b m q k e w;
+      rerender-right = rerender-right;
+      stays-right = stays-right;
       stays-finite = stays-finite;
       stays-told = stays-told;
       untouched = stays;
       untouched-whole = untouched-whole;
       untouched-refused = untouched-refused;
+      cut = cut-whole;
     }

@@ -5,22 +5,22 @@
 -- a summary of the finished buffer worked out from nothing."
 -- What a summary tells is said here in the samples' own numbers, without sections cut out of a list and without a
 -- running peak (`Tells`): of finite samples the summary that is worked out from nothing tells this, and no other does.
--- That a summary stays right needs no finite sample; that it then tells the largest does, and every sample that a call
--- makes is finite. Demand 3 over the summary is in specs/Demand3.antt. The argument is in proofs/Peaks.antt.
--- Definitions only.
+-- That a summary stays right needs no finite sample; that it then tells the largest does, and every sample that a
+-- render or a re-render makes is finite. Demand 3 over the summary is in specs/Demand3.antt. The argument is in
+-- proofs/Peaks.antt. Definitions only.
 use mathlib.Core.Path.{_≡_}
 use mathlib.Core.List.{List}
 use Prim.Native.Nat.{ℕ, suc, _*_, _≤_, _<_}
 use lib.Dec.{T}
-use lib.ListN.{length, getD}
-use lib.Ieee.{Float, nan, binary64, fits, lt, le}
+use lib.ListN.{length, getD, drop}
+use lib.Ieee.{Float, nan, binary64, fits, lt, le, eq}
 use lib.Ieee.Scale.{finite}
 use Rattle.floats.specs.Double.{zero64}
 use Rattle.answers.specs.declared.Answer.the-variants.{Done, Refused}
 use Rattle.answers.specs.declared.Refusal.{Refusal}
-use Rattle.peaks.specs.Peaks.{sampleAt, magnitudeAt}
+use Rattle.peaks.specs.Peaks.{magnitudeOf, sampleAt, magnitudeAt, IsMagnitude}
 use Rattle.shelf.specs.Shelf.{sectionSize, entriesFor}
-use Rattle.sections.specs.Outcome.{Summary, Buffers, samplesIn, before}
+use Rattle.sections.specs.Outcome.{Summary, Buffers, samplesIn, before, onward}
 use Rattle.sections.specs.Summary.{summaryOf}
 use Rattle.state.specs.declared.Settings.{Settings}
 use Rattle.render.specs.Calls.{renderOf}
@@ -54,24 +54,40 @@ pub record Tells (xs : List Float) (sum : Summary) : Type 0 where
 abbrev pub IsRight : Buffers → Type 0
 IsRight b = b .summary ≡ summaryOf (b .heard)
 
--- ---- the claim
+-- right for the sections from section m on
+pub record IsRightFrom (m : ℕ) (b : Buffers) : Type 0 where
+  pub magnitudes : drop m (b .summary .magnitudes) ≡ drop m (summaryOf (b .heard) .magnitudes)
+  pub numbers : drop m (b .summary .numbers) ≡ drop m (summaryOf (b .heard) .numbers)
+
+-- ---- the claim; the sustain is a value of an f64, as every f64 of the code is
 pub record PeaksBesideTheSound : Type 0 where
+  -- a magnitude is a sample without its sign, +0 for a zero
+  pub magnitudes : (x : Float) → IsMagnitude x (magnitudeOf x)
   -- of finite samples the summary worked out from nothing tells this, and no other summary does
   pub tells : (xs : List Float) → AllFinite xs → Tells xs (summaryOf xs)
   pub tells-alone : (xs : List Float) (sum : Summary) → AllFinite xs → Tells xs sum → sum ≡ summaryOf xs
   -- a silent section, of zeros of either sign, has +0 at its first sample
-  pub silent : (xs : List Float) → AllFinite xs → (j : ℕ) → j < entriesFor (length xs) → ((k : ℕ) → InSection xs j k → magnitudeAt xs k ≡ zero64)
+  pub silent : (xs : List Float) → AllFinite xs → (j : ℕ) → j < entriesFor (length xs) → ((k : ℕ) → InSection xs j k → T (eq (sampleAt xs k) zero64))
       → (getD (summaryOf xs .magnitudes) j nan ≡ zero64) × (getD (summaryOf xs .numbers) j 0 ≡ j * sectionSize)
-  -- a render that is done leaves a right summary, and a re-render, whatever its answer, one that is right if it came so
-  pub render-right : (g : Settings) (s : List ℕ) (b : Buffers) (k : ℕ) → renderOf g s b .result .answer ≡ Done k → IsRight (renderOf g s b .left)
-  pub stays-right : (g : Settings) (old new : List ℕ) (b : Buffers) → IsRight b → IsRight (rerenderOf g old new b .left)
-  -- every sample that a call makes is finite; the sustain is a value of an f64, as every f64 of the code is
+  -- a render that is done makes finite samples, and leaves a right summary, which so tells of its output
   pub render-finite : (g : Settings) → T (fits binary64 (g .adsr .sustain)) → (s : List ℕ) (b : Buffers) (k : ℕ) → renderOf g s b .result .answer ≡ Done k → AllFinite (renderOf g s b .left .heard)
+  pub render-right : (g : Settings) (s : List ℕ) (b : Buffers) (k : ℕ) → renderOf g s b .result .answer ≡ Done k → IsRight (renderOf g s b .left)
+  pub render-told : (g : Settings) → T (fits binary64 (g .adsr .sustain)) → (s : List ℕ) (b : Buffers) (k : ℕ) → renderOf g s b .result .answer ≡ Done k → Tells (renderOf g s b .left .heard) (renderOf g s b .left .summary)
+  -- a re-render that is done from section m on makes finite samples, and its summary is right for the sections from m
+  -- on, whatever came
+  pub rerender-finite : (g : Settings) → T (fits binary64 (g .adsr .sustain)) → (old new : List ℕ) (b : Buffers) (m : ℕ) → planOf old new (samplesIn b) ≡ From m → (k : ℕ) → rerenderOf g old new b .result ≡ Done k
+      → AllFinite (onward m (rerenderOf g old new b .left) .heard)
+  pub rerender-right : (g : Settings) (old new : List ℕ) (b : Buffers) (m : ℕ) → planOf old new (samplesIn b) ≡ From m → (k : ℕ) → rerenderOf g old new b .result ≡ Done k
+      → IsRightFrom m (rerenderOf g old new b .left)
+  -- so, whatever the answer, a summary that came right stays right, finite samples stay finite, and a summary that told
+  -- the truth of finite samples tells it of the finished output
+  pub stays-right : (g : Settings) (old new : List ℕ) (b : Buffers) → IsRight b → IsRight (rerenderOf g old new b .left)
   pub stays-finite : (g : Settings) → T (fits binary64 (g .adsr .sustain)) → (old new : List ℕ) (b : Buffers) → AllFinite (b .heard) → AllFinite (rerenderOf g old new b .left .heard)
-  -- so a summary that told the truth of finite samples tells it of the finished output, whatever the answer
   pub stays-told : (g : Settings) → T (fits binary64 (g .adsr .sustain)) → (old new : List ℕ) (b : Buffers) → AllFinite (b .heard) → Tells (b .heard) (b .summary) → Tells (rerenderOf g old new b .left .heard) (rerenderOf g old new b .left .summary)
   -- what lies before the start is not touched, whatever the answer; where the plan is nothing or the call is refused,
   -- nothing is touched
   pub untouched : (g : Settings) (old new : List ℕ) (b : Buffers) (m : ℕ) → planOf old new (samplesIn b) ≡ From m → before m (rerenderOf g old new b .left) ≡ before m b
   pub untouched-whole : (g : Settings) (old new : List ℕ) (b : Buffers) → planOf old new (samplesIn b) ≡ Nothing → rerenderOf g old new b .left ≡ b
   pub untouched-refused : (g : Settings) (old new : List ℕ) (b : Buffers) (why : Refusal) → rerenderOf g old new b .result ≡ Refused why → rerenderOf g old new b .left ≡ b
+  -- what lies before a section and what lies from it on are all that there is
+  pub cut : (m : ℕ) (b c : Buffers) → before m b ≡ before m c → onward m b ≡ onward m c → b ≡ c

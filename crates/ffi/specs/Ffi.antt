@@ -5,7 +5,8 @@
 -- the desk also a waveform code above 4", which 02, R-11, amends: "6 accepts the new choice, which is code 6 at the
 -- desk; 5, the Rust's Noise, stays refused." 02, R-7: "Settings gain an LFO"; "6 covers the new settings", and so a
 -- code of the LFO's waveform that is none. 02, R-9: "A setting chooses joined or struck"; 0 is struck, 1 joined, and
--- any other number is refused with 6.
+-- any other number is refused with 6. 02, R-3: "7 also when the summary has not one entry a section", which is lent in
+-- two slices.
 -- Beyond 01: render, re-render, continuing call, fresh state and listing, on slices of f64 and u64 too.
 -- Each outcome is that of the call of the crate below, with its answer packed into one word, and what is left in every
 -- lent buffer. Definitions only.

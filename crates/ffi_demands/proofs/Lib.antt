@@ -13,5 +13,7 @@ pub mod FfiChain
 pub mod FfiDemand3
 -- any number of edits leave what one render of the last score leaves
 pub mod FfiEdits
+-- the summary: right after a gav_render, and after every gav_rerender where it came so
+pub mod FfiPeaks
 -- a chain and edits that meet the premises
 pub mod Example

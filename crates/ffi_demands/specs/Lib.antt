@@ -1,3 +1,4 @@
 pub mod WordsChain
 pub mod WordsDemand3
 pub mod WordsEdits
+pub mod WordsPeaks

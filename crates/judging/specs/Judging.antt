@@ -39,8 +39,8 @@ newRefusalsOf s = map NewScore (faultsOf s)
 abbrev pub mostSamples : ℕ
 mostSamples = 16777216
 
--- n samples are not too many, and for each section of n samples the shelf has thirteen words, and the summary one
--- magnitude and one number
+-- n samples are not too many, and for each section that n samples have begun the shelf has thirteen words, and the
+-- summary one magnitude and one number
 abbrev pub sizesFit : ℕ → ℕ → ℕ → ℕ → Bool
 sizesFit n words magnitudes numbers = leb n mostSamples && eqb words (wordsFor n) && eqb magnitudes (entriesFor n) && eqb numbers (entriesFor n)
 

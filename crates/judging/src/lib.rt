@@ -39,7 +39,7 @@ pub fn judged_new(new: &[u8]) -> Answer
 }
 
 // Whether samples <= 16,777,216, and the shelf has thirteen words, and the summary one magnitude and one number, for
-// each section of so many samples.
+// each section that so many samples have begun.
 pub fn sizes_fit(samples: usize, words: usize, magnitudes: usize, numbers: usize) -> bool
     ensures { λ r. ⌜ r ≡ sizesFit samples words magnitudes numbers ⌝ }
 {

@@ -3,7 +3,7 @@ use mathlib.Core.Path.{_≡_, refl}
 use mathlib.Core.Bool.{true, false}
 use mathlib.Core.List.{[], _∷_}
 use lib.Ieee.{Float, nan, inf, binary64, ofBits, neg, lt, eq}
-use Rattle.floats.specs.Double.{zero64, half, one}
+use Rattle.floats.specs.Double.{zero64, half, one, two}
 use Rattle.peaks.specs.Peaks.{stands, peakTo, peakOf}
 
 -- 0.9
@@ -24,6 +24,11 @@ of-minus-zeros = refl
 pub of-equals : peakOf (half ∷ neg half ∷ []) ≡ stands half 0
 unfolding peakTo ofBits neg lt eq
 of-equals = refl
+
+-- 0.5, 2 and -1: what is above 1 counts as it is
+pub of-two : peakOf (half ∷ two ∷ neg one ∷ []) ≡ stands two 1
+unfolding peakTo ofBits neg lt eq
+of-two = refl
 
 -- -0.9 and 0.5: the magnitude has no sign
 pub of-negative : peakOf (neg nineTenths ∷ half ∷ []) ≡ stands nineTenths 0

@@ -2,15 +2,20 @@
 -- and finds the same samples larger. Assumes nothing.
 use mathlib.Core.Path.{_≡_, refl, sym, subst}
 use mathlib.Core.Bool.{Bool, true, false, not, cond, _&&_, _||_, true≢false}
-use Prim.Native.Nat.{ℕ}
-use lib.Dec.{T, T-not}
-use lib.Ieee.{Float, ofBits, lt, le, eq, neg}
+use Prim.Native.Nat.{ℕ, _+_, _*_}
+use native.Mathlib.Omega.{arith}
+use lib.Dec.{T, T-not, eqb}
+use lib.Ieee.{Float, nan, inf, fin, binary64, ofBits, lt, le, eq, neg, up, down}
+use lib.Ieee.Bits.{is-true}
+use borrow.Author.Tests.{le-ltb, eqb-true}
 use lib.Ieee.Scale.{finite}
+use Rattle.floats.specs.Range.{plusZero}
 use Rattle.floats.specs.Double.{zero64}
-use Rattle.floats.proofs.Order.{fle-trans, lt-not-le, not-lt-le, by-contra}
+use Rattle.floats.proofs.Literals.{zeroOf-is}
+use Rattle.floats.proofs.Order.{fle-trans, lt-le, lt-not-le, not-lt-le, by-contra}
 use Rattle.floats.proofs.Signed.{neg-neg, finite-neg, neg-order}
 use Rattle.peaks.specs.declared.Peak.{Peak}
-use Rattle.peaks.specs.Peaks.{magnitudeOf, higher}
+use Rattle.peaks.specs.Peaks.{magnitudeOf, higher, IsMagnitude}
 use Rattle.peaks.specs.Inner.{sizeOf}
 
 -- ---- tests
@@ -40,6 +45,31 @@ equal-le x y e = rw e (go (lt x y))
     go : (b : Bool) → T (b || true)
     go true = tt
     go false = tt
+
+-- ---- what a magnitude is
+-- x = 0 as a number: not x < 0
+level-not-below : (x : Float) → eq x plusZero ≡ true → lt x plusZero ≡ false
+unfolding lt eq
+level-not-below nan e = refl
+level-not-below (inf s) e = absurd (true≢false (sym e))
+level-not-below (fin false m e) q = let a = m * up e * 1 in let b = 0 * 1 * down e in le-ltb a b (omega (arith, eqb-true a b (both-true (eqb a b) _ q .0)))
+level-not-below (fin true m e) q =
+    let a = m * up e * 1 in
+    let b = 0 * 1 * down e in
+    let h = both-true (eqb a b) (eqb a 0) q in
+    le-ltb 0 (a + b) (omega (arith, eqb-true a b (h .0), eqb-true a 0 (h .1)))
+
+pub magnitude-is : (x : Float) → IsMagnitude x (magnitudeOf x)
+magnitude-is x =
+    record {
+      below = λ h. rw (is-true (lt x zero64) h) refl;
+      none = λ h. (let e : eq x zero64 ≡ true = is-true (eq x zero64) h in let l : lt x zero64 ≡ false = rw (zeroOf-is binary64) (level-not-below x (rw (zeroOf-is binary64) at e)) in rw (l, e) refl);
+      above = λ h. rw (not-above x zero64 (lt-le zero64 x h), not-level h (eq x zero64) refl) refl;
+    }
+  where
+    not-level : T (lt zero64 x) → (t : Bool) → eq x zero64 ≡ t → eq x zero64 ≡ false
+    not-level h true e = absurd (lt-not-le zero64 x h (equal-le x zero64 e))
+    not-level h false e = e
 
 -- ---- beside a peak that is at least +0
 -- a sample that is not above it in size is not above it in magnitude

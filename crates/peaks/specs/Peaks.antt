@@ -3,8 +3,9 @@
 --
 -- Here a sample's number counts from the section's own first sample, and the section has any length. A magnitude is a
 -- sample without its sign, +0 for -0, so that silence has the peak +0. Of equal magnitudes the first sample counts.
--- Everything is defined for every list: no sample at all has the peak +0 at 0, and a NaN is above nothing. What the
--- peak of finite samples, one at least, means is `IsPeak`. Definitions only.
+-- Everything is defined for every list: the peak of no sample at all is +0 at 0, and a NaN is above nothing. What a
+-- magnitude means is `IsMagnitude`, and what the peak of finite samples, one at least, means is `IsPeak`. Definitions
+-- only.
 use mathlib.Core.Bool.{cond}
 use mathlib.Core.List.{List}
 use mathlib.Core.Path.{_≡_}
@@ -39,6 +40,12 @@ peakTo xs (suc k) = higher (peakTo xs k) (magnitudeAt xs k) k
 
 abbrev pub peakOf : List Float → Peak
 peakOf xs = peakTo xs (length xs)
+
+-- a is the magnitude of x, which is no NaN: x without its sign, and +0 for a zero of either sign
+pub record IsMagnitude (x a : Float) : Type 0 where
+  pub below : T (lt x zero64) → a ≡ neg x
+  pub none : T (eq x zero64) → a ≡ zero64
+  pub above : T (lt zero64 x) → a ≡ x
 
 -- p is the largest magnitude of xs, with the offset of the first sample where it stands
 pub record IsPeak (xs : List Float) (p : Peak) : Type 0 where

@@ -77,7 +77,7 @@ fn after(peak: Peak, x: f64, i: usize) -> Peak
     peak
 }
 
-// Whether each sample of the group from start on is at most that in size: a loop without a branch.
+// Whether each sample of the group from `start` on is at most `most` in size: a loop without a branch.
 fn is_quiet(section: &[f64], start: usize, most: f64) -> bool
     requires { ⌜ start + groupSize ≤ length (now section) ⌝ }
     ensures { λ r. ⌜ r ≡ isQuiet (now (section .entry)) start most groupSize ⌝ }
