@@ -2,8 +2,8 @@
 -- earlier row does, and a refusal leaves all as it came.
 -- 01, "What a call says": the table "No. | Given exactly when"; "Order: 6, 7, the old or only score, the new score
 -- (same numbers plus 16), then 8 or 10 .. In a score 1 first, then each record 2, 3, 4, 5. Place is the record's
--- index"; "A refusal .. hands back state by value as it came, and writes nowhere". 02, R-3: "7 also when the summary has
--- not one entry a section".
+-- index"; "A refusal .. hands back state by value as it came, and writes nowhere". 02, R-3: "7 also when the summary
+-- has not one entry a section".
 -- For each call a table says when each of its refusals is given; a refusal that the call never gives has the condition
 -- ⊥. Definitions only.
 use mathlib.Core.Path.{_≡_}

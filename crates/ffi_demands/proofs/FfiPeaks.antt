@@ -1,6 +1,6 @@
 -- The claim of specs/WordsPeaks.antt: under known settings the calls are those of `demands`, each answer packed; under
 -- unknown ones all is left as it came. Assumes nothing.
-use mathlib.Core.Path.{_≡_, refl, sym, subst}
+use mathlib.Core.Path.{_≡_, refl}
 use mathlib.Core.List.{List}
 use Prim.Native.Nat.{ℕ}
 use lib.Dec.{T}
