@@ -41,8 +41,9 @@ static const uint8_t falling[] = {OFF_69_AT_100, ON_69};
 
 static double out[N], out_before[N], played[N], all[N];
 static uint64_t shelf[2 * GAV_STATE_WORDS], shelf_before[LEN(shelf)], entries[LEN(shelf)];
-static double magnitudes[SECTIONS], magnitudes_before[SECTIONS], peaks[SECTIONS];
-static uint64_t numbers[SECTIONS], numbers_before[SECTIONS], places[SECTIONS];
+/* one more than the sections, for summaries that are too long */
+static double magnitudes[SECTIONS + 1], magnitudes_before[LEN(magnitudes)], peaks[SECTIONS];
+static uint64_t numbers[SECTIONS + 1], numbers_before[LEN(numbers)], places[SECTIONS];
 static uint64_t state[GAV_STATE_WORDS + 1], state_before[LEN(state)];
 static uint8_t text[GAV_LIST_ROOM], text_before[LEN(text)];
 
@@ -57,7 +58,7 @@ static void hold(int ok, const char *what, int line) {
 }
 #define HOLD(fact) hold(fact, #fact, __LINE__)
 
-/* Compared by bytes: -0.0 and +0.0 differ. */
+/* Compared by bytes, as many as the first array has: -0.0 and +0.0 differ. */
 #define SAME(a, b) (memcmp(a, b, sizeof(a)) == 0)
 
 static uint64_t says(unsigned number, uint32_t place, uint32_t count) {
@@ -92,7 +93,7 @@ static void keep_shelf(void) {
 /* Every buffer with a pattern that no call leaves, and a copy of each. */
 static void spoil(void) {
     put_nans(out, N);
-    put_nans(magnitudes, SECTIONS);
+    put_nans(magnitudes, LEN(magnitudes));
     memset(shelf, 0xA5, sizeof shelf);
     memset(numbers, 0xA5, sizeof numbers);
     memset(state, 0xA5, sizeof state);
@@ -108,7 +109,7 @@ static int is_before(void) {
     return SAME(shelf, shelf_before) && SAME(magnitudes, magnitudes_before) && SAME(numbers, numbers_before);
 }
 
-static int is_of_all(void) { return SAME(shelf, entries) && SAME(magnitudes, peaks) && SAME(numbers, places); }
+static int is_of_all(void) { return SAME(shelf, entries) && SAME(peaks, magnitudes) && SAME(places, numbers); }
 
 static int untouched(void) {
     return SAME(out, out_before) && is_before() && SAME(state, state_before) && SAME(text, text_before);
@@ -587,7 +588,7 @@ static int is_summed_up(const struct gav_settings *s, const uint8_t *score, size
                                     numbers, gav_sections(n));
     int right = said == says(0, 0, (uint32_t)n) && are_peaks(out, n, magnitudes, numbers);
     /* nothing is written after the last section */
-    for (size_t k = gav_sections(n); k < SECTIONS; k++) {
+    for (size_t k = gav_sections(n); k < LEN(magnitudes); k++) {
         right &= bits(magnitudes[k]) == bits(magnitudes_before[k]) && numbers[k] == numbers_before[k];
     }
     return right;
@@ -652,7 +653,7 @@ static void summed_edits(void) {
     HOLD(gav_rerender(SETTINGS, example, 20, longer, 30, out, N, shelf, 2 * WORDS, SUMMARY) == says(0, 0, N - GAV_SECTION));
     HOLD(SAME(out, all) && is_of_all());
     HOLD(gav_rerender(SETTINGS, longer, 30, example, 20, out, N, shelf, 2 * WORDS, SUMMARY) == says(0, 0, N - GAV_SECTION));
-    HOLD(are_peaks(out, N, magnitudes, numbers) && !SAME(magnitudes, peaks));
+    HOLD(are_peaks(out, N, magnitudes, numbers) && !SAME(peaks, magnitudes));
 }
 
 static void lists(void) {
