@@ -44,7 +44,8 @@ static uint64_t make(const struct calls *who, const struct call *c, struct buffe
     double *out = address(b, OUT), *part = c->samples == 0 && b->has_nulls ? NULL : out + c->from;
     uint64_t *shelf = address(b, SHELF), *numbers = address(b, NUMBERS);
     double *magnitudes = address(b, MAGNITUDES);
-    size_t n = b->len[OUT] / 8, words = b->len[SHELF] / 8, peaks = b->len[MAGNITUDES] / 8, at = b->len[NUMBERS] / 8;
+    size_t n = b->len[OUT] / 8, words = b->len[SHELF] / 8;
+    size_t magnitudes_len = b->len[MAGNITUDES] / 8, numbers_len = b->len[NUMBERS] / 8;
     switch (c->which) {
     case CHECK:
         return who->check(old, b->len[OLD]);
@@ -53,10 +54,11 @@ static uint64_t make(const struct calls *who, const struct call *c, struct buffe
     case FRESH:
         return who->fresh(address(b, STATE), c->words);
     case RENDER:
-        return who->render(&c->settings, old, b->len[OLD], out, n, shelf, words, magnitudes, peaks, numbers, at);
+        return who->render(&c->settings, old, b->len[OLD], out, n, shelf, words, magnitudes, magnitudes_len, numbers,
+                           numbers_len);
     case RERENDER:
-        return who->rerender(&c->settings, old, b->len[OLD], new_, b->len[NEW], out, n, shelf, words, magnitudes, peaks,
-                             numbers, at);
+        return who->rerender(&c->settings, old, b->len[OLD], new_, b->len[NEW], out, n, shelf, words, magnitudes,
+                             magnitudes_len, numbers, numbers_len);
     default:
         return who->go_on(&c->settings, old, b->len[OLD], address(b, STATE), c->words, c->position, part, c->samples);
     }

@@ -42,13 +42,13 @@ void judge_hear(struct round *r, const struct score *score, struct heard *heard)
     }
 }
 
-/* First the largest magnitude, then the first sample where it stands. */
+/* First the largest magnitude, then the first sample where it stands; in a section of NaNs the end, which is told. */
 void judge_peaks(const double *samples, size_t from, size_t n, double *magnitudes, uint64_t *numbers) {
     for (size_t first = from; first < n; first += GAV_SECTION) {
         size_t end = n - first < GAV_SECTION ? n : first + GAV_SECTION, at = first;
         double largest = 0.0;
         for (size_t i = first; i < end; i++) largest = fmax(largest, fabs(samples[i]));
-        while (fabs(samples[at]) != largest) at++;
+        while (at < end && fabs(samples[at]) != largest) at++;
         magnitudes[first / GAV_SECTION] = largest;
         numbers[first / GAV_SECTION] = at;
     }

@@ -1,11 +1,14 @@
 /* scale SEED ROUNDS [FIRST]: compares the library with the original, or with the reference voice where that is not
  * here, over so many rounds from the first on. Exit status 1 at the first difference, which is told with its seed and
- * round. */
+ * round; and where many rounds had no section of silence, or no peak above 1, and so compared too little. */
 #include "scale.h"
 
 #include <inttypes.h>
 #include <stdio.h>
 #include <stdlib.h>
+
+/* So many have both, whatever the seed: one in sixteen is silent, and one in sixteen has peaks above 1. */
+#define MANY_ROUNDS 1000
 
 static uint64_t read_number(const char *text) {
     char *end;
@@ -39,6 +42,12 @@ int main(int argc, char **argv) {
     for (uint64_t i = first; i < first + rounds; i++) {
         start_round(&round, seed, i);
         run_round(&round);
+    }
+    if (rounds >= MANY_ROUNDS && (tally.silent == 0 || tally.above == 0)) {
+        printf("scale: seed %" PRIu64 ", %" PRIu64 " rounds: of %" PRIu64 " peaks %" PRIu64
+               " were of silence and %" PRIu64 " above 1; there must be some of each\n",
+               seed, rounds, tally.peaks, tally.silent, tally.above);
+        return 1;
     }
     printf("scale: %" PRIu64 " rounds equal: %" PRIu64 " calls, %" PRIu64 " of them refused, %" PRIu64
            " samples, %" PRIu64 " words of entries and states, %" PRIu64 " peaks (%" PRIu64 " of silence, %" PRIu64

@@ -41,7 +41,7 @@ static size_t other_sections(struct round *r) {
     return PICK(&r->chance, others);
 }
 
-/* The shelf, the magnitudes and the numbers: of a wrong size is one of them alone, or some, or all. */
+/* The shelf, the magnitudes and the numbers: one of them, some or all have a wrong size. */
 static void lend_sizes(struct round *r, struct faults f) {
     uint64_t wrong = has(f, SIZE) ? 1 + below(&r->chance, 7) : 0;
     size_t sections = gav_sections(r->n);

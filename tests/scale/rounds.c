@@ -155,7 +155,7 @@ static void samples(struct round *r) {
     }
 }
 
-/* One round in sixteen is silent, and one has peaks above 1. */
+/* One round in sixteen is silent, and one in sixteen has peaks above 1. */
 static void draw(struct round *r) {
     struct chance *c = &r->chance;
     uint64_t kind = below(c, 16);

@@ -17,6 +17,7 @@ enum summary {
     STALE,               /* the peaks of the samples as they came */
     LARGER_KEPT,         /* a peak that came stays where it is larger */
     AS_FLOAT,            /* a magnitude is rounded to 24 bits */
+    CLAMPED,             /* a magnitude above 1 is 1 */
     WHOLE_ALONE,         /* a short section has none */
     FIRST_ALONE,         /* only the first section that is rendered has one */
     LEFT_ALONE,          /* none is written */

@@ -57,6 +57,7 @@ static void spoil_section(enum summary how, const struct lent_summary *lent, siz
     if (how == IN_SECTION) *at -= begin;
     if (how == LARGER_KEPT && came_magnitudes[section] > *magnitude) put_back(lent, section);
     if (how == AS_FLOAT) *magnitude = (float)*magnitude;
+    if (how == CLAMPED && *magnitude > 1.0) *magnitude = 1.0;
     if (how == WHOLE_ALONE && end > lent->n) put_back(lent, section);
     if (how == FIRST_ALONE && !is_first) put_back(lent, section);
     if (how == LEFT_ALONE) put_back(lent, section);
