@@ -58,6 +58,7 @@ struct bench {
 const char *goal(struct bench *bench, double value, double most);
 void same_bits(struct bench *bench, const char *who, const char *wave);
 void same_peaks(struct bench *bench, const char *who, const char *wave); /* in library.c, which holds them */
+void spoil_peaks(const struct bench *bench);                             /* ours, before a render that is compared */
 void differ(struct bench *bench, const char *what);
 void report_end(const struct bench *bench);
 

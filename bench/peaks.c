@@ -22,6 +22,7 @@ struct cost {
 
 static void compare(struct bench *b) {
     plain_render(&b->settings, &b->score, b->reference, b->samples);
+    spoil_peaks(b);
     render_time(b);
     same_bits(b, "ours, with peaks", WAVES[b->settings.code]);
     same_peaks(b, "ours", WAVES[b->settings.code]);
