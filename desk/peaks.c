@@ -3,7 +3,7 @@
 
 #include <stdlib.h>
 
-/* In as few digits as read back as the same number. */
+/* In at most 15 digits, or in 16 or 17 where fewer do not read back as the same number. */
 static void put_exact(double value) {
     char text[32];
     for (int digits = 15; digits <= 17; digits++) {

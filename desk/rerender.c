@@ -73,9 +73,9 @@ static bool has_peak(const struct rerender *r, size_t section) {
 }
 
 /* Refuses where a section that is not rendered again is not as it should be: those before the first that is, or all
-   where none is. The words are about the samples of the first such section. */
-static bool all_stay(const struct rerender *r, bool (*is_kept)(const struct rerender *, size_t), const char *words,
-                     struct why *why) {
+   where none is. The words, before and after the shelf's name, are about the samples of the first such section. */
+static bool all_stay(const struct rerender *r, bool (*is_kept)(const struct rerender *, size_t), const char *before,
+                     const char *after, struct why *why) {
     size_t from = r->about.samples - r->count, stay = (from + GAV_SECTION - 1) / GAV_SECTION, differ = 0, first = 0;
     for (size_t i = stay; i-- > 0;) {
         if (is_kept(r, i)) continue;
@@ -85,17 +85,17 @@ static bool all_stay(const struct rerender *r, bool (*is_kept)(const struct rere
     if (differ == 0) return true;
     const char *which = counted(stay, "section that a re-render would leave as it is",
                                 "sections that a re-render would leave as they are");
-    return refuse(
-        why,
-        "samples %zu to %zu of %s are not what %s %s; of %zu %s, %zu %s; nothing is written: render again with "
-        "`desk render`",
-        first * GAV_SECTION, section_end(r->wav.samples, first) - 1, r->wav_path, r->shelf_path, words, stay, which,
-        differ, counted(differ, "differs", "differ"));
+    return refuse(why,
+                  "samples %zu to %zu of %s %s %s %s; of %zu %s, %zu %s; nothing is written: render again with "
+                  "`desk render`",
+                  first * GAV_SECTION, section_end(r->wav.samples, first) - 1, r->wav_path, before, r->shelf_path,
+                  after, stay, which, differ, counted(differ, "differs", "differ"));
 }
 
 /* Sums first, so that the peaks of another sound's samples are not asked for. */
 static bool rest_is_kept(const struct rerender *r, struct why *why) {
-    return all_stay(r, has_sum, "was made with", why) && all_stay(r, has_peak, "has the peaks of", why);
+    return all_stay(r, has_sum, "are not what", "was made with", why) &&
+           all_stay(r, has_peak, "have not the peaks that", "has", why);
 }
 
 /* Writes the new samples of a section; whether the samples there were of another sound. */

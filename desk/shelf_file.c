@@ -125,13 +125,14 @@ static bool look_at_heads(const uint8_t *file, size_t len, struct why *why) {
 static bool look_at_sizes(const uint8_t *file, size_t len, struct shelf_file *about, struct why *why) {
     uint64_t samples = get_u64(file + 8 * SAMPLES), bits = get_u64(file + 8 * BITS);
     uint64_t score = get_u64(file + 8 * SCORE_LEN), entry = get_u64(file + 8 * ENTRY_WORDS);
+    uint64_t beside = get_u64(file + 8 * BESIDE_WORDS);
     if (samples > GAV_MOST_SAMPLES || (bits != 32 && bits != 64) || score > MOST_SCORE || entry != GAV_STATE_WORDS ||
-        get_u64(file + 8 * BESIDE_WORDS) != SHELF_BESIDE_WORDS) {
+        beside != SHELF_BESIDE_WORDS) {
         return refuse(why,
-                      "it is damaged: %llu samples of %llu bits, a score of %llu bytes or entries of %llu words "
-                      "cannot be",
+                      "it is damaged: %llu samples of %llu bits, a score of %llu bytes, entries of %llu words or "
+                      "%llu words beside an entry cannot be",
                       (unsigned long long)samples, (unsigned long long)bits, (unsigned long long)score,
-                      (unsigned long long)entry);
+                      (unsigned long long)entry, (unsigned long long)beside);
     }
     size_t wanted = file_len((size_t)samples, (size_t)score);
     if (len != wanted) return refuse(why, "it is damaged: %zu bytes, where its head asks for %zu", len, wanted);
@@ -141,7 +142,7 @@ static bool look_at_sizes(const uint8_t *file, size_t len, struct shelf_file *ab
     return true;
 }
 
-/* A peak is a number, not below +0, at a sample of its own section. */
+/* A peak is finite and has no sign, and stands at a sample of its own section. */
 static bool look_at_peaks(const uint8_t *file, size_t samples, struct why *why) {
     for (size_t i = 0; i < gav_sections(samples); i++) {
         uint64_t at = section_word(file, i, NUMBER);
