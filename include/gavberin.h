@@ -40,10 +40,11 @@
  *
  * The summary of an output has for each section its peak, for a level line: the largest magnitude of the section's
  * samples, 0 or more, and the number of the first sample where it stands, counted from 0 at the output's start. A
- * magnitude is a sample without its sign, +0 for -0. It is two buffers, the magnitudes (double) and the numbers
- * (uint64_t), one of each a section: a silent section 1 has magnitude +0 and number 4,096. A section's peak begins as
- * +0 at its first sample, and a sample takes over only where its magnitude is larger; so a NaN, which no call writes,
- * would not count. A summary that was right for an output of finite samples is right for it after every re-render.
+ * magnitude is a sample without its sign, +0 for -0. The summary is two buffers, the magnitudes (double) and the
+ * numbers (uint64_t), one of each a section: a silent section 1 has magnitude +0 and number 4,096. A section's peak
+ * begins as +0 at its first sample, and a sample takes over only where its magnitude is larger; so a NaN, which no call
+ * writes, would not count. A summary that was right for an output of finite samples is right for it after every
+ * re-render.
  *
  * A state, and an entry of a shelf, is GAV_STATE_WORDS words, a float as its 64 bits (IEEE 754 binary64):
  *    0       phase of the oscillator, a float: radians, 0 or more and below 1,000
@@ -79,7 +80,7 @@ extern "C" {
 #define GAV_VERSION 4
 
 /* The codes of the waveforms. The rounded triangle is a triangle whose corners are really rounded, so that it buzzes
- * less. Its peak is 1 - 4 * dt / 3, where dt is cycles a sample, so that it is softer the higher the note; above half a
+ * less. Its top is 1 - 4 * dt / 3, where dt is cycles a sample, so that it is softer the higher the note; above half a
  * cycle a sample it is rounded no longer, and nothing clamps it: it may pass 1. 5 is no waveform: 5, and 7 and up, are
  * refused with 6 wherever a code is given. */
 #define GAV_SINE 0
@@ -199,9 +200,9 @@ struct gav_settings {
  * out, n:           the samples, 0 to GAV_MOST_SAMPLES; else 7. All are written
  * shelf, words:     gav_shelf_words(n) words exactly; else 7. All are written: entry k, from word GAV_STATE_WORDS * k
  *                   on, is the state before sample 4096k
- * magnitudes, magnitudes_len, numbers, numbers_len: the summary, gav_sections(n) of each exactly; else 7, where either
- *                   length is another. All are written: magnitudes[k] is the largest of section k, 0 or more, and
- *                   numbers[k] the first sample where it stands, 4096k or above and below n */
+ * magnitudes, magnitudes_len, numbers, numbers_len: the summary, exactly gav_sections(n) of each; 7 where either length
+ *                   is another. All are written: magnitudes[k] is the largest magnitude of section k, 0 or more,
+ *                   numbers[k] the first sample where it stands: 4096k or above, below 4096(k + 1) and below n */
 uint64_t gav_render(uint32_t rate, uint32_t code, double duty, double attack, double decay, double sustain,
                     double release, uint32_t lfo_code, double lfo_duty, double lfo_frequency, double lfo_depth,
                     uint32_t joined, const uint8_t *score, size_t score_len, double *out, size_t n, uint64_t *shelf,
