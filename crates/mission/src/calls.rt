@@ -99,12 +99,12 @@ fn summed(
     shelf: &mut [u64],
 ) -> u64 {
     let second = now.beside | (letter == b'M');
-    let heights = part_of(second, now.magnitudes, magnitudes.len());
-    let places = part_of(second, now.numbers, numbers.len());
-    let height = heights.start;
-    let heights_end = heights.end;
-    let place = places.start;
-    let places_end = places.end;
+    let lent_magnitudes = part_of(second, now.magnitudes, magnitudes.len());
+    let lent_numbers = part_of(second, now.numbers, numbers.len());
+    let magnitudes_start = lent_magnitudes.start;
+    let magnitudes_end = lent_magnitudes.end;
+    let numbers_start = lent_numbers.start;
+    let numbers_end = lent_numbers.end;
     call(
         now,
         letter,
@@ -112,8 +112,8 @@ fn summed(
         new,
         out,
         shelf,
-        &mut magnitudes[height..heights_end],
-        &mut numbers[place..places_end],
+        &mut magnitudes[magnitudes_start..magnitudes_end],
+        &mut numbers[numbers_start..numbers_end],
     )
 }
 
@@ -331,8 +331,9 @@ pub fn looked(
     match letter {
         b'W' => tell_both(now, pair, shelves, magnitudes, numbers),
         b'Q' => {
-            let m = at_most(now.magnitudes, magnitudes.len());
-            if at < at_most(m, numbers.len()) {
+            let lent_magnitudes = at_most(now.magnitudes, magnitudes.len());
+            let lent_numbers = at_most(now.numbers, numbers.len());
+            if at < at_most(lent_magnitudes, lent_numbers) {
                 compared::tell_peak(magnitudes[at], numbers[at]);
             }
         }
