@@ -6,7 +6,7 @@ use crate::nearness::Finding;
 use answers::Answer;
 use waveform::Waveform;
 
-// What each number holds before a call: no sample is that high.
+// What each float holds before a call: no sample is that high.
 pub const UNWRITTEN: f64 = 42.0;
 
 // What each word of a shelf and each number of a summary holds before a call: no entry has that stage, and no sample
