@@ -162,6 +162,9 @@ bool read_length(const struct setting_texts *texts, const struct gav_settings *s
 const char *wave_name(uint32_t code);
 /* The settings in a line of words, without its end. */
 void put_settings(FILE *out, const struct gav_settings *settings);
+/* A number in 6 digits, or in as many more as read back as the same number; none is written that is not needed. */
+#define NUMBER_ROOM 32u
+const char *number_words(double value, char room[NUMBER_ROOM]);
 /* What --help says of the options. */
 void put_settings_help(FILE *out);
 /* Whether a setting is outside its limits: the first such one is kept in words. */

@@ -3,23 +3,13 @@
 
 #include <stdlib.h>
 
-/* In at most 15 digits, or in 16 or 17 where fewer do not read back as the same number. */
-static void put_exact(double value) {
-    char text[32];
-    for (int digits = 15; digits <= 17; digits++) {
-        snprintf(text, sizeof text, "%.*g", digits, value);
-        if (bits_of(strtod(text, NULL)) == bits_of(value)) break;
-    }
-    fputs(text, stdout);
-}
-
 static bool tell_peaks(const struct bytes *file, struct why *why) {
     struct shelf_file about;
     if (!shelf_look(file->at, file->len, &about, why)) return false;
     for (size_t i = 0; i < gav_sections(about.samples); i++) {
         struct peak peak = shelf_peak(file->at, i);
-        put_exact(peak.level);
-        printf(" %zu\n", peak.at);
+        char room[NUMBER_ROOM];
+        printf("%s %zu\n", number_words(peak.level, room), peak.at);
     }
     return true;
 }

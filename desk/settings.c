@@ -272,10 +272,7 @@ static double number_of(const struct setting *row, const struct gav_settings *se
     return row->kind == NUMBER ? from_bits(word) : (double)word;
 }
 
-#define NUMBER_ROOM 32u
-
-/* A number in as few digits as are read back as the same number; %g writes none that it does not need. */
-static const char *number_words(double value, char room[NUMBER_ROOM]) {
+const char *number_words(double value, char room[NUMBER_ROOM]) {
     int digits = 6;
     do {
         snprintf(room, NUMBER_ROOM, "%.*g", digits, value);
