@@ -2,6 +2,10 @@
 #include "bench.h"
 
 #include <stdio.h>
+
+/* Times what is owed: 1.05 for the re-render, and the tenth of the samples that the peaks may take (peaks.c), since a
+ * continuing call has none. */
+#define MOST_OWED 1.15
 #include <stdlib.h>
 
 /* A key is struck at the last sample: the re-render starts at the last section. */
@@ -68,7 +72,7 @@ static void measure_edit(struct bench *b, const char *where, struct score edited
     }
     double times = median(ratio, n);
     printf("%-12s %12zu %12.1f %12.1f %12.2f %6s\n", where, count, median(took, n) / 1e3, median(owed, n) / 1e3, times,
-           goal(b, times, 1.05));
+           goal(b, times, MOST_OWED));
     free(edited.bytes);
 }
 
@@ -78,7 +82,7 @@ void measure_edits(struct bench *b) {
     puts("\nre-renders, sawtooth; owed: the same samples by one continuing call, two checks and the comparison "
          "(as a\n"
          "re-render of two equal scores)");
-    printf("%-12s %12s %12s %12s %19s\n", "from", "samples", "us", "us owed", "ratio, <= 1.05");
+    printf("%-12s %12s %12s %12s %19s\n", "from", "samples", "us", "us owed", "ratio, <= 1.15");
     measure_edit(b, "last section", edit_end(b));
     measure_edit(b, "middle", edit_middle(b));
 }
