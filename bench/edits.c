@@ -2,11 +2,11 @@
 #include "bench.h"
 
 #include <stdio.h>
+#include <stdlib.h>
 
 /* Times what is owed: 1.05 for the re-render, and the tenth of the samples that the peaks may take (peaks.c), since a
  * continuing call has none. */
 #define MOST_OWED 1.15
-#include <stdlib.h>
 
 /* A key is struck at the last sample: the re-render starts at the last section. */
 static struct score edit_end(const struct bench *b) {
