@@ -2,8 +2,9 @@
 -- (01, "What a call says", 8 and 10). Definitions only.
 use mathlib.Core.Bool.{Bool, true, cond, _&&_, _||_}
 use mathlib.Core.List.{List}
-use Prim.Native.Nat.{ℕ, zero, suc, _+_, _≤_, _<_}
+use Prim.Native.Nat.{ℕ, zero, suc, _+_, _-_, _≤_, _<_}
 use lib.Dec.{ltb, leb}
+use Rattle.runs.specs.Runs.{firstPassing}
 use Rattle.score.specs.Record.{countOf, positionAt}
 
 -- how many of the first n records have a position below p
@@ -22,6 +23,11 @@ lastBelow s (suc k) p = ltb (positionAt s k) p
 -- there are at least k records; record k - 1, if k is not 0, is below p, and record k, if there is one, is not
 unfoldable pub isCountBelow : List ℕ → ℕ → ℕ → Bool
 isCountBelow s k p = leb k (countOf s) && lastBelow s k p && (leb (countOf s) k || leb p (positionAt s k))
+
+-- from record i on, the index of the first record that is not below p; the number of records where there is none, or i
+-- where i is more
+unfoldable pub nextNotBelow : List ℕ → ℕ → ℕ → ℕ
+nextNotBelow s i p = firstPassing (λ (j : ℕ). leb p (positionAt s j)) (countOf s - i) i
 
 -- positions never fall
 pub record Sorted (s : List ℕ) : Type 0 where

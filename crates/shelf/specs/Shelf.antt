@@ -13,7 +13,7 @@ use mathlib.Core.Bool.{Bool, true, false, cond, _&&_}
 use mathlib.Core.List.{List, [], _∷_, _++_}
 use Prim.Native.Nat.{ℕ, _+_, _-_, _*_, _/_, _%_}
 use lib.Dec.{eqb, leb}
-use lib.ListN.{length, getD}
+use lib.ListN.{length, getD, set, take, drop}
 use lib.Ieee.{Float, binary64, ofBits, toBits}
 use Rattle.envelope.specs.declared.Envelope.{Envelope}
 use Rattle.envelope.specs.declared.EnvelopeStage.{EnvelopeStage}
@@ -21,6 +21,7 @@ use Rattle.envelope.specs.declared.EnvelopeStage.the-variants.{Idle, Attack, De
 use Rattle.voice.specs.declared.keys.ActiveNote.{ActiveNote}
 use Rattle.voice.specs.declared.keys.ActiveNote.the-variants.{Silent, Note}
 use Rattle.voice.specs.declared.keys.Keys.{Keys}
+use Rattle.words.specs.Words.{same}
 use Rattle.waveform.specs.Waveform.{radians}
 use Rattle.state.specs.declared.State.{State}
 use Rattle.state.specs.Limits.{isState}
@@ -168,3 +169,19 @@ decodedOf ws = record { valid = isEntry ws; state = stateOf ws }
 unfoldable pub shelfOf : List State → List ℕ
 shelfOf [] = []
 shelfOf (v ∷ vs) = entryOf v ++ shelfOf vs
+
+-- the thirteen words of entry k
+abbrev pub entryAt : List ℕ → ℕ → List ℕ
+entryAt shelf k = take entryWords (drop (k * entryWords) shelf)
+
+-- ---- the number of records acted. 02, R-12: "if the state there equals the stored one apart from records acted";
+-- "Entries from the stop on get as records-acted number the new score's records below their position"; "An entry
+-- compared but not a state is simply unequal"
+-- the words with n as the number of records acted, whatever they are: bits 16 to 63 of word 5. Fewer than six words
+-- stay as they are
+abbrev pub withCount : List ℕ → ℕ → List ℕ
+withCount ws n = set ws 5 (word ws 5 % 65536 + 65536 * (n % 281474976710656))
+
+-- the words are an entry, and, but for the number of records acted, those of the state v: floats by their bits
+unfoldable pub meets : List ℕ → State → Bool
+meets ws v = isEntry ws && same (withCount ws 0) (withCount (entryOf v) 0)

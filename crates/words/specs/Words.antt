@@ -1,9 +1,9 @@
--- A number in bytes, low byte first. The bits of a float are those of the logic's account of IEEE 754 (`ofBits`,
+-- A number in bytes, low byte first; and whether two lists have the same words. The bits of a float are those of the logic's account of IEEE 754 (`ofBits`,
 -- `toBits`), where every NaN pattern is the one NaN. Definitions only.
-use mathlib.Core.Bool.{cond}
-use mathlib.Core.List.{List}
+use mathlib.Core.Bool.{Bool, true, false, cond, _&&_}
+use mathlib.Core.List.{List, [], _∷_}
 use Prim.Native.Nat.{ℕ, zero, suc, _+_, _*_}
-use lib.Dec.{leb}
+use lib.Dec.{leb, eqb}
 use lib.ListN.{length, getD}
 
 -- four bytes as one number, low byte first
@@ -19,3 +19,10 @@ lowFirst (suc n) bytes at = getD bytes at 0 + 256 * lowFirst n bytes (at + 1)
 unfoldable pub wordAt : ℕ → List ℕ → ℕ → ℕ
 unfolding lowFirst
 wordAt n bytes at = cond (leb (at + n) (length bytes)) (lowFirst n bytes at) 0
+
+-- whether two lists of words are as long as each other and have the same words
+unfoldable pub same : List ℕ → List ℕ → Bool
+same [] [] = true
+same [] (y ∷ ys) = false
+same (x ∷ xs) [] = false
+same (x ∷ xs) (y ∷ ys) = eqb x y && same xs ys
