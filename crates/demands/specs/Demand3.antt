@@ -8,12 +8,19 @@
 -- 02, R-3: "A re-render brings the summary up to date and touches only sections from its start entry on"; "Demand 3 now
 -- covers summary as well". So what is said below of samples and entries is said of the summary too: `onward` and
 -- `before` of `sections`' specs/Outcome.antt are all three of them.
+-- 02, R-12: "The re-render may stop at a later entry, if the state there equals the stored one apart from records
+-- acted, and the two scores' records from that position on are the same. It stops at the first such entry past the
+-- start"; "This needs all of buffer and shelf from the start on as the old render left them. The count is the samples
+-- from start to stop, or to the end where no entry stops it. Demand 3's equality with a fresh render stands; its count
+-- clause becomes this one." So `re-rendered` asks for all from the start section on as the old render left it, and says
+-- where the re-render stops in the words of two renders from sample zero (`StopsAt`). `by-parts` and `over-rubbish` say
+-- what holds where the caller has less.
 -- The demand's mark is the first sample of a section: sample 4096 m for section m, whose entry is entry m.
 -- The argument is in proofs/Demand3.antt, that of `parted` and `first-change` in proofs/First.antt. Definitions only.
 use mathlib.Core.Path.{_≡_}
 use mathlib.Core.Bool.{true}
 use mathlib.Core.List.{List}
-use Prim.Native.Nat.{ℕ, suc, _-_, _*_, _/_, _≤_, _<_}
+use Prim.Native.Nat.{ℕ, suc, _-_, _*_, _/_, min, _≤_, _<_}
 use lib.Dec.{T}
 use lib.ListN.{take}
 use lib.Ieee.{binary64, fits}
@@ -25,13 +32,17 @@ use Rattle.score.specs.declared.Difference.the-variants.{At}
 use Rattle.score.specs.declared.Verdict.the-variants.{Accepted}
 use Rattle.score.specs.Score.{verdictOf}
 use Rattle.score.specs.Below.{countBelow}
-use Rattle.score.specs.Apart.{differenceOf}
-use Rattle.shelf.specs.Shelf.{sectionSize}
+use Rattle.score.specs.Apart.{differenceOf, recordsFrom}
+use Rattle.shelf.specs.Shelf.{sectionSize, entriesFor, entryAt}
 use Rattle.state.specs.declared.Settings.{Settings}
+use Rattle.state.specs.declared.State.{State}
 use Rattle.state.specs.Settings.{settingsOk}
+use Rattle.state.specs.State.{freshOf}
+use Rattle.state.specs.Heart.{stateFrom}
+use Rattle.state.specs.ButActed.{SameButActed}
 use Rattle.render.specs.declared.Rendered.{Rendered}
 use Rattle.render.specs.Calls.{renderOf}
-use Rattle.rerender.specs.Rerender.{entryAt, rerenderOf}
+use Rattle.rerender.specs.Rerender.{recountedFrom, rerenderOf}
 
 -- ---- what is asked
 -- an accepted score
@@ -65,6 +76,24 @@ pub record FirstChange (old new : List ℕ) (p : ℕ) : Type 0 where
   pub same-below : recordsBelow old p ≡ recordsBelow new p
   pub apart-at : recordsBelow old (suc p) ≡ recordsBelow new (suc p) → ⊥
 
+-- ---- where a re-render stops
+-- the state before the first sample of section k, in a render of s from sample zero
+abbrev pub atSection : Settings → List ℕ → ℕ → State
+atSection g s k = stateFrom g s 0 (freshOf 0) (k * sectionSize)
+
+-- from section k on nothing more can change: both scores have the same records from its first sample on, and renders of
+-- both from sample zero have one state before that sample, but for the number of records acted
+pub record Settled (g : Settings) (old new : List ℕ) (k : ℕ) : Type 0 where
+  pub records : recordsFrom old (k * sectionSize) ≡ recordsFrom new (k * sectionSize)
+  pub states : SameButActed (atSection g old k) (atSection g new k)
+
+-- k is the first such section after section m in n samples; where there is none, k is the number of sections
+pub record StopsAt (g : Settings) (old new : List ℕ) (m n k : ℕ) : Type 0 where
+  pub past : m < k
+  pub within : k ≤ entriesFor n
+  pub settled : k < entriesFor n → Settled g old new k
+  pub first : (j : ℕ) → m < j → j < k → Settled g old new j → ⊥
+
 -- ---- what is promised
 -- `left` is left in place of `came`: from section m on, samples, entries and summary are what the render leaves in any
 -- buffers of the same size; before section m they are what came
@@ -72,18 +101,54 @@ pub record FromSection {R : Type 0} (came : Buffers) (render : BuffersOf (sample
   pub are-rendered : (r : BuffersOf (samplesIn came)) → onward m left ≡ onward m (render r .left)
   pub stay : before m left ≡ before m came
 
--- a call that started at section m: done, with the count of the samples from there to the end, and so not 8
-pub record Remade (g : Settings) (new : List ℕ) (m : ℕ) (b : Buffers) (o : Outcome Answer) : Type 0 where
-  pub counted : o .result ≡ Done (samplesIn b - m * sectionSize)
+-- a call that started at section m and stopped at section k, or at the end: done, with the count of the samples from
+-- start to stop, and so not 8; what lies between is the new render's; what lies before section m is as it came, and so
+-- is what lies from section k on, but for the numbers of records acted, which are the new score's
+pub record RemadeTo (g : Settings) (new : List ℕ) (m k : ℕ) (b : Buffers) (o : Outcome Answer) : Type 0 where
+  pub past : m < k
+  pub within : k ≤ entriesFor (samplesIn b)
+  pub counted : o .result ≡ Done (min (k * sectionSize) (samplesIn b) - m * sectionSize)
   pub never-8 : o .result ≡ Refused StartEntry → ⊥
+  pub are-rendered : (r : BuffersOf (samplesIn b)) → onward m (before k (o .left)) ≡ onward m (before k (leftIn g new r .left))
+  pub stay-before : before m (o .left) ≡ before m b
+  pub stay-after : onward k (o .left) ≡ onward k (recountedFrom new k b)
+
+-- everything from section m on came as the old render left it
+pub record Remade (g : Settings) (old new : List ℕ) (m : ℕ) (b : Buffers) (o : Outcome Answer) : Type 0 where
+  pub stop : ℕ
+  pub stops : StopsAt g old new m (samplesIn b) stop
+  pub to-the-stop : RemadeTo g new m stop b o
   pub left : FromSection b (leftIn g new) m (o .left)
+
+-- the entries from section m on came so, whatever the rest: they are the new render's, and samples and summary are each
+-- the new render's from section m on if they came as the old render left them
+pub record RemadeByParts (g : Settings) (old new : List ℕ) (m : ℕ) (b : Buffers) (o : Outcome Answer) : Type 0 where
+  pub stop : ℕ
+  pub stops : StopsAt g old new m (samplesIn b) stop
+  pub to-the-stop : RemadeTo g new m stop b o
+  pub entries : (r : BuffersOf (samplesIn b)) → onward m (o .left) .stored ≡ onward m (leftIn g new r .left) .stored
+  pub samples : (q r : BuffersOf (samplesIn b)) → onward m b .heard ≡ onward m (leftIn g old q .left) .heard → onward m (o .left) .heard ≡ onward m (leftIn g new r .left) .heard
+  pub summary : (q r : BuffersOf (samplesIn b)) → onward m b .summary ≡ onward m (leftIn g old q .left) .summary → onward m (o .left) .summary ≡ onward m (leftIn g new r .left) .summary
+
+-- the start entry alone came so: the call stops somewhere; where it does not, all from section m on is the new render's
+pub record RemadeOver (g : Settings) (new : List ℕ) (m : ℕ) (b : Buffers) (o : Outcome Answer) : Type 0 where
+  pub stop : ℕ
+  pub to-the-stop : RemadeTo g new m stop b o
+  pub to-the-end : stop ≡ entriesFor (samplesIn b) → FromSection b (leftIn g new) m (o .left)
 
 -- ---- the claim
 pub record Demand3 : Type 0 where
-  -- the first changed record is at p, before the end, and the entry of the section that holds p is what a render of the
+  -- the first changed record is at p, before the end, and all from the section that holds p on is what a render of the
   -- old score left there
   pub re-rendered : (g : Settings) (old new : List ℕ) → Edit g old new → (b : Buffers) → Lent b → (p : ℕ) → differenceOf old new ≡ At p → p < samplesIn b
-      → (r : BuffersOf (samplesIn b)) → entryAt (b .stored) (p / sectionSize) ≡ entryAt (leftIn g old r .left .stored) (p / sectionSize) → Remade g new (p / sectionSize) b (rerenderOf g old new b)
+      → (r : BuffersOf (samplesIn b)) → onward (p / sectionSize) b ≡ onward (p / sectionSize) (leftIn g old r .left) → Remade g old new (p / sectionSize) b (rerenderOf g old new b)
+  -- all entries from that section on are; or its entry alone is
+  pub by-parts : (g : Settings) (old new : List ℕ) → Edit g old new → (b : Buffers) → Lent b → (p : ℕ) → differenceOf old new ≡ At p → p < samplesIn b
+      → (r : BuffersOf (samplesIn b)) → onward (p / sectionSize) b .stored ≡ onward (p / sectionSize) (leftIn g old r .left) .stored → RemadeByParts g old new (p / sectionSize) b (rerenderOf g old new b)
+  pub over-rubbish : (g : Settings) (old new : List ℕ) → Edit g old new → (b : Buffers) → Lent b → (p : ℕ) → differenceOf old new ≡ At p → p < samplesIn b
+      → (r : BuffersOf (samplesIn b)) → entryAt (b .stored) (p / sectionSize) ≡ entryAt (leftIn g old r .left .stored) (p / sectionSize) → RemadeOver g new (p / sectionSize) b (rerenderOf g old new b)
+  -- there is one stop
+  pub one-stop : (g : Settings) (old new : List ℕ) (m n j k : ℕ) → StopsAt g old new m n j → StopsAt g old new m n k → j ≡ k
   -- the scores are equal, whatever shelf and summary hold
   pub equal : (g : Settings) (s : List ℕ) → Edit g s s → (b : Buffers) → Lent b → rerenderOf g s s b ≡ leaves (Done 0) b
   -- the first change lies at or past the end, whatever shelf and summary hold

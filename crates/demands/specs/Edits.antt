@@ -3,7 +3,7 @@
 -- "every edit started from a state some milliseconds past the cut".
 -- A score is rendered; then each next score is re-rendered, after the score before it, into the same output, shelf and
 -- summary. After any number of edits every call is done with its count, and output, shelf and summary are those of one
--- render of the last score.
+-- render of the last score, wherever each call stopped (02, R-12).
 -- The claim also covers buffers that hold what a render left only from section m on (`HonestFrom`), where no edit lies
 -- before section m: what lies before section m stays as it came.
 -- The argument is in proofs/Edits.antt. Definitions only.
@@ -21,6 +21,7 @@ use Rattle.score.specs.Apart.{differenceOf}
 use Rattle.shelf.specs.Shelf.{sectionSize}
 use Rattle.state.specs.declared.Settings.{Settings}
 use Rattle.state.specs.Settings.{settingsOk}
+use Rattle.render.specs.Calls.{madeOf}
 use Rattle.rerender.specs.Rerender.{planOf, countFor, rerenderOf}
 use Rattle.demands.specs.Demand3.{Taken, BuffersOf, leftIn, FromSection}
 
@@ -39,10 +40,10 @@ unfoldable pub lastScore : List ℕ → List (List ℕ) → List ℕ
 lastScore old [] = old
 lastScore old (new ∷ rest) = lastScore new rest
 
--- each call is done, with the count of its plan in an output of n samples
+-- each call is done, with the count that its plan has in what a render of the score before leaves in n samples
 unfoldable pub allCounted : Settings → List ℕ → List (List ℕ) → ℕ → List Answer
 allCounted g old [] n = []
-allCounted g old (new ∷ rest) n = Done (countFor g old new (planOf old new n) n) ∷ allCounted g new rest n
+allCounted g old (new ∷ rest) n = Done (countFor g old new (planOf old new n) (madeOf g old n .left)) ∷ allCounted g new rest n
 
 -- ---- what is asked
 -- every score is accepted

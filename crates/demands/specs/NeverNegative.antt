@@ -11,17 +11,18 @@
 use mathlib.Core.Path.{_≡_}
 use mathlib.Core.Bool.{true, false}
 use mathlib.Core.List.{List}
-use Prim.Native.Nat.{ℕ, _-_, _*_}
+use Prim.Native.Nat.{ℕ, _+_, _-_, _*_}
 use lib.Dec.{T}
 use lib.Ieee.{Float, binary64, ofBits, lt, le, fits}
 use Rattle.floats.specs.Double.{zero64}
 use Rattle.sections.specs.Outcome.{Buffers, samplesIn, leaves}
-use Rattle.sections.specs.Summary.{summaryFrom, summaryOf}
+use Rattle.sections.specs.Summary.{summaryOf}
+use Rattle.sections.specs.Sections.{madeBetween}
 use Rattle.answers.specs.declared.Answer.the-variants.{Done}
 use Rattle.waveform.specs.Waveform.{remainderOf}
 use Rattle.score.specs.declared.Verdict.the-variants.{Accepted}
 use Rattle.score.specs.Score.{verdictOf}
-use Rattle.shelf.specs.Shelf.{sectionSize, entryWords, entriesFor, shelfOf}
+use Rattle.shelf.specs.Shelf.{sectionSize, entriesFor, shelfOf}
 use Rattle.state.specs.declared.Settings.{Settings}
 use Rattle.state.specs.declared.State.{State}
 use Rattle.state.specs.Settings.{settingsOk}
@@ -31,7 +32,7 @@ use Rattle.state.specs.Heart.{stateFrom, samplesFrom}
 use Rattle.state.specs.Branching.{branchingOf, stateBranching, samplesBranching, entriesBranching}
 use Rattle.render.specs.Calls.{says, leavesPart, renderOf, continueOf}
 use Rattle.rerender.specs.declared.Plan.the-variants.{From}
-use Rattle.rerender.specs.Rerender.{planOf, startOf, stopOf, between, summedBetween, rerenderOf}
+use Rattle.rerender.specs.Rerender.{planOf, startOf, recountedFrom, rerenderOf}
 
 abbrev pub minusOne : Float
 minusOne = ofBits binary64 0xbff0_0000_0000_0000
@@ -63,16 +64,9 @@ pub record NeverNegative : Type 0 where
       → continueOf g s v p part ≡ leavesPart (says (Done k) (stateBranching g s p v k)) (samplesBranching g s p v k)
   -- a re-render that is done, from the state of the entry of section m, whoever made that entry
   pub re-rendered : (g : Settings) → T (fits binary64 (g .adsr .sustain)) → (old new : List ℕ) (b : Buffers) (m : ℕ) → planOf old new (samplesIn b) ≡ From m → (k : ℕ) → rerenderOf g old new b .result ≡ Done k
-      → let stop = stopOf g old new m (samplesIn b) in
+      → let stop = m * sectionSize + k in
       let v = startOf (b .stored) m in
-      let heard = between (m * sectionSize) stop (b .heard) (samplesBranching g new (m * sectionSize) v k) in
       rerenderOf g old new b
-      ≡ leaves
-      (Done k)
-      (record {
-        heard = heard;
-        stored = between (m * entryWords) (entriesFor stop * entryWords) (b .stored) (shelfOf (entriesBranching g new m v (entriesFor stop - m)));
-        summary = summedBetween m (entriesFor stop) (b .summary) (summaryFrom heard m (entriesFor stop - m));
-      })
+      ≡ leaves (Done k) (recountedFrom new (entriesFor stop) (madeBetween m stop (samplesBranching g new (m * sectionSize) v k) (shelfOf (entriesBranching g new m v (entriesFor stop - m))) b))
   -- a phase must not be negative for that: at a phase of -1 the two reductions part
   pub parted-below-0 : (v : State) → v .phase .0 ≡ minusOne → reducedOf v ≡ branchingOf v → ⊥

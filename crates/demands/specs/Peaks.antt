@@ -6,13 +6,13 @@
 -- What a summary tells is said here in the samples' own numbers, without sections cut out of a list and without a
 -- running peak (`Tells`): of finite samples the summary that is worked out from nothing tells this, and no other does.
 -- That a summary stays right needs no finite sample; that it then tells the largest does, and every sample that a
--- render or a re-render makes is finite. Demand 3 over the summary is in specs/Demand3.antt. The argument is in
+-- render or a re-render makes is finite. 02, R-12: "nothing else from the stop on is written". Demand 3 over the summary is in specs/Demand3.antt. The argument is in
 -- proofs/Peaks.antt. Definitions only.
 use mathlib.Core.Path.{_≡_}
 use mathlib.Core.List.{List}
-use Prim.Native.Nat.{ℕ, suc, _*_, _≤_, _<_}
+use Prim.Native.Nat.{ℕ, suc, _+_, _*_, _≤_, _<_}
 use lib.Dec.{T}
-use lib.ListN.{length, getD, drop}
+use lib.ListN.{length, getD, take, drop}
 use lib.Ieee.{Float, nan, binary64, fits, lt, le, eq}
 use lib.Ieee.Scale.{finite}
 use Rattle.floats.specs.Double.{zero64}
@@ -54,10 +54,15 @@ pub record Tells (xs : List Float) (sum : Summary) : Type 0 where
 abbrev pub IsRight : Buffers → Type 0
 IsRight b = b .summary ≡ summaryOf (b .heard)
 
--- right for the sections from section m on
-pub record IsRightFrom (m : ℕ) (b : Buffers) : Type 0 where
-  pub magnitudes : drop m (b .summary .magnitudes) ≡ drop m (summaryOf (b .heard) .magnitudes)
-  pub numbers : drop m (b .summary .numbers) ≡ drop m (summaryOf (b .heard) .numbers)
+-- right for the sections from section m up to, not including, section e
+pub record IsRightBetween (m e : ℕ) (b : Buffers) : Type 0 where
+  pub magnitudes : drop m (take e (b .summary .magnitudes)) ≡ drop m (take e (summaryOf (b .heard) .magnitudes))
+  pub numbers : drop m (take e (b .summary .numbers)) ≡ drop m (take e (summaryOf (b .heard) .numbers))
+
+-- the same samples and summary from section e on
+pub record SameAfter (e : ℕ) (b c : Buffers) : Type 0 where
+  pub heard : onward e b .heard ≡ onward e c .heard
+  pub summary : onward e b .summary ≡ onward e c .summary
 
 -- ---- the claim; the sustain is a value of an f64, as every f64 of the code is
 pub record PeaksBesideTheSound : Type 0 where
@@ -73,12 +78,14 @@ pub record PeaksBesideTheSound : Type 0 where
   pub render-finite : (g : Settings) → T (fits binary64 (g .adsr .sustain)) → (s : List ℕ) (b : Buffers) (k : ℕ) → renderOf g s b .result .answer ≡ Done k → AllFinite (renderOf g s b .left .heard)
   pub render-right : (g : Settings) (s : List ℕ) (b : Buffers) (k : ℕ) → renderOf g s b .result .answer ≡ Done k → IsRight (renderOf g s b .left)
   pub render-told : (g : Settings) → T (fits binary64 (g .adsr .sustain)) → (s : List ℕ) (b : Buffers) (k : ℕ) → renderOf g s b .result .answer ≡ Done k → Tells (renderOf g s b .left .heard) (renderOf g s b .left .summary)
-  -- a re-render that is done from section m on makes finite samples, and its summary is right for the sections from m
-  -- on, whatever came
+  -- the k samples that a re-render makes from section m on are finite, its summary is right for their sections, whatever
+  -- came, and samples and summary after them stay as they came
   pub rerender-finite : (g : Settings) → T (fits binary64 (g .adsr .sustain)) → (old new : List ℕ) (b : Buffers) (m : ℕ) → planOf old new (samplesIn b) ≡ From m → (k : ℕ) → rerenderOf g old new b .result ≡ Done k
-      → AllFinite (onward m (rerenderOf g old new b .left) .heard)
+      → AllFinite (take k (onward m (rerenderOf g old new b .left) .heard))
   pub rerender-right : (g : Settings) (old new : List ℕ) (b : Buffers) (m : ℕ) → planOf old new (samplesIn b) ≡ From m → (k : ℕ) → rerenderOf g old new b .result ≡ Done k
-      → IsRightFrom m (rerenderOf g old new b .left)
+      → IsRightBetween m (entriesFor (m * sectionSize + k)) (rerenderOf g old new b .left)
+  pub rerender-stops : (g : Settings) (old new : List ℕ) (b : Buffers) (m : ℕ) → planOf old new (samplesIn b) ≡ From m → (k : ℕ) → rerenderOf g old new b .result ≡ Done k
+      → SameAfter (entriesFor (m * sectionSize + k)) (rerenderOf g old new b .left) b
   -- so, whatever the answer, a summary that came right stays right, finite samples stay finite, and a summary that told
   -- the truth of finite samples tells it of the finished output
   pub stays-right : (g : Settings) (old new : List ℕ) (b : Buffers) → IsRight b → IsRight (rerenderOf g old new b .left)

@@ -3,19 +3,24 @@
 -- differ, or of the one that remains where the other has ended. It starts at entry floor(P/4096). Equal scores, or P at
 -- or above N, write nothing and count 0". "What a call says": "8 | start entry is no state, or its records acted differ
 -- from the new score's records below its position"; "Order: 6, 7, the old or only score, the new score (same numbers
--- plus 16), then 8"; "Where count is 0 for equal scores or a late P, no entry is read and 8 is not given". Demand 3:
--- "The count is the samples from the mark to the end". 02, R-3: "A re-render brings the summary up to date and touches
--- only sections from its start entry on".
+-- plus 16), then 8"; "Where count is 0 for equal scores or a late P, no entry is read and 8 is not given". 02, R-3: "A
+-- re-render brings the summary up to date and touches only sections from its start entry on". 02, R-12: "The re-render
+-- may stop at a later entry, if the state there equals the stored one apart from records acted, and the two scores'
+-- records from that position on are the same. It stops at the first such entry past the start. Entries from the stop on
+-- get as records-acted number the new score's records below their position, and nothing else from the stop on is
+-- written"; "The count is the samples from start to stop, or to the end where no entry stops it".
 -- The demand's mark is the first sample of a section: sample 4096 m for section m, whose entry is entry m.
 -- The outcome is decided for every start entry that is a state, even one that no render leaves: the samples and entries
--- are those of the steps from that state, and the summary is that of these samples. Definitions only.
+-- up to the stop are those of the steps from that state, and the summary is that of these samples. It is decided for
+-- any later entries too: whether the scores' parts from there on would sound as the samples that came do is the
+-- caller's to know (demand 3). Definitions only.
 use mathlib.Core.Bool.{Bool, cond, _&&_}
 use mathlib.Core.List.{List, [], _++_}
-use Prim.Native.Nat.{ℕ, _-_, _*_, _/_}
+use Prim.Native.Nat.{ℕ, zero, suc, _-_, _*_, _/_}
 use lib.Dec.{ltb, eqb}
 use lib.ListN.{take, drop}
-use Rattle.sections.specs.Outcome.{Summary, Buffers, samplesIn, roomIn, Outcome, leaves}
-use Rattle.sections.specs.Summary.{summaryFrom}
+use Rattle.sections.specs.Outcome.{Buffers, samplesIn, roomIn, Outcome, leaves}
+use Rattle.sections.specs.Sections.{madeBetween, stopWhere}
 use Rattle.answers.specs.Order.{unless, firstOf}
 use Rattle.answers.specs.declared.Answer.{Answer}
 use Rattle.answers.specs.declared.Answer.the-variants.{Done, Refused}
@@ -24,11 +29,11 @@ use Rattle.answers.specs.declared.Refusal.the-variants.{StartEntry}
 use Rattle.score.specs.declared.Difference.{Difference}
 use Rattle.score.specs.declared.Difference.the-variants.{Equal, At}
 use Rattle.score.specs.Below.{countBelow}
-use Rattle.score.specs.Apart.{differenceOf}
-use Rattle.shelf.specs.Shelf.{sectionSize, entryWords, entriesFor, stateOf, isEntry, shelfOf}
+use Rattle.score.specs.Apart.{differenceOf, sameFrom}
+use Rattle.shelf.specs.Shelf.{sectionSize, entryWords, entriesFor, stateOf, isEntry, shelfOf, entryAt, withCount, meets}
 use Rattle.state.specs.declared.Settings.{Settings}
 use Rattle.state.specs.declared.State.{State}
-use Rattle.state.specs.Heart.{samplesFrom, entriesFrom}
+use Rattle.state.specs.Heart.{stateFrom, samplesFrom, entriesFrom}
 use Rattle.judging.specs.Judging.{refusalsOf, newRefusalsOf}
 use Rattle.rerender.specs.declared.Plan.{Plan}
 use Rattle.rerender.specs.declared.Plan.the-variants.{Nothing, From}
@@ -42,10 +47,7 @@ abbrev pub planOf : List ℕ → List ℕ → ℕ → Plan
 planOf old new n = planFor (differenceOf old new) n
 
 -- ---- from an entry
--- the thirteen words of entry m, and the state that they are read as
-abbrev pub entryAt : List ℕ → ℕ → List ℕ
-entryAt shelf m = take entryWords (drop (m * entryWords) shelf)
-
+-- the state that the words of entry m are read as
 abbrev pub startOf : List ℕ → ℕ → State
 startOf shelf m = stateOf (entryAt shelf m)
 
@@ -53,31 +55,36 @@ startOf shelf m = stateOf (entryAt shelf m)
 abbrev pub isStart : List ℕ → ℕ → List ℕ → Bool
 isStart new m shelf = isEntry (entryAt shelf m) && eqb (startOf shelf m .acted) (countBelow new (m * sectionSize))
 
--- the position at which the re-render stops, in an output of n samples: the end
-abbrev pub stopOf : Settings → List ℕ → List ℕ → ℕ → ℕ → ℕ
-stopOf g old new m n = n
+-- ---- to the stop
+-- nothing more can change from section k on: both scores have the same records from its first sample on, and the entry
+-- that came for k is, but for the number of records acted, the state that the new score gives before that sample
+abbrev pub isSettled : Settings → List ℕ → List ℕ → ℕ → List ℕ → ℕ → Bool
+isSettled g old new m shelf k = sameFrom old new (k * sectionSize) && meets (entryAt shelf k) (stateFrom g new (m * sectionSize) (startOf shelf m) ((k - m) * sectionSize))
 
--- xs with ys in place of the items from index a up to, not including, b
-abbrev pub between : {A : Type 0} → ℕ → ℕ → List A → List A → List A
-between a b xs ys = take a xs ++ (ys ++ drop b xs)
+-- the sample at which the re-render stops: the first of the first such section after section m, or the end
+unfoldable pub stopOf : Settings → List ℕ → List ℕ → ℕ → Buffers → ℕ
+stopOf g old new m b = stopWhere (isSettled g old new m (b .stored)) m (samplesIn b)
 
--- a summary with `new` in place of what is said of the sections from section a up to, not including, section b
-abbrev pub summedBetween : ℕ → ℕ → Summary → Summary → Summary
-summedBetween a b came new = record { magnitudes = between a b (came .magnitudes) (new .magnitudes); numbers = between a b (came .numbers) (new .numbers) }
+-- j entries from entry k on, which the words begin with, each with the number of the new score's records below its
+-- position as its number of records acted
+unfoldable pub recounted : List ℕ → ℕ → ℕ → List ℕ → List ℕ
+recounted new k zero ws = ws
+recounted new k (suc j) ws = withCount (take entryWords ws) (countBelow new (k * sectionSize)) ++ recounted new (suc k) j (drop entryWords ws)
 
--- what lies before section m, and from the stop on, stays as it came
+-- the buffers with all entries from entry k on so
+abbrev pub recountedFrom : List ℕ → ℕ → Buffers → Buffers
+recountedFrom new k b =
+    record { heard = b .heard; stored = take (k * entryWords) (b .stored) ++ recounted new k (entriesFor (samplesIn b) - k) (drop (k * entryWords) (b .stored)); summary = b .summary }
+
+-- what lies before section m stays as it came, and what lies from the stop on but for these numbers
 abbrev pub madeFrom : Settings → List ℕ → List ℕ → ℕ → Buffers → Outcome Answer
 madeFrom g old new m b =
-    let stop = stopOf g old new m (samplesIn b) in
+    let stop = stopOf g old new m b in
+    let k = stop - m * sectionSize in
     let v = startOf (b .stored) m in
-    let heard = between (m * sectionSize) stop (b .heard) (samplesFrom g new (m * sectionSize) v (stop - m * sectionSize)) in
     leaves
-    (Done (stop - m * sectionSize))
-    (record {
-      heard = heard;
-      stored = between (m * entryWords) (entriesFor stop * entryWords) (b .stored) (shelfOf (entriesFrom g new m v (entriesFor stop - m)));
-      summary = summedBetween m (entriesFor stop) (b .summary) (summaryFrom heard m (entriesFor stop - m));
-    })
+    (Done k)
+    (recountedFrom new (entriesFor stop) (madeBetween m stop (samplesFrom g new (m * sectionSize) v k) (shelfOf (entriesFrom g new m v (entriesFor stop - m))) b))
 
 -- ---- the call
 -- the outcome of a plan
@@ -101,7 +108,7 @@ keptOf b why = leaves (Refused why) b
 unfoldable pub rerenderOf : Settings → List ℕ → List ℕ → Buffers → Outcome Answer
 rerenderOf g old new b = firstOf (rerenderRefusals g old new b) (keptOf b) (outcomeOf g old new (planOf old new (samplesIn b)) b)
 
--- how many samples a plan makes in an output of n samples; the theorem that decides the call's answer cites it
-abbrev pub countFor : Settings → List ℕ → List ℕ → Plan → ℕ → ℕ
-countFor g old new Nothing n = 0
-countFor g old new (From m) n = stopOf g old new m n - m * sectionSize
+-- how many samples a plan makes in these buffers; the theorem that decides the call's answer cites it
+abbrev pub countFor : Settings → List ℕ → List ℕ → Plan → Buffers → ℕ
+countFor g old new Nothing b = 0
+countFor g old new (From m) b = stopOf g old new m b - m * sectionSize
