@@ -13,16 +13,17 @@
 -- start"; "This needs all of buffer and shelf from the start on as the old render left them. The count is the samples
 -- from start to stop, or to the end where no entry stops it. Demand 3's equality with a fresh render stands; its count
 -- clause becomes this one." So `re-rendered` asks for all from the start section on as the old render left it, and says
--- where the re-render stops in the words of two renders from sample zero (`StopsAt`). `by-parts` and `over-rubbish` say
--- what holds where the caller has less.
+-- where the re-render stops in the words of two renders from sample zero (`StopsAt`). `entries-alone` and
+-- `start-alone` say what holds where less came so. "An entry compared but not a state is simply unequal": `meets` is
+-- false of it.
 -- The demand's mark is the first sample of a section: sample 4096 m for section m, whose entry is entry m.
 -- The argument is in proofs/Demand3.antt, that of `parted` and `first-change` in proofs/First.antt. Definitions only.
 use mathlib.Core.Path.{_≡_}
 use mathlib.Core.Bool.{true}
 use mathlib.Core.List.{List}
-use Prim.Native.Nat.{ℕ, suc, _-_, _*_, _/_, min, _≤_, _<_}
+use Prim.Native.Nat.{ℕ, suc, _+_, _-_, _*_, _/_, _%_, min, _≤_, _<_}
 use lib.Dec.{T}
-use lib.ListN.{take}
+use lib.ListN.{length, take}
 use lib.Ieee.{binary64, fits}
 use Rattle.sections.specs.Outcome.{Buffers, samplesIn, Lent, before, onward, Outcome, leaves}
 use Rattle.answers.specs.declared.Answer.{Answer}
@@ -33,7 +34,7 @@ use Rattle.score.specs.declared.Verdict.the-variants.{Accepted}
 use Rattle.score.specs.Score.{verdictOf}
 use Rattle.score.specs.Below.{countBelow}
 use Rattle.score.specs.Apart.{differenceOf, recordsFrom}
-use Rattle.shelf.specs.Shelf.{sectionSize, entriesFor, entryAt}
+use Rattle.shelf.specs.Shelf.{sectionSize, entryWords, entriesFor, word, entryAt, meets}
 use Rattle.state.specs.declared.Settings.{Settings}
 use Rattle.state.specs.declared.State.{State}
 use Rattle.state.specs.Settings.{settingsOk}
@@ -42,7 +43,8 @@ use Rattle.state.specs.Heart.{stateFrom}
 use Rattle.state.specs.ButActed.{SameButActed}
 use Rattle.render.specs.declared.Rendered.{Rendered}
 use Rattle.render.specs.Calls.{renderOf}
-use Rattle.rerender.specs.Rerender.{recountedFrom, rerenderOf}
+use Rattle.rerender.specs.declared.Plan.the-variants.{From}
+use Rattle.rerender.specs.Rerender.{planOf, startOf, rerenderOf}
 
 -- ---- what is asked
 -- an accepted score
@@ -94,6 +96,19 @@ pub record StopsAt (g : Settings) (old new : List ℕ) (m n k : ℕ) : Type 0 wh
   pub settled : k < entriesFor n → Settled g old new k
   pub first : (j : ℕ) → m < j → j < k → Settled g old new j → ⊥
 
+-- the same for words that need not be a render's: the entry that came for section k is a state, and that is the state
+-- before its first sample in a walk over the new score from the state v at section m, but for the number of records
+-- acted
+pub record SettledOver (g : Settings) (old new : List ℕ) (m : ℕ) (v : State) (b : Buffers) (k : ℕ) : Type 0 where
+  pub records : recordsFrom old (k * sectionSize) ≡ recordsFrom new (k * sectionSize)
+  pub entry : meets (entryAt (b .stored) k) (stateFrom g new (m * sectionSize) v ((k - m) * sectionSize)) ≡ true
+
+pub record StopsOver (g : Settings) (old new : List ℕ) (m : ℕ) (v : State) (b : Buffers) (k : ℕ) : Type 0 where
+  pub past : m < k
+  pub within : k ≤ entriesFor (samplesIn b)
+  pub settled : k < entriesFor (samplesIn b) → SettledOver g old new m v b k
+  pub first : (j : ℕ) → m < j → j < k → SettledOver g old new m v b j → ⊥
+
 -- ---- what is promised
 -- `left` is left in place of `came`: from section m on, samples, entries and summary are what the render leaves in any
 -- buffers of the same size; before section m they are what came
@@ -101,40 +116,50 @@ pub record FromSection {R : Type 0} (came : Buffers) (render : BuffersOf (sample
   pub are-rendered : (r : BuffersOf (samplesIn came)) → onward m left ≡ onward m (render r .left)
   pub stay : before m left ≡ before m came
 
--- a call that started at section m and stopped at section k, or at the end: done, with the count of the samples from
--- start to stop, and so not 8; what lies between is the new render's; what lies before section m is as it came, and so
--- is what lies from section k on, but for the numbers of records acted, which are the new score's
+-- from section k on `left` is `came`, but for the number of records acted in each entry: that is the number of the new
+-- score's records below the entry's position. Word 5 has that number above its low 16 bits, which stay
+pub record Recounted (new : List ℕ) (k : ℕ) (came left : Buffers) : Type 0 where
+  pub heard : onward k left .heard ≡ onward k came .heard
+  pub summary : onward k left .summary ≡ onward k came .summary
+  pub as-many : length (left .stored) ≡ length (came .stored)
+  pub words : (j i : ℕ) → k ≤ j → j < entriesFor (samplesIn came) → i < entryWords → (i ≡ 5 → ⊥) → word (entryAt (left .stored) j) i ≡ word (entryAt (came .stored) j) i
+  pub low-bits : (j : ℕ) → k ≤ j → j < entriesFor (samplesIn came) → word (entryAt (left .stored) j) 5 % 65536 ≡ word (entryAt (came .stored) j) 5 % 65536
+  pub numbers : (j : ℕ) → k ≤ j → j < entriesFor (samplesIn came) → word (entryAt (left .stored) j) 5 / 65536 ≡ countBelow new (j * sectionSize)
+
+-- a call that started at section m and stopped at section k, or at the end where k is the number of sections: it is
+-- done, with the count of the samples from start to stop, and so not 8. What lies between is the new render's. What
+-- lies before section m stays as it came, and what lies from section k on but for the numbers of records acted
 pub record RemadeTo (g : Settings) (new : List ℕ) (m k : ℕ) (b : Buffers) (o : Outcome Answer) : Type 0 where
-  pub past : m < k
-  pub within : k ≤ entriesFor (samplesIn b)
   pub counted : o .result ≡ Done (min (k * sectionSize) (samplesIn b) - m * sectionSize)
   pub never-8 : o .result ≡ Refused StartEntry → ⊥
   pub are-rendered : (r : BuffersOf (samplesIn b)) → onward m (before k (o .left)) ≡ onward m (before k (leftIn g new r .left))
-  pub stay-before : before m (o .left) ≡ before m b
-  pub stay-after : onward k (o .left) ≡ onward k (recountedFrom new k b)
+  pub stay : before m (o .left) ≡ before m b
+  pub recounted : Recounted new k b (o .left)
 
--- everything from section m on came as the old render left it
+-- where all from section m on came as the old render left it
 pub record Remade (g : Settings) (old new : List ℕ) (m : ℕ) (b : Buffers) (o : Outcome Answer) : Type 0 where
-  pub stop : ℕ
-  pub stops : StopsAt g old new m (samplesIn b) stop
-  pub to-the-stop : RemadeTo g new m stop b o
+  pub stop-section : ℕ
+  pub stops : StopsAt g old new m (samplesIn b) stop-section
+  pub to-the-stop : RemadeTo g new m stop-section b o
   pub left : FromSection b (leftIn g new) m (o .left)
 
--- the entries from section m on came so, whatever the rest: they are the new render's, and samples and summary are each
--- the new render's from section m on if they came as the old render left them
-pub record RemadeByParts (g : Settings) (old new : List ℕ) (m : ℕ) (b : Buffers) (o : Outcome Answer) : Type 0 where
-  pub stop : ℕ
-  pub stops : StopsAt g old new m (samplesIn b) stop
-  pub to-the-stop : RemadeTo g new m stop b o
+-- where the entries from section m on came so, whatever samples and summary hold: the entries are the new render's, and
+-- so are samples from section m on if they came as the old render left them, and the summary if it did
+pub record EntriesRemade (g : Settings) (old new : List ℕ) (m : ℕ) (b : Buffers) (o : Outcome Answer) : Type 0 where
+  pub stop-section : ℕ
+  pub stops : StopsAt g old new m (samplesIn b) stop-section
+  pub to-the-stop : RemadeTo g new m stop-section b o
   pub entries : (r : BuffersOf (samplesIn b)) → onward m (o .left) .stored ≡ onward m (leftIn g new r .left) .stored
   pub samples : (q r : BuffersOf (samplesIn b)) → onward m b .heard ≡ onward m (leftIn g old q .left) .heard → onward m (o .left) .heard ≡ onward m (leftIn g new r .left) .heard
   pub summary : (q r : BuffersOf (samplesIn b)) → onward m b .summary ≡ onward m (leftIn g old q .left) .summary → onward m (o .left) .summary ≡ onward m (leftIn g new r .left) .summary
 
--- the start entry alone came so: the call stops somewhere; where it does not, all from section m on is the new render's
-pub record RemadeOver (g : Settings) (new : List ℕ) (m : ℕ) (b : Buffers) (o : Outcome Answer) : Type 0 where
-  pub stop : ℕ
-  pub to-the-stop : RemadeTo g new m stop b o
-  pub to-the-end : stop ≡ entriesFor (samplesIn b) → FromSection b (leftIn g new) m (o .left)
+-- where the entry of section m came so, whatever all else holds: the other entries decide where the call stops, and
+-- where none stops it all from section m on is the new render's
+pub record StartRemade (g : Settings) (old new : List ℕ) (m : ℕ) (b : Buffers) (o : Outcome Answer) : Type 0 where
+  pub stop-section : ℕ
+  pub stops : StopsOver g old new m (atSection g new m) b stop-section
+  pub to-the-stop : RemadeTo g new m stop-section b o
+  pub to-the-end : stop-section ≡ entriesFor (samplesIn b) → FromSection b (leftIn g new) m (o .left)
 
 -- ---- the claim
 pub record Demand3 : Type 0 where
@@ -142,11 +167,14 @@ pub record Demand3 : Type 0 where
   -- old score left there
   pub re-rendered : (g : Settings) (old new : List ℕ) → Edit g old new → (b : Buffers) → Lent b → (p : ℕ) → differenceOf old new ≡ At p → p < samplesIn b
       → (r : BuffersOf (samplesIn b)) → onward (p / sectionSize) b ≡ onward (p / sectionSize) (leftIn g old r .left) → Remade g old new (p / sectionSize) b (rerenderOf g old new b)
-  -- all entries from that section on are; or its entry alone is
-  pub by-parts : (g : Settings) (old new : List ℕ) → Edit g old new → (b : Buffers) → Lent b → (p : ℕ) → differenceOf old new ≡ At p → p < samplesIn b
-      → (r : BuffersOf (samplesIn b)) → onward (p / sectionSize) b .stored ≡ onward (p / sectionSize) (leftIn g old r .left) .stored → RemadeByParts g old new (p / sectionSize) b (rerenderOf g old new b)
-  pub over-rubbish : (g : Settings) (old new : List ℕ) → Edit g old new → (b : Buffers) → Lent b → (p : ℕ) → differenceOf old new ≡ At p → p < samplesIn b
-      → (r : BuffersOf (samplesIn b)) → entryAt (b .stored) (p / sectionSize) ≡ entryAt (leftIn g old r .left .stored) (p / sectionSize) → RemadeOver g new (p / sectionSize) b (rerenderOf g old new b)
+  -- the entries from that section on are, or the entry of that section is
+  pub entries-alone : (g : Settings) (old new : List ℕ) → Edit g old new → (b : Buffers) → Lent b → (p : ℕ) → differenceOf old new ≡ At p → p < samplesIn b
+      → (r : BuffersOf (samplesIn b)) → onward (p / sectionSize) b .stored ≡ onward (p / sectionSize) (leftIn g old r .left) .stored → EntriesRemade g old new (p / sectionSize) b (rerenderOf g old new b)
+  pub start-alone : (g : Settings) (old new : List ℕ) → Edit g old new → (b : Buffers) → Lent b → (p : ℕ) → differenceOf old new ≡ At p → p < samplesIn b
+      → (r : BuffersOf (samplesIn b)) → entryAt (b .stored) (p / sectionSize) ≡ entryAt (leftIn g old r .left .stored) (p / sectionSize) → StartRemade g old new (p / sectionSize) b (rerenderOf g old new b)
+  -- whatever the start entry is: a call that is done with count c stopped where the entries say
+  pub stops-first : (g : Settings) (old new : List ℕ) (b : Buffers) (m : ℕ) → planOf old new (samplesIn b) ≡ From m → (c : ℕ) → rerenderOf g old new b .result ≡ Done c
+      → StopsOver g old new m (startOf (b .stored) m) b (entriesFor (m * sectionSize + c))
   -- there is one stop
   pub one-stop : (g : Settings) (old new : List ℕ) (m n j k : ℕ) → StopsAt g old new m n j → StopsAt g old new m n k → j ≡ k
   -- the scores are equal, whatever shelf and summary hold

@@ -11,9 +11,8 @@
 -- written"; "The count is the samples from start to stop, or to the end where no entry stops it".
 -- The demand's mark is the first sample of a section: sample 4096 m for section m, whose entry is entry m.
 -- The outcome is decided for every start entry that is a state, even one that no render leaves: the samples and entries
--- up to the stop are those of the steps from that state, and the summary is that of these samples. It is decided for
--- any later entries too: whether the scores' parts from there on would sound as the samples that came do is the
--- caller's to know (demand 3). Definitions only.
+-- up to the stop are those of the steps from that state, and the summary is that of these samples. It is decided
+-- whatever the later entries hold, too. Demand 3 says when what stays behind the stop is right. Definitions only.
 use mathlib.Core.Bool.{Bool, cond, _&&_}
 use mathlib.Core.List.{List, [], _++_}
 use Prim.Native.Nat.{ℕ, zero, suc, _-_, _*_, _/_}
@@ -56,8 +55,8 @@ abbrev pub isStart : List ℕ → ℕ → List ℕ → Bool
 isStart new m shelf = isEntry (entryAt shelf m) && eqb (startOf shelf m .acted) (countBelow new (m * sectionSize))
 
 -- ---- to the stop
--- nothing more can change from section k on: both scores have the same records from its first sample on, and the entry
--- that came for k is, but for the number of records acted, the state that the new score gives before that sample
+-- section k may be the stop: both scores have the same records from its first sample on, and the entry that came for k
+-- is, but for the number of records acted, the state that the new score gives before that sample
 abbrev pub isSettled : Settings → List ℕ → List ℕ → ℕ → List ℕ → ℕ → Bool
 isSettled g old new m shelf k = sameFrom old new (k * sectionSize) && meets (entryAt shelf k) (stateFrom g new (m * sectionSize) (startOf shelf m) ((k - m) * sectionSize))
 
@@ -65,13 +64,13 @@ isSettled g old new m shelf k = sameFrom old new (k * sectionSize) && meets (ent
 unfoldable pub stopOf : Settings → List ℕ → List ℕ → ℕ → Buffers → ℕ
 stopOf g old new m b = stopWhere (isSettled g old new m (b .stored)) m (samplesIn b)
 
--- j entries from entry k on, which the words begin with, each with the number of the new score's records below its
--- position as its number of records acted
+-- the words, the first of which are those of j entries, entry k and those after it: each of the j gets the number of
+-- the new score's records below its position as its number of records acted
 unfoldable pub recounted : List ℕ → ℕ → ℕ → List ℕ → List ℕ
 recounted new k zero ws = ws
 recounted new k (suc j) ws = withCount (take entryWords ws) (countBelow new (k * sectionSize)) ++ recounted new (suc k) j (drop entryWords ws)
 
--- the buffers with all entries from entry k on so
+-- the buffers with the numbers of records acted so in every entry from entry k on
 abbrev pub recountedFrom : List ℕ → ℕ → Buffers → Buffers
 recountedFrom new k b =
     record { heard = b .heard; stored = take (k * entryWords) (b .stored) ++ recounted new k (entriesFor (samplesIn b) - k) (drop (k * entryWords) (b .stored)); summary = b .summary }

@@ -2,7 +2,8 @@
 -- the first index where they differ, or of the one that remains where the other has ended." 02, R-12: "the two scores'
 -- records from that position on are the same".
 -- Two records are the same if all their ten bytes are; so a different velocity of an off is a difference.
--- Wider than 01: defined for any two lists of bytes, over their whole records. Definitions only.
+-- Wider than 01: defined for any two lists of bytes, over their whole records; `recordsFrom` also keeps the 1 to 9 bytes
+-- after the last whole record, which an accepted score does not have. Definitions only.
 use mathlib.Core.Bool.{Bool, true, false, not, cond}
 use mathlib.Core.List.{List}
 use Prim.Native.Nat.{ℕ, zero, suc, _-_, _*_, min, max}
@@ -53,8 +54,8 @@ sameBack s t i = sameRecord s (fromEnd s i) t (fromEnd t i)
 abbrev pub sameEnd : List ℕ → List ℕ → ℕ
 sameEnd s t = firstPassing (λ (i : ℕ). not (sameBack s t i)) (min (countOf s) (countOf t)) 0
 
--- the higher position of the two at the last difference, or that of the list that goes on before the records that are
--- the same
+-- the last difference: i records follow it in each list. It has the higher position of the two records there, or that
+-- of the one record where the other list has no more
 abbrev pub lastDifferenceAt : List ℕ → List ℕ → ℕ → Difference
 lastDifferenceAt s t i =
     cond (ltb i (countOf s))

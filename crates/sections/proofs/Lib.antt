@@ -1,6 +1,8 @@
 -- What is proved of sections beyond the contracts, in reading order.
 -- buffers whose sizes fit, and buffers that hold the same
 pub mod Room
+-- a list with items in place of others
+pub mod Between
 -- the summary: what it depends on, and that it stays right
 pub mod Summed
 -- a turn of the loop over the sections

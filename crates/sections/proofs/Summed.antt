@@ -1,5 +1,5 @@
 -- The summary of samples: how much it says, one section more, what it depends on, and that the summary of an output of
--- which the sections before section m stayed is what came for those, and what the others say. Assumes nothing.
+-- which some sections changed is what came for the others, and what these say. Assumes nothing.
 use mathlib.Core.Path.{_≡_, refl, sym, ap, _∙_}
 use mathlib.Core.List.{List, [], _∷_, _++_, append-assoc, append-nil}
 use mathlib.Core.Logic.{⊎-elim}
@@ -16,7 +16,8 @@ use Rattle.peaks.specs.declared.Peak.{Peak}
 use Rattle.peaks.specs.Peaks.{peakOf}
 use Rattle.shelf.specs.Shelf.{sectionSize}
 use Rattle.sections.specs.Summary.{sectionOf, largest, firstNumber, saidFrom, summaryFrom}
-use Rattle.sections.specs.Sections.{upTo, summedUpTo}
+use Rattle.sections.specs.Sections.{between, summedBetween}
+use Rattle.sections.proofs.Between.{between-set}
 
 -- ---- a section
 -- the section that stands between A and C is ys, where ys is whole or nothing follows
@@ -54,53 +55,58 @@ module _ {A : Type 0} (f : ℕ → Peak → A) where
   said-alike xs ys m k e = listed-same _ _ k (λ j l. ap (λ (zs : List Float). f (m + j) (peakOf zs)) (section-on xs m j ∙ ap (λ (zs : List Float). sectionOf zs j) e ∙ sym (section-on ys m j)))
 
   -- cut anywhere
-  pub said-on : (xs : List Float) (m k : ℕ) → saidFrom f xs 0 (m + k) ≡ saidFrom f xs 0 m ++ saidFrom f xs m k
+  pub said-on : (xs : List Float) (m j k : ℕ) → saidFrom f xs m (j + k) ≡ saidFrom f xs m j ++ saidFrom f xs (m + j) k
   unfolding saidFrom
-  said-on xs m k = listed-on _ m k ∙ ap (_++_ (saidFrom f xs 0 m)) (listed-same _ _ k (λ j l. ap (λ (i : ℕ). f i (peakOf (sectionOf xs i))) (zero-add (m + j))))
+  said-on xs m j k = listed-on _ j k ∙ ap (_++_ (saidFrom f xs m j)) (listed-same _ _ k (λ i l. ap (λ (n : ℕ). f n (peakOf (sectionOf xs n))) (let e : m + (j + i) ≡ m + j + i = omega arith in e)))
 
-  -- what is said of the sections before section m depends on the samples before it
-  pub said-before : (xs ys : List Float) (m : ℕ) → m * sectionSize ≡ length xs → saidFrom f (xs ++ ys) 0 m ≡ saidFrom f xs 0 m
-  unfolding saidFrom
-  said-before xs ys m e = listed-same _ _ m (λ j l. ap (λ (zs : List Float). f (0 + j) (peakOf zs)) (section-before xs ys m (0 + j) e (omega arith)))
-
-  -- of n sections the first m, and the others
-  pub said-first : (xs : List Float) (m n : ℕ) → m ≤ n → take m (saidFrom f xs 0 n) ≡ saidFrom f xs 0 m
-  said-first xs m n l =
+  -- of n sections from the first on the first m, and the others
+  pub said-cut : (xs : List Float) (m n : ℕ) → m ≤ n → saidFrom f xs 0 n ≡ saidFrom f xs 0 m ++ saidFrom f xs m (n - m)
+  said-cut xs m n l =
       let e : m + (n - m) ≡ n = omega arith in
-      ap (λ (k : ℕ). take m (saidFrom f xs 0 k)) (sym e) ∙ rw (said-on xs m (n - m)) (take-at (saidFrom f xs 0 m) (saidFrom f xs m (n - m)) m (said-length xs 0 m))
+      ap (saidFrom f xs 0) (sym e) ∙ said-on xs 0 m (n - m) ∙ ap (λ (i : ℕ). saidFrom f xs 0 m ++ saidFrom f xs i (n - m)) (zero-add m)
+
+  pub said-first : (xs : List Float) (m n : ℕ) → m ≤ n → take m (saidFrom f xs 0 n) ≡ saidFrom f xs 0 m
+  said-first xs m n l = ap (take m) (said-cut xs m n l) ∙ take-at (saidFrom f xs 0 m) (saidFrom f xs m (n - m)) m (said-length xs 0 m)
 
   pub said-rest : (xs : List Float) (m n : ℕ) → m ≤ n → drop m (saidFrom f xs 0 n) ≡ saidFrom f xs m (n - m)
-  said-rest xs m n l =
-      let e : m + (n - m) ≡ n = omega arith in
-      ap (λ (k : ℕ). drop m (saidFrom f xs 0 k)) (sym e) ∙ rw (said-on xs m (n - m)) (drop-at (saidFrom f xs 0 m) (saidFrom f xs m (n - m)) m (said-length xs 0 m))
+  said-rest xs m n l = ap (drop m) (said-cut xs m n l) ∙ drop-at (saidFrom f xs 0 m) (saidFrom f xs m (n - m)) m (said-length xs 0 m)
 
-  -- samples that are the same before section m say the same of the sections before it
-  pub said-shared : (xs ys : List Float) (m : ℕ) → m * sectionSize ≤ length xs → m * sectionSize ≤ length ys → take (m * sectionSize) xs ≡ take (m * sectionSize) ys → saidFrom f xs 0 m ≡ saidFrom f ys 0 m
-  said-shared xs ys m h k e = of-front xs h ∙ ap (λ (zs : List Float). saidFrom f zs 0 m) e ∙ sym (of-front ys k)
+  -- what is said of the sections before section e depends on the samples before it
+  said-before : (xs ys : List Float) (m k e : ℕ) → m + k ≡ e → e * sectionSize ≡ length xs → saidFrom f (xs ++ ys) m k ≡ saidFrom f xs m k
+  unfolding saidFrom
+  said-before xs ys m k e is h = listed-same _ _ k (λ j l. ap (λ (zs : List Float). f (m + j) (peakOf zs)) (section-before xs ys e (m + j) h (omega arith)))
+
+  -- samples that are the same before section e say the same of the sections from section m up to e
+  pub said-shared : (xs ys : List Float) (m k e : ℕ) → m + k ≡ e → e * sectionSize ≤ length xs → e * sectionSize ≤ length ys → take (e * sectionSize) xs ≡ take (e * sectionSize) ys → saidFrom f xs m k ≡ saidFrom f ys m k
+  said-shared xs ys m k e is h l same = of-front xs h ∙ ap (λ (zs : List Float). saidFrom f zs m k) same ∙ sym (of-front ys l)
     where
-      of-front : (zs : List Float) → m * sectionSize ≤ length zs → saidFrom f zs 0 m ≡ saidFrom f (take (m * sectionSize) zs) 0 m
-      of-front zs l = ap (λ (ws : List Float). saidFrom f ws 0 m) (sym (take-append-drop (m * sectionSize) zs)) ∙ said-before (take (m * sectionSize) zs) (drop (m * sectionSize) zs) m (sym (length-take-le (m * sectionSize) zs l))
+      of-front : (zs : List Float) → e * sectionSize ≤ length zs → saidFrom f zs m k ≡ saidFrom f (take (e * sectionSize) zs) m k
+      of-front zs l =
+          ap (λ (ws : List Float). saidFrom f ws m k) (sym (take-append-drop (e * sectionSize) zs))
+          ∙ said-before (take (e * sectionSize) zs) (drop (e * sectionSize) zs) m k e is (sym (length-take-le (e * sectionSize) zs l))
 
-  -- ys from section m on: what was said before section m stays right
-  pub said-right : (out ys : List Float) (m n : ℕ) → m ≤ n → m * sectionSize ≤ length out
-      → upTo m (saidFrom f out 0 n) (saidFrom f (upTo (m * sectionSize) out ys) m (n - m)) ≡ saidFrom f (upTo (m * sectionSize) out ys) 0 n
-  said-right out ys m n l h =
-      let front = take (m * sectionSize) out in
-      let e : m + (n - m) ≡ n = omega arith in
-      let long : length front ≡ m * sectionSize = length-take-le (m * sectionSize) out h in
-      let same : saidFrom f out 0 m ≡ saidFrom f (front ++ ys) 0 m = said-shared out (front ++ ys) m h (omega (arith, length-append front ys, long)) (sym (take-at front ys (m * sectionSize) long)) in
-      rw (said-first out m n l, same) (sym (said-on (front ++ ys) m (n - m)) ∙ ap (saidFrom f (front ++ ys) 0) e)
+  -- samples that changed from section m up to section e: what was said of the others stays right
+  pub said-right : (xs ys : List Float) (m e n : ℕ) → m ≤ e → e ≤ n → m * sectionSize ≤ length xs → m * sectionSize ≤ length ys → take (m * sectionSize) xs ≡ take (m * sectionSize) ys → drop (e * sectionSize) xs ≡ drop (e * sectionSize) ys
+      → between m e (saidFrom f xs 0 n) (saidFrom f ys m (e - m)) ≡ saidFrom f ys 0 n
+  said-right xs ys m e n l u hx hy front rest =
+      let d : n - m ≡ e - m + (n - e) = omega arith in
+      let c : m + (e - m) ≡ e = omega arith in
+      let first : take m (saidFrom f xs 0 n) ≡ saidFrom f ys 0 m = said-first xs m n (omega arith) ∙ said-shared xs ys 0 m m (omega arith) hx hy front in
+      let last : drop e (saidFrom f xs 0 n) ≡ saidFrom f ys e (n - e) = said-rest xs e n u ∙ said-alike xs ys e (n - e) rest in
+      rw (first, last) (sym (said-cut ys m n (omega arith) ∙ ap (λ (i : ℕ). saidFrom f ys 0 m ++ saidFrom f ys m i) d
+      ∙ ap (λ (zs : List A). saidFrom f ys 0 m ++ zs) (said-on ys m (e - m) (n - e) ∙ ap (λ (i : ℕ). saidFrom f ys m (e - m) ++ saidFrom f ys i (n - e)) c)))
 
-  -- ---- a turn of the loop over the sections: section k has its say
-  pub said-turn : (H : List Float) (m k : ℕ) (came now : List A) (v : A) → m ≤ k → k < length now → take k now ≡ upTo m came (saidFrom f H m (k - m)) → v ≡ f k (peakOf (sectionOf H k))
-      → take (k + 1) (set now k v) ≡ upTo m came (saidFrom f H m (k + 1 - m))
-  said-turn H m k came now v l h e is =
-      let a : k + 1 ≡ suc k = omega arith in
+  -- ---- a turn of the loop over the sections: section k of the new samples has its say
+  pub said-turn : (xs ys : List Float) (m k : ℕ) (came now : List A) (v : A) → m ≤ k → k < length came → k * sectionSize ≤ length xs → k * sectionSize ≤ length ys → take (k * sectionSize) xs ≡ take (k * sectionSize) ys
+      → now ≡ between m k came (saidFrom f xs m (k - m)) → v ≡ f k (peakOf (sectionOf ys k)) → set now k v ≡ between m (k + 1) came (saidFrom f ys m (k + 1 - m))
+  said-turn xs ys m k came now v l h hx hy front e is =
       let b : k + 1 - m ≡ suc (k - m) = omega arith in
       let c : m + (k - m) ≡ k = omega arith in
-      rw (b, said-more H m (k - m), c, ← is, a, take-suc-set now k v h, e) (append-assoc (take m came) (saidFrom f H m (k - m)) (v ∷ []))
+      let same : saidFrom f xs m (k - m) ≡ saidFrom f ys m (k - m) = said-shared xs ys m (k - m) k c hx hy front in
+      ap (λ (zs : List A). set zs k v) e ∙ between-set m k came (saidFrom f xs m (k - m)) (omega arith) (ap (λ (i : ℕ). m + i) (said-length xs m (k - m)) ∙ c) v h
+      ∙ rw (b, said-more ys m (k - m), c, ← is, same) refl
 
--- the summary that was right, with the sections from section m on worked out anew, is right
-pub summed-right : (out ys : List Float) (m n : ℕ) → m ≤ n → m * sectionSize ≤ length out
-    → summedUpTo m (summaryFrom out 0 n) (summaryFrom (upTo (m * sectionSize) out ys) m (n - m)) ≡ summaryFrom (upTo (m * sectionSize) out ys) 0 n
-summed-right out ys m n l h = rw (said-right largest out ys m n l h, said-right firstNumber out ys m n l h) refl
+-- the summary that was right, with the sections from section m up to section e worked out anew, is right
+pub summed-right : (xs ys : List Float) (m e n : ℕ) → m ≤ e → e ≤ n → m * sectionSize ≤ length xs → m * sectionSize ≤ length ys → take (m * sectionSize) xs ≡ take (m * sectionSize) ys → drop (e * sectionSize) xs ≡ drop (e * sectionSize) ys
+    → summedBetween m e (summaryFrom xs 0 n) (summaryFrom ys m (e - m)) ≡ summaryFrom ys 0 n
+summed-right xs ys m e n l u hx hy front rest = rw (said-right largest xs ys m e n l u hx hy front rest, said-right firstNumber xs ys m e n l u hx hy front rest) refl

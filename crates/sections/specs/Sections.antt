@@ -1,5 +1,5 @@
 -- From the start of a section on: the entry of each section, then its samples, 4,096 or as many as are left, then their
--- peak; to the end of the output, or to the first later section at which nothing more can change. 01, "The shelf":
+-- peak; to the end of the output, or to the first later section whose entry says that the rest may stay. 01, "The shelf":
 -- "Entry k holds the state before sample 4096k is begun, for every 4096k below N, the output's length". 02, R-3: "Keep,
 -- for each 4,096-sample section, the largest magnitude and the number, from the output's start, of the first sample
 -- where it stands". 02, R-12: "It stops at the first such entry past the start".
@@ -60,18 +60,18 @@ unfoldable pub keptFrom : Settings → List ℕ → ℕ → Place → ℕ → Li
 keptFrom g s m p k = shelfOf (listed (λ (i : ℕ). placeFrom g s (m * sectionSize) p (i * sectionSize) .state) k)
 
 abbrev pub ends : Place → ℕ → End
-ends p k = record { place = p; count = k }
+ends p stop = record { place = p; sample = stop }
 
--- the place at the stop, and how many samples were played
+-- the place at the stop, and the stop
 abbrev pub played : Settings → List ℕ → ℕ → Place → ℕ → Buffers → Outcome End
 played g s m p quiet b =
     let stop = stopFor g s m p quiet b in
     let k = stop - m * sectionSize in
-    leaves (ends (placeFrom g s (m * sectionSize) p k) k) (madeBetween m stop (playedFrom g s (m * sectionSize) p k) (keptFrom g s m p (entriesFor stop - m)) b)
+    leaves (ends (placeFrom g s (m * sectionSize) p k) stop) (madeBetween m stop (playedFrom g s (m * sectionSize) p k) (keptFrom g s m p (entriesFor stop - m)) b)
 
 abbrev pub playedIf : Bool → Settings → List ℕ → ℕ → Place → ℕ → Buffers → Outcome End
 playedIf true g s m p quiet b = played g s m p quiet b
-playedIf false g s m p quiet b = leaves (ends p 0) b
+playedIf false g s m p quiet b = leaves (ends p (samplesIn b)) b
 
 unfoldable pub playOnOf : Settings → List ℕ → ℕ → Place → ℕ → Buffers → Outcome End
 playOnOf g s m p quiet b = playedIf (roomIn b) g s m p quiet b
