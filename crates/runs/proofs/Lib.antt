@@ -3,3 +3,5 @@
 pub mod Listed
 -- a run: one step more, cut anywhere, what every step keeps, and two runs side by side
 pub mod Laws
+-- the first number that passes a test: none before it passes, it is the only one, and how a search finds it
+pub mod First

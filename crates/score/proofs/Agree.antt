@@ -27,7 +27,7 @@ front-same s t n a b f =
     (λ k h. let l : k < n * 10 = omega arith in
     let e : k ≡ k / 10 * 10 + k % 10 = omega arith in
     rw (getD-take (n * 10) s k 0 l, getD-take (n * 10) t k 0 l)
-    (ap (λ (m : ℕ). getD s m 0) e ∙ same-bytes s t (k / 10) 10 (f (k / 10) (omega arith)) (k % 10) (omega arith) ∙ ap (λ (m : ℕ). getD t m 0) (sym e)))
+    (ap (λ (m : ℕ). getD s m 0) e ∙ same-bytes s (k / 10) t (k / 10) 10 (f (k / 10) (omega arith)) (k % 10) (omega arith) ∙ ap (λ (m : ℕ). getD t m 0) (sym e)))
 
 -- below q both lists have the same records
 pub record SameBelow (s t : List ℕ) (q : ℕ) : Type 0 where
@@ -67,9 +67,9 @@ module _ (s t : List ℕ) (os : Sorted s) (ot : Sorted t) (p : ℕ) (found : dif
       let in-t : d ≤ countOf t = first .in-t in
       record {
         inside = ⊎-elim (λ l. let u : c - 1 < d = before (c - 1) (omega arith) in omega arith) (λ g. omega arith) (lt-or-ge 0 c);
-        lows = λ i l. (let e : positionAt s i ≡ positionAt t i = same-position s t i (first .same i (before i l)) in let a : positionAt s i < q = cut .lows i l in omega arith);
+        lows = λ i l. (let e : positionAt s i ≡ positionAt t i = same-position s i t i (first .same i (before i l)) in let a : positionAt s i < q = cut .lows i l in omega arith);
         highs = λ i a b. ⊎-elim
-            (λ l. let e : positionAt s i ≡ positionAt t i = same-position s t i (first .same i l) in let u : q ≤ positionAt s i = cut .highs i a (omega arith) in omega arith)
+            (λ l. let e : positionAt s i ≡ positionAt t i = same-position s i t i (first .same i l) in let u : q ≤ positionAt s i = cut .highs i a (omega arith) in omega arith)
             (λ g. let e : positionAt t d ≤ positionAt t i = sorted-le t ot d i g b in let u : p ≤ positionAt t d = bound .high-t (omega arith) in omega arith)
             (lt-or-ge i d);
       }
@@ -80,18 +80,18 @@ module _ (s t : List ℕ) (os : Sorted s) (ot : Sorted t) (p : ℕ) (found : dif
       let same : (i : ℕ) → i < c → sameAt s t i ≡ true = λ i l. first .same i (before i l) in
       record {
         count = cut-count t ot q c cut-other;
-        records = λ i l. same-record s t i (same i l);
-        bytes = λ i l. same-bytes s t i 10 (same i l);
+        records = λ i l. same-record s i t i (same i l);
+        bytes = λ i l. same-bytes s i t i 10 (same i l);
         front = front-same s t c (cut .inside) (cut-other .inside) same;
       }
 
 -- ---- no difference
 -- a list has no difference from itself
-self-equal : (s : List ℕ) → differenceOf s s ≡ Equal
+pub self-equal : (s : List ℕ) → differenceOf s s ≡ Equal
 self-equal s =
     let f : First s s (firstIndex s s) = first-index s s in
     let end : countOf s ≤ firstIndex s s =
-    ⊎-elim (λ l. let z : true ≡ false = sym (bytes-same s s (firstIndex s s) 10 (λ j h. refl)) ∙ f .differs l l in absurd (clash (cc))) (λ g. g) (lt-or-ge (firstIndex s s) (countOf s)) in
+    ⊎-elim (λ l. let z : true ≡ false = sym (bytes-same s (firstIndex s s) s (firstIndex s s) 10 (λ j h. refl)) ∙ f .differs l l in absurd (clash (cc))) (λ g. g) (lt-or-ge (firstIndex s s) (countOf s)) in
     rw (le-ltb (firstIndex s s) (countOf s) end)
 
 pub record EqualExactly (s t : List ℕ) : Type 0 where

@@ -2,6 +2,7 @@
 use mathlib.Core.Path.{_≡_, refl}
 use mathlib.Core.List.{List, [], _∷_, _++_}
 use Prim.Native.Nat.{ℕ}
+use Rattle.runs.specs.Runs.{firstPassing}
 use Rattle.answers.specs.declared.ScoreFault.the-variants.{Length, Mark, Kind, Field, Order}
 use Rattle.score.specs.declared.Kind.the-variants.{On, Off}
 use Rattle.score.specs.declared.Difference.the-variants.{Equal, At}
@@ -9,7 +10,7 @@ use Rattle.score.specs.declared.Record.{Record}
 use Rattle.score.specs.declared.Verdict.the-variants.{Accepted, Faulty}
 use Rattle.score.specs.Record.{positionAt, recordAt, encodeAll}
 use Rattle.score.specs.Score.{markRight, kindRight, fieldsRight, inOrder, faultsAt, faultsFrom, faultsOf, verdictOf}
-use Rattle.score.specs.Apart.{sameTo, firstFrom, differenceOf}
+use Rattle.score.specs.Apart.{sameTo, differenceOf}
 
 -- 56 4E 00 00 00 00 01 45 7F 00 56 4E 64 00 00 00 02 45 00 00
 abbrev pub example : List ℕ
@@ -71,5 +72,5 @@ pub record Differences : Type 0 where
   pub equal : differenceOf example example ≡ Equal
 
 pub differences : Differences
-unfolding positionAt sameTo firstFrom
+unfolding positionAt sameTo firstPassing
 differences = record { lower-first = refl; lower-second = refl; remains = refl; off-velocity = refl; equal = refl }

@@ -1,18 +1,19 @@
 -- The first difference of two scores: the records before its index are the same, its position is not above that of
 -- either score there, and the order of the two scores does not matter. Assumes nothing.
 use mathlib.Core.Path.{_≡_, refl, sym, ap, _∙_}
-use mathlib.Core.Bool.{Bool, true, false, cond}
+use mathlib.Core.Bool.{Bool, true, false, not, cond, true≢false}
 use mathlib.Core.List.{List}
 use mathlib.Core.Logic.{⊎-elim}
 use Prim.Native.Nat.{ℕ, zero, suc, _+_, _<_, _≤_, min}
 use native.Mathlib.Nat.{eq-or-lt-of-le, le-of-suc-le-suc}
 use native.Mathlib.Omega.{arith}
 use lib.Dec.{ltb, eqb}
-use borrow.Author.Tests.{ltb-false, eqb-true, eq-eqb}
+use borrow.Author.Tests.{ltb-false, eqb-true, eq-eqb, not-true, not-false}
+use Rattle.runs.specs.Runs.{firstPassing}
+use Rattle.runs.proofs.First.{first-passing, first-same}
 use Rattle.score.specs.declared.Difference.the-variants.{Equal, At}
 use Rattle.score.specs.Record.{countOf, byteAt, positionAt, recordAt}
-use Rattle.score.specs.Apart.{sameTo, sameAt, firstFrom, firstIndex, differenceAt, differenceOf}
-use Rattle.score.proofs.Cuts.{lt-or-ge}
+use Rattle.score.specs.Apart.{sameTo, sameRecord, sameAt, firstIndex, sameBack, sameEnd, differenceAt, differenceOf}
 
 pub clash : _≡_ {A = ℕ} 0 1 → ⊥
 clash h = omega arith
@@ -20,95 +21,83 @@ clash h = omega arith
 pub none-below : (i : ℕ) → i < 0 → ⊥
 none-below i h = omega arith
 
--- ---- one record
-pub same-bytes : (s t : List ℕ) (i n : ℕ) → sameTo s t i n ≡ true → (j : ℕ) → j < n → byteAt s i j ≡ byteAt t i j
+-- ---- one record of each score: record i of s and record j of t
+pub same-bytes : (s : List ℕ) (i : ℕ) (t : List ℕ) (j n : ℕ) → sameTo s i t j n ≡ true → (k : ℕ) → k < n → byteAt s i k ≡ byteAt t j k
 unfolding sameTo
-same-bytes s t i zero e j h = absurd (none-below j h)
-same-bytes s t i (suc n) e j h = go (same-bytes s t i n) (eqb (byteAt s i n) (byteAt t i n)) refl e
+same-bytes s i t j zero e k h = absurd (none-below k h)
+same-bytes s i t j (suc n) e k h = go (same-bytes s i t j n) (eqb (byteAt s i n) (byteAt t j n)) refl e
   where
-    go : (sameTo s t i n ≡ true → (j : ℕ) → j < n → byteAt s i j ≡ byteAt t i j) → (b : Bool) → eqb (byteAt s i n) (byteAt t i n) ≡ b → cond b (sameTo s t i n) false ≡ true → byteAt s i j ≡ byteAt t i j
-    go ih true q e = ⊎-elim (λ x. rw x (eqb-true _ _ q)) (λ l. ih e j l) (eq-or-lt-of-le (le-of-suc-le-suc h))
-    go ih false q e = let z : true ≡ false = sym e in cc
+    go : (sameTo s i t j n ≡ true → (k : ℕ) → k < n → byteAt s i k ≡ byteAt t j k) → (b : Bool) → eqb (byteAt s i n) (byteAt t j n) ≡ b → cond b (sameTo s i t j n) false ≡ true → byteAt s i k ≡ byteAt t j k
+    go ih true q e = ⊎-elim (λ x. rw x (eqb-true _ _ q)) (λ l. ih e k l) (eq-or-lt-of-le (le-of-suc-le-suc h))
+    go ih false q e = absurd (true≢false (sym e))
 
-pub bytes-same : (s t : List ℕ) (i n : ℕ) → ((j : ℕ) → j < n → byteAt s i j ≡ byteAt t i j) → sameTo s t i n ≡ true
+pub bytes-same : (s : List ℕ) (i : ℕ) (t : List ℕ) (j n : ℕ) → ((k : ℕ) → k < n → byteAt s i k ≡ byteAt t j k) → sameTo s i t j n ≡ true
 unfolding sameTo
-bytes-same s t i zero f = refl
-bytes-same s t i (suc n) f = rw (eq-eqb _ _ (f n (omega arith))) (bytes-same s t i n (λ j h. f j (omega arith)))
+bytes-same s i t j zero f = refl
+bytes-same s i t j (suc n) f = rw (eq-eqb _ _ (f n (omega arith))) (bytes-same s i t j n (λ k h. f k (omega arith)))
 
-pub same-position : (s t : List ℕ) (i : ℕ) → sameAt s t i ≡ true → positionAt s i ≡ positionAt t i
+pub same-position : (s : List ℕ) (i : ℕ) (t : List ℕ) (j : ℕ) → sameRecord s i t j ≡ true → positionAt s i ≡ positionAt t j
 unfolding positionAt
-same-position s t i e =
-    let f : (j : ℕ) → j < 10 → byteAt s i j ≡ byteAt t i j = same-bytes s t i 10 e in
+same-position s i t j e =
+    let f : (k : ℕ) → k < 10 → byteAt s i k ≡ byteAt t j k = same-bytes s i t j 10 e in
     rw (f 2 (omega arith), f 3 (omega arith), f 4 (omega arith), f 5 (omega arith))
 
-pub same-record : (s t : List ℕ) (i : ℕ) → sameAt s t i ≡ true → recordAt s i ≡ recordAt t i
-same-record s t i e =
-    let f : (j : ℕ) → j < 10 → byteAt s i j ≡ byteAt t i j = same-bytes s t i 10 e in
-    rw (same-position s t i e, f 6 (omega arith), f 7 (omega arith), f 8 (omega arith)) refl
+pub same-record : (s : List ℕ) (i : ℕ) (t : List ℕ) (j : ℕ) → sameRecord s i t j ≡ true → recordAt s i ≡ recordAt t j
+same-record s i t j e =
+    let f : (k : ℕ) → k < 10 → byteAt s i k ≡ byteAt t j k = same-bytes s i t j 10 e in
+    rw (same-position s i t j e, f 6 (omega arith), f 7 (omega arith), f 8 (omega arith)) refl
 
--- ---- the first index
--- d is the index of the first of k records from record i on that differs, or i + k
-record FirstIn (s t : List ℕ) (k i d : ℕ) : Type 0 where
-  low : i ≤ d
-  high : d ≤ i + k
-  same : (j : ℕ) → i ≤ j → j < d → sameAt s t j ≡ true
-  differs : d < i + k → sameAt s t d ≡ false
-
-first-in : (s t : List ℕ) (k i : ℕ) → FirstIn s t k i (firstFrom s t k i)
-unfolding firstFrom
-first-in s t zero i = record { low = omega arith; high = omega arith; same = λ j a b. absurd (clash (omega arith)); differs = λ h. absurd (clash (omega arith)) }
-first-in s t (suc k) i = go (first-in s t k (suc i)) (sameAt s t i) refl
-  where
-    go : FirstIn s t k (suc i) (firstFrom s t k (suc i)) → (b : Bool) → sameAt s t i ≡ b → FirstIn s t (suc k) i (cond b (firstFrom s t k (suc i)) i)
-    go r true e =
-        let low : suc i ≤ firstFrom s t k (suc i) = r .low in
-        let high : firstFrom s t k (suc i) ≤ suc i + k = r .high in
-        record {
-          low = omega arith;
-          high = omega arith;
-          same = λ j a b. ⊎-elim (λ q. rw (← q) e) (λ l. r .same j l b) (eq-or-lt-of-le a);
-          differs = λ h. r .differs (omega arith);
-        }
-    go r false e = record { low = omega arith; high = omega arith; same = λ j a b. absurd (clash (omega arith)); differs = λ h. e }
-
--- the first d records are the same, and record d, if both have one, is not
-pub record First (s t : List ℕ) (d : ℕ) : Type 0 where
+-- ---- where two scores part
+-- of the records of s and t, taken in an order, the first d are alike, and the next, if both have one, is not
+pub record Parts (alike : ℕ → Bool) (s t : List ℕ) (d : ℕ) : Type 0 where
   pub in-s : d ≤ countOf s
   pub in-t : d ≤ countOf t
-  pub same : (i : ℕ) → i < d → sameAt s t i ≡ true
-  pub differs : d < countOf s → d < countOf t → sameAt s t d ≡ false
+  pub same : (i : ℕ) → i < d → alike i ≡ true
+  pub differs : d < countOf s → d < countOf t → alike d ≡ false
+
+pub parts : (alike : ℕ → Bool) (s t : List ℕ) → Parts alike s t (firstPassing (λ (i : ℕ). not (alike i)) (min (countOf s) (countOf t)) 0)
+parts alike s t =
+    let d = firstPassing (λ (i : ℕ). not (alike i)) (min (countOf s) (countOf t)) 0 in
+    let f = first-passing (λ (i : ℕ). not (alike i)) (min (countOf s) (countOf t)) 0 in
+    let high : d ≤ 0 + min (countOf s) (countOf t) = f .high in
+    record {
+      in-s = omega arith;
+      in-t = omega arith;
+      same = λ i h. not-false (alike i) (f .none i (omega arith) h);
+      differs = λ a b. not-true (alike d) (f .here (omega arith));
+    }
+
+-- from the front: the first d records are the same, and record d, if both have one, is not
+abbrev pub First : List ℕ → List ℕ → ℕ → Type 0
+First s t d = Parts (sameAt s t) s t d
 
 pub first-index : (s t : List ℕ) → First s t (firstIndex s t)
-first-index s t =
-    let f = first-in s t (min (countOf s) (countOf t)) 0 in
-    let high : firstIndex s t ≤ 0 + min (countOf s) (countOf t) = f .high in
-    record { in-s = omega arith; in-t = omega arith; same = λ i h. f .same i (omega arith) h; differs = λ a b. f .differs (omega arith) }
+first-index s t = parts (sameAt s t) s t
 
--- there is one first index
-first-le : (s t : List ℕ) (c d : ℕ) → First s t c → First s t d → c ≤ d
-first-le s t c d x y =
-    ⊎-elim
-    (λ l. let z : true ≡ false = sym (x .same d l) ∙ y .differs (omega (arith, x .in-s)) (omega (arith, x .in-t)) in absurd (clash (cc)))
-    (λ g. g) (lt-or-ge d c)
+-- from the end: the last d records are the same, and the record before them, if both have one, is not
+abbrev pub Last : List ℕ → List ℕ → ℕ → Type 0
+Last s t d = Parts (sameBack s t) s t d
 
-same-sym : (s t : List ℕ) (i : ℕ) → sameAt s t i ≡ true → sameAt t s i ≡ true
-same-sym s t i e = bytes-same t s i 10 (λ j h. sym (same-bytes s t i 10 e j h))
+pub same-end : (s t : List ℕ) → Last s t (sameEnd s t)
+same-end s t = parts (sameBack s t) s t
 
-differs-sym : (s t : List ℕ) (i : ℕ) → sameAt s t i ≡ false → sameAt t s i ≡ false
-differs-sym s t i e = go (sameAt t s i) refl
+-- the order of the two scores does not matter
+same-sym : (s : List ℕ) (i : ℕ) (t : List ℕ) (j : ℕ) → sameRecord s i t j ≡ sameRecord t j s i
+same-sym s i t j = go (sameRecord s i t j) refl (sameRecord t j s i) refl
   where
-    go : (b : Bool) → sameAt t s i ≡ b → b ≡ false
-    go true q = sym (same-sym t s i q) ∙ e
-    go false q = refl
+    back : (s : List ℕ) (i : ℕ) (t : List ℕ) (j : ℕ) → sameRecord s i t j ≡ true → sameRecord t j s i ≡ true
+    back s i t j e = bytes-same t j s i 10 (λ k h. sym (same-bytes s i t j 10 e k h))
 
-first-sym : (s t : List ℕ) (d : ℕ) → First s t d → First t s d
-first-sym s t d f = record { in-s = f .in-t; in-t = f .in-s; same = λ i h. same-sym s t i (f .same i h); differs = λ a b. differs-sym s t d (f .differs b a) }
+    go : (a : Bool) → sameRecord s i t j ≡ a → (b : Bool) → sameRecord t j s i ≡ b → a ≡ b
+    go true e b f = sym (back s i t j e) ∙ f
+    go false e true f = sym e ∙ back t j s i f
+    go false e false f = refl
 
 pub index-symmetric : (s t : List ℕ) → firstIndex s t ≡ firstIndex t s
 index-symmetric s t =
-    let a = first-le s t (firstIndex s t) (firstIndex t s) (first-index s t) (first-sym t s (firstIndex t s) (first-index t s)) in
-    let b = first-le t s (firstIndex t s) (firstIndex s t) (first-index t s) (first-sym s t (firstIndex s t) (first-index s t)) in
-    omega (arith, a, b)
+    let fewer : min (countOf s) (countOf t) ≡ min (countOf t) (countOf s) = omega arith in
+    rw (← fewer)
+    (first-same (λ (i : ℕ). not (sameAt s t i)) (λ (i : ℕ). not (sameAt t s i)) (min (countOf s) (countOf t)) 0 (λ i a b. ap not (same-sym s i t i)))
 
 -- ---- the difference
 difference-swap : (s t : List ℕ) (i : ℕ) → differenceAt s t i ≡ differenceAt t s i

@@ -53,7 +53,7 @@ module _ (s t : List ℕ) (p : ℕ) (os : Sorted s) (ot : Sorted t) (same : Same
   not-both l =
       let in-s : d < countOf s = omega (arith, count-cut s os (suc p) .inside) in
       let in-t : d < countOf t = omega (arith, count-cut t ot (suc p) .inside, same .count) in
-      let z : true ≡ false = sym (bytes-same s t d 10 (same .bytes d l)) ∙ first-index s t .differs in-s in-t in
+      let z : true ≡ false = sym (bytes-same s d t d 10 (same .bytes d l)) ∙ first-index s t .differs in-s in-t in
       clash (cc)
 
   pub parted-there : differenceOf s t ≡ At p → ⊥

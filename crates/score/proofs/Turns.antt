@@ -2,7 +2,7 @@
 use mathlib.Core.Path.{_≡_, refl, sym, ap, _∙_}
 use mathlib.Core.Bool.{true, false}
 use mathlib.Core.List.{List}
-use Prim.Native.Nat.{ℕ, suc, _+_, _-_, _<_, _≤_, min}
+use Prim.Native.Nat.{ℕ, suc, _+_, _-_, _<_, _≤_, min, max}
 use native.Mathlib.Numerals.{add-one}
 use native.Mathlib.Omega.{arith}
 use lib.Dec.{leb}
@@ -15,7 +15,7 @@ use Rattle.score.specs.declared.Verdict.the-variants.{Accepted, Faulty}
 use Rattle.score.specs.Record.{countOf, positionAt}
 use Rattle.score.specs.Score.{inOrder, faultsAt, faultsFrom}
 use Rattle.score.proofs.Verdicts.{accepted-none, faulty-leads}
-use Rattle.score.specs.Apart.{sameAt, firstFrom, firstIndex, differenceOf}
+use Rattle.score.specs.Apart.{firstIndex, differenceOf, fromEnd, sameEnd, lastDifferenceOf}
 use Rattle.score.specs.declared.Difference.the-variants.{Equal, At}
 
 -- ---- the check, at record i of n: the faults of the records from i on decide
@@ -51,25 +51,6 @@ pub order-next : (s : List ℕ) (i : ℕ) → inOrder s (i + 1) ≡ leb (positio
 unfolding inOrder
 order-next s i = rw (add-one i)
 
--- ---- the search for the first index, at record i of n
-pub search-on : (s t : List ℕ) (n i : ℕ) → i < n → sameAt s t i ≡ true → firstFrom s t (n - i) i ≡ firstFrom s t (n - (i + 1)) (i + 1)
-unfolding firstFrom
-search-on s t n i h e =
-    let left : n - i ≡ suc (n - (i + 1)) = omega arith in
-    rw (left, e, add-one i)
-
-pub search-stop : (s t : List ℕ) (n i : ℕ) → i < n → sameAt s t i ≡ false → firstFrom s t (n - i) i ≡ i
-unfolding firstFrom
-search-stop s t n i h e =
-    let left : n - i ≡ suc (n - (i + 1)) = omega arith in
-    rw (left, e)
-
-pub search-end : (s t : List ℕ) (n i : ℕ) → i ≡ n → firstFrom s t (n - i) i ≡ n
-unfolding firstFrom
-search-end s t n i h =
-    let left : n - i ≡ 0 = omega arith in
-    rw (left, h)
-
 -- the order of a record i above 0
 pub order-after : (s : List ℕ) (i : ℕ) → 0 < i → inOrder s i ≡ leb (positionAt s (i - 1)) (positionAt s i)
 unfolding inOrder
@@ -90,3 +71,17 @@ module _ (s t : List ℕ) (i : ℕ) (first : i ≡ firstIndex s t) where
 
   pub in-none : countOf s ≤ i → countOf t ≤ i → differenceOf s t ≡ Equal
   in-none a b = rw (← first, le-ltb i (countOf s) a, le-ltb i (countOf t) b)
+
+-- ---- the last difference: of the record that the i records at the end follow
+module _ (s t : List ℕ) (i : ℕ) (end : i ≡ sameEnd s t) where
+  pub back-both : i < countOf s → i < countOf t → lastDifferenceOf s t ≡ At (max (positionAt s (fromEnd s i)) (positionAt t (fromEnd t i)))
+  back-both a b = rw (← end, lt-ltb i (countOf s) a, lt-ltb i (countOf t) b)
+
+  pub back-old : i < countOf s → countOf t ≤ i → lastDifferenceOf s t ≡ At (positionAt s (fromEnd s i))
+  back-old a b = rw (← end, lt-ltb i (countOf s) a, le-ltb i (countOf t) b)
+
+  pub back-new : countOf s ≤ i → i < countOf t → lastDifferenceOf s t ≡ At (positionAt t (fromEnd t i))
+  back-new a b = rw (← end, le-ltb i (countOf s) a, lt-ltb i (countOf t) b)
+
+  pub back-none : countOf s ≤ i → countOf t ≤ i → lastDifferenceOf s t ≡ Equal
+  back-none a b = rw (← end, le-ltb i (countOf s) a, le-ltb i (countOf t) b)

@@ -13,7 +13,7 @@ use Rattle.words.specs.Words.{wordOf}
 use Rattle.score.specs.Record.{byteAt, wordAt}
 use Rattle.score.specs.Inner.{markAt, bodyAt}
 use Rattle.score.specs.Score.{fieldLimit, allRight}
-use Rattle.score.specs.Apart.{sameTo, sameAt}
+use Rattle.score.specs.Apart.{sameTo, sameRecord}
 use Rattle.score.proofs.Parted.{same-bytes}
 use Rattle.score.proofs.Codec.{both, either, Right, right-mark, right-kind, right-fields}
 
@@ -93,32 +93,32 @@ word-small a b c d ha hb hc hd = omega arith
 two-words : (a b c d : ℕ) → a < 4294967296 → c < 4294967296 → a + b * 4294967296 ≡ c + d * 4294967296 → (a ≡ c) × (b ≡ d)
 two-words a b c d h k q = (omega arith, omega arith)
 
--- record i is the same in two scores exactly where its mark and the eight bytes after it are
-module _ (s t : List ℕ) (i : ℕ) (x : (j : ℕ) → byteAt s i j < 256) (y : (j : ℕ) → byteAt t i j < 256) where
+-- record i of s and record j of t are the same exactly where their marks and the eight bytes after them are
+module _ (s : List ℕ) (i : ℕ) (t : List ℕ) (j : ℕ) (x : (k : ℕ) → byteAt s i k < 256) (y : (k : ℕ) → byteAt t j k < 256) where
   abbrev Same : ℕ → Type 0
-  Same j = byteAt s i j ≡ byteAt t i j
+  Same k = byteAt s i k ≡ byteAt t j k
 
-  four-same : (j : ℕ) → wordAt s i j ≡ wordAt t i j → Same j × Same (j + 1) × Same (j + 2) × Same (j + 3)
-  four-same j = word-bytes _ _ _ _ _ _ _ _ (x j) (x (j + 1)) (x (j + 2)) (x (j + 3)) (y j) (y (j + 1)) (y (j + 2)) (y (j + 3))
+  four-same : (k : ℕ) → wordAt s i k ≡ wordAt t j k → Same k × Same (k + 1) × Same (k + 2) × Same (k + 3)
+  four-same k = word-bytes _ _ _ _ _ _ _ _ (x k) (x (k + 1)) (x (k + 2)) (x (k + 3)) (y k) (y (k + 1)) (y (k + 2)) (y (k + 3))
 
-  words-same : markAt s i ≡ markAt t i → bodyAt s i ≡ bodyAt t i → sameAt s t i ≡ true
+  words-same : markAt s i ≡ markAt t j → bodyAt s i ≡ bodyAt t j → sameRecord s i t j ≡ true
   unfolding sameTo
   words-same m r =
-      let a = word-bytes (byteAt s i 0) (byteAt s i 1) 0 0 (byteAt t i 0) (byteAt t i 1) 0 0 (x 0) (x 1) (lit< tt) (lit< tt) (y 0) (y 1) (lit< tt) (lit< tt) m in
-      let two = two-words (wordAt s i 2) (wordAt s i 6) (wordAt t i 2) (wordAt t i 6) (word-small _ _ _ _ (x 2) (x 3) (x 4) (x 5)) (word-small _ _ _ _ (y 2) (y 3) (y 4) (y 5)) r in
+      let a = word-bytes (byteAt s i 0) (byteAt s i 1) 0 0 (byteAt t j 0) (byteAt t j 1) 0 0 (x 0) (x 1) (lit< tt) (lit< tt) (y 0) (y 1) (lit< tt) (lit< tt) m in
+      let two = two-words (wordAt s i 2) (wordAt s i 6) (wordAt t j 2) (wordAt t j 6) (word-small _ _ _ _ (x 2) (x 3) (x 4) (x 5)) (word-small _ _ _ _ (y 2) (y 3) (y 4) (y 5)) r in
       let b = four-same 2 (two .0) in
       let c = four-same 6 (two .1) in
       simp (eq-eqb _ _ (a .0), eq-eqb _ _ (a .1), eq-eqb _ _ (b .0), eq-eqb _ _ (b .1), eq-eqb _ _ (b .2), eq-eqb _ _ (b .3), eq-eqb _ _ (c .0), eq-eqb _ _ (c .1), eq-eqb _ _ (c .2), eq-eqb _ _ (c .3))
 
-  same-words : sameAt s t i ≡ true → (markAt s i ≡ markAt t i) × (bodyAt s i ≡ bodyAt t i)
+  same-words : sameRecord s i t j ≡ true → (markAt s i ≡ markAt t j) × (bodyAt s i ≡ bodyAt t j)
   same-words h =
-      let f : (j : ℕ) → j < 10 → byteAt s i j ≡ byteAt t i j = same-bytes s t i 10 h in
+      let f : (k : ℕ) → k < 10 → byteAt s i k ≡ byteAt t j k = same-bytes s i t j 10 h in
       (rw (f 0 (lit< tt), f 1 (lit< tt)), rw (f 2 (lit< tt), f 3 (lit< tt), f 4 (lit< tt), f 5 (lit< tt), f 6 (lit< tt), f 7 (lit< tt), f 8 (lit< tt), f 9 (lit< tt)))
 
-  pub same-by-words : eqb (markAt s i) (markAt t i) && eqb (bodyAt s i) (bodyAt t i) ≡ sameAt s t i
-  same-by-words = go (eqb (markAt s i) (markAt t i)) refl (eqb (bodyAt s i) (bodyAt t i)) refl (sameAt s t i) refl
+  pub same-by-words : eqb (markAt s i) (markAt t j) && eqb (bodyAt s i) (bodyAt t j) ≡ sameRecord s i t j
+  same-by-words = go (eqb (markAt s i) (markAt t j)) refl (eqb (bodyAt s i) (bodyAt t j)) refl (sameRecord s i t j) refl
     where
-      go : (a : Bool) → eqb (markAt s i) (markAt t i) ≡ a → (b : Bool) → eqb (bodyAt s i) (bodyAt t i) ≡ b → (r : Bool) → sameAt s t i ≡ r → a && b ≡ r
+      go : (a : Bool) → eqb (markAt s i) (markAt t j) ≡ a → (b : Bool) → eqb (bodyAt s i) (bodyAt t j) ≡ b → (r : Bool) → sameRecord s i t j ≡ r → a && b ≡ r
       go a f b g true q = let e = same-words q in rw (← f, ← g, eq-eqb _ _ (e .0), eq-eqb _ _ (e .1))
       go true f true g false q = sym (words-same (eqb-true _ _ f) (eqb-true _ _ g)) ∙ q
       go true f false g false q = refl

@@ -2,14 +2,14 @@
 // function takes any slice and reads bytes past its end as 0. Listing a score is the task of `listing`.
 ghost use mathlib.Core.Path.{_≡_};
 ghost use mathlib.Core.Bool.{true};
-ghost use Prim.Native.Nat.{_<_, _≤_, min};
+ghost use Prim.Native.Nat.{_<_, _≤_, min, max};
 ghost use Rattle.answers.specs.Order.{firstOf};
 ghost use Rattle.score.specs.declared.Verdict.the-variants.{Accepted, Faulty};
 ghost use Rattle.score.specs.Record.{byteAt, wordAt, positionAt, kindOf, kindByte, recordAt, encodeOf, countOf};
 ghost use Rattle.score.specs.Inner.{markAt, bodyAt};
 ghost use Rattle.score.specs.Score.{fieldLimit, markRight, kindRight, fieldsRight, allRight, inOrder, faultsAt, verdictOf, answerOf};
-ghost use Rattle.score.specs.Below.{lastBelow, isCountBelow};
-ghost use Rattle.score.specs.Apart.{sameAt, firstIndex, differenceOf};
+ghost use Rattle.score.specs.Below.{lastBelow, isCountBelow, nextNotBelow};
+ghost use Rattle.score.specs.Apart.{sameRecord, firstIndex, differenceOf, sameEnd, lastDifferenceOf};
 use answers::Answer;
 use answers::Refusal;
 use answers::ScoreFault;
@@ -39,7 +39,7 @@ pub enum Verdict {
     Faulty(ScoreFault),
 }
 
-// Whether two scores have the same records, or the lowest position from which they may differ.
+// Whether two scores have the same records, or the position at the first or the last record that differs.
 pub enum Difference {
     Equal,
     At(u32),
@@ -134,6 +134,22 @@ pub fn is_count_below(score: &[u8], k: u64, p: u64) -> bool
     (k <= n) & last_below(score, next, p) & ((n <= k) | above)
 }
 
+// From record `from` on, the index of the first record that is not below p: the number of records, or `from` where it
+// is more, if there is none.
+pub fn next_not_below(score: &[u8], from: usize, p: u64) -> usize
+    ensures { λ r. ⌜ r ≡ nextNotBelow (now (score .entry)) from p ⌝ }
+{
+    let n = count(score);
+    let mut next = from;
+    while next < n {
+        if p <= word_at(score, next, 2) as u64 {
+            return next;
+        }
+        next += 1;
+    }
+    next
+}
+
 // The first index at which the records differ or one score has ended.
 fn first_index(old: &[u8], new: &[u8]) -> usize
     ensures { λ r. ⌜ r ≡ firstIndex (now (old .entry)) (now (new .entry)) ⌝ }
@@ -141,7 +157,7 @@ fn first_index(old: &[u8], new: &[u8]) -> usize
     let n = fewer(count(old), count(new));
     let mut i = 0;
     while i < n {
-        if !same_record(old, new, i) {
+        if !same_record(old, i, new, i) {
             return i;
         }
         i += 1;
@@ -164,6 +180,46 @@ pub fn first_difference(old: &[u8], new: &[u8]) -> Difference
     }
     if i < count(new) {
         return Difference::At(q);
+    }
+    Difference::Equal
+}
+
+// How many records at the end are the same.
+fn same_end(old: &[u8], new: &[u8]) -> usize
+    ensures { λ r. ⌜ r ≡ sameEnd (now (old .entry)) (now (new .entry)) ⌝ }
+{
+    let m = count(old);
+    let n = count(new);
+    let most = fewer(m, n);
+    let mut k = 0;
+    while k < most {
+        if !same_record(old, m - (k + 1), new, n - (k + 1)) {
+            return k;
+        }
+        k += 1;
+    }
+    most
+}
+
+// From the end: the higher of the two positions at the last difference, or the position in the score that has another
+// record there. Scores in order have the same records above it, and not from it on.
+pub fn last_difference(old: &[u8], new: &[u8]) -> Difference
+    ensures { λ r. ⌜ r ≡ lastDifferenceOf (now (old .entry)) (now (new .entry)) ⌝ }
+{
+    let k = same_end(old, new);
+    let m = count(old);
+    let n = count(new);
+    if k < m {
+        let x = position(old, m - (k + 1));
+        if k < n {
+            let y = position(new, n - (k + 1));
+            return Difference::At(higher(x, y));
+        }
+        return Difference::At(x);
+    }
+    if k < n {
+        let y = position(new, n - (k + 1));
+        return Difference::At(y);
     }
     Difference::Equal
 }
@@ -336,14 +392,14 @@ fn in_order(score: &[u8], i: usize) -> bool
     position(score, i - 1) <= position(score, i)
 }
 
-// Whether record i, which exists in both scores, has the same ten bytes in both.
-fn same_record(s: &[u8], t: &[u8], i: usize) -> bool
+// Whether record i of s and record j of t, which exist, have the same ten bytes.
+fn same_record(s: &[u8], i: usize, t: &[u8], j: usize) -> bool
     requires { ⌜ i < countOf (now s) ⌝ }
-    requires { ⌜ i < countOf (now t) ⌝ }
-    ensures { λ r. ⌜ r ≡ sameAt (now (s .entry)) (now (t .entry)) i ⌝ }
+    requires { ⌜ j < countOf (now t) ⌝ }
+    ensures { λ r. ⌜ r ≡ sameRecord (now (s .entry)) i (now (t .entry)) j ⌝ }
 {
-    let mark = mark_at(s, i) == mark_at(t, i);
-    let rest = body_at(s, i) == body_at(t, i);
+    let mark = mark_at(s, i) == mark_at(t, j);
+    let rest = body_at(s, i) == body_at(t, j);
     mark & rest
 }
 
@@ -357,4 +413,10 @@ fn lower(a: u32, b: u32) -> u32
     ensures { λ r. ⌜ r ≡ min a b ⌝ }
 {
     if a < b { a } else { b }
+}
+
+fn higher(a: u32, b: u32) -> u32
+    ensures { λ r. ⌜ r ≡ max a b ⌝ }
+{
+    if a < b { b } else { a }
 }

@@ -1,5 +1,5 @@
--- A number in bytes, low byte first; and whether two lists have the same words. The bits of a float are those of the logic's account of IEEE 754 (`ofBits`,
--- `toBits`), where every NaN pattern is the one NaN. Definitions only.
+-- A number in bytes, low byte first; and whether two lists have the same words. The bits of a float are those of the
+-- logic's account of IEEE 754 (`ofBits`, `toBits`), where every NaN pattern is the one NaN. Definitions only.
 use mathlib.Core.Bool.{Bool, true, false, cond, _&&_}
 use mathlib.Core.List.{List, [], _∷_}
 use Prim.Native.Nat.{ℕ, zero, suc, _+_, _*_}

@@ -24,10 +24,10 @@ returns c =
     let mark = c .before .before in
     let known = mark .before .before in
     let a = known .before .before .args in
-    let x : (j : ℕ) → byteAt (a .s .now) (a .i) j < 256 = λ j. omega (arith, known .before .shared-slice-known .given (a .i * 10 + j)) in
-    let y : (j : ℕ) → byteAt (a .t .now) (a .i) j < 256 = λ j. omega (arith, known .shared-slice-known2 .given (a .i * 10 + j)) in
+    let x : (k : ℕ) → byteAt (a .s .now) (a .i) k < 256 = λ k. omega (arith, known .before .shared-slice-known .given (a .i * 10 + k)) in
+    let y : (k : ℕ) → byteAt (a .t .now) (a .j) k < 256 = λ k. omega (arith, known .shared-slice-known2 .given (a .j * 10 + k)) in
     rw (mark .before .mark-at .ensures, mark .mark-at2 .ensures, c .before .body-at .ensures, c .body-at2 .ensures)
-    (same-by-words (a .s .now) (a .t .now) (a .i) x y)
+    (same-by-words (a .s .now) (a .i) (a .t .now) (a .j) x y)
 
 pub same-record-spec : {M : Type 1} → statement M
 same-record-spec = tie.close (tie.spec mark-at-requires mark-at-requires-2 body-at-requires body-at-requires-2 returns)
