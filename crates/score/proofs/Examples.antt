@@ -1,6 +1,7 @@
 -- 01's own score, and its order of refusals by example, on the definitions that the contracts cite. Assumes nothing.
 use mathlib.Core.Path.{_≡_, refl}
 use mathlib.Core.List.{List, [], _∷_, _++_}
+use mathlib.Core.Bool.{true, false}
 use Prim.Native.Nat.{ℕ}
 use Rattle.runs.specs.Runs.{firstPassing}
 use Rattle.answers.specs.declared.ScoreFault.the-variants.{Length, Mark, Kind, Field, Order}
@@ -10,7 +11,9 @@ use Rattle.score.specs.declared.Record.{Record}
 use Rattle.score.specs.declared.Verdict.the-variants.{Accepted, Faulty}
 use Rattle.score.specs.Record.{positionAt, recordAt, encodeAll}
 use Rattle.score.specs.Score.{markRight, kindRight, fieldsRight, inOrder, faultsAt, faultsFrom, faultsOf, verdictOf}
-use Rattle.score.specs.Apart.{sameTo, differenceOf}
+use Rattle.score.specs.Apart.{sameTo, differenceOf, lastDifferenceOf, sameFrom}
+use Rattle.score.specs.Below.{below, nextNotBelow}
+use Rattle.words.specs.Words.{same}
 
 -- 56 4E 00 00 00 00 01 45 7F 00 56 4E 64 00 00 00 02 45 00 00
 abbrev pub example : List ℕ
@@ -74,3 +77,31 @@ pub record Differences : Type 0 where
 pub differences : Differences
 unfolding positionAt sameTo firstPassing
 differences = record { lower-first = refl; lower-second = refl; remains = refl; off-velocity = refl; equal = refl }
+
+-- the higher of two positions at the last difference; the position in the longer score; the velocity of an off; records
+-- added and taken away before the same end
+pub record LastDifferences : Type 0 where
+  pub higher-first : lastDifferenceOf (encodeAll (noteOn 0 ∷ noteOff 9 ∷ [])) (encodeAll (noteOn 0 ∷ noteOff 7 ∷ [])) ≡ At 9
+  pub higher-second : lastDifferenceOf (encodeAll (noteOn 0 ∷ noteOff 7 ∷ [])) (encodeAll (noteOn 0 ∷ noteOff 9 ∷ [])) ≡ At 9
+  pub remains : lastDifferenceOf (encodeAll (noteOff 8 ∷ [])) (encodeAll (noteOn 5 ∷ noteOff 8 ∷ [])) ≡ At 5
+  pub added-at-the-end : lastDifferenceOf (encodeAll (noteOn 0 ∷ [])) (encodeAll (noteOn 0 ∷ noteOff 8 ∷ [])) ≡ At 8
+  pub off-velocity : lastDifferenceOf (ten 2 69 0 0) (ten 2 69 1 0) ≡ At 0
+  pub equal : lastDifferenceOf example example ≡ Equal
+
+pub last-differences : LastDifferences
+unfolding positionAt sameTo firstPassing
+last-differences = record { higher-first = refl; higher-second = refl; remains = refl; added-at-the-end = refl; off-velocity = refl; equal = refl }
+
+-- the records from q on take in those at q; the first record not below p, from record i on, and past the last record
+pub record FromOn : Type 0 where
+  pub takes-in : sameFrom (encodeAll (noteOn 0 ∷ noteOff 8 ∷ [])) (encodeAll (noteOn 0 ∷ noteOff 9 ∷ [])) 9 ≡ false
+  pub above : sameFrom (encodeAll (noteOn 0 ∷ noteOff 8 ∷ [])) (encodeAll (noteOn 0 ∷ noteOff 9 ∷ [])) 10 ≡ true
+  pub past-the-end : sameFrom (encodeAll (noteOn 0 ∷ [])) (encodeAll (noteOn 0 ∷ noteOff 4294967295 ∷ [])) 4294967295 ≡ false
+  pub at-it : nextNotBelow example 0 100 ≡ 1
+  pub after-it : nextNotBelow example 0 101 ≡ 2
+  pub from-it : nextNotBelow example 1 0 ≡ 1
+  pub beyond : nextNotBelow example 7 0 ≡ 7
+
+pub from-on : FromOn
+unfolding positionAt sameTo firstPassing nextNotBelow sameFrom same below
+from-on = record { takes-in = refl; above = refl; past-the-end = refl; at-it = refl; after-it = refl; from-it = refl; beyond = refl }

@@ -17,6 +17,8 @@ pub mod Parted
 pub mod Agree
 -- the position of the first difference cannot be higher
 pub mod Reached
+-- two scores have the same records from a position on exactly above their last difference: where a re-render may stop
+pub mod Ends
 -- the tests that read several bytes as one number
 pub mod Words
 -- one turn of each loop

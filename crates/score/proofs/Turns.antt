@@ -1,6 +1,5 @@
 -- One turn of each loop, said of what is left to look at: it goes on, stops, or ends. Assumes nothing.
 use mathlib.Core.Path.{_≡_, refl, sym, ap, _∙_}
-use mathlib.Core.Bool.{true, false}
 use mathlib.Core.List.{List}
 use Prim.Native.Nat.{ℕ, suc, _+_, _-_, _<_, _≤_, min, max}
 use native.Mathlib.Numerals.{add-one}
@@ -15,7 +14,7 @@ use Rattle.score.specs.declared.Verdict.the-variants.{Accepted, Faulty}
 use Rattle.score.specs.Record.{countOf, positionAt}
 use Rattle.score.specs.Score.{inOrder, faultsAt, faultsFrom}
 use Rattle.score.proofs.Verdicts.{accepted-none, faulty-leads}
-use Rattle.score.specs.Apart.{firstIndex, differenceOf, fromEnd, sameEnd, lastDifferenceOf}
+use Rattle.score.specs.Apart.{firstIndex, differenceOf, sameRecord, fromEnd, sameBack, sameEnd, lastDifferenceOf}
 use Rattle.score.specs.declared.Difference.the-variants.{Equal, At}
 
 -- ---- the check, at record i of n: the faults of the records from i on decide
@@ -72,16 +71,23 @@ module _ (s t : List ℕ) (i : ℕ) (first : i ≡ firstIndex s t) where
   pub in-none : countOf s ≤ i → countOf t ≤ i → differenceOf s t ≡ Equal
   in-none a b = rw (← first, le-ltb i (countOf s) a, le-ltb i (countOf t) b)
 
--- ---- the last difference: of the record that the i records at the end follow
-module _ (s t : List ℕ) (i : ℕ) (end : i ≡ sameEnd s t) where
-  pub back-both : i < countOf s → i < countOf t → lastDifferenceOf s t ≡ At (max (positionAt s (fromEnd s i)) (positionAt t (fromEnd t i)))
-  back-both a b = rw (← end, lt-ltb i (countOf s) a, lt-ltb i (countOf t) b)
+-- ---- from the end: of m records that one which k records follow
+pub back-at : (s : List ℕ) (m k : ℕ) → m ≡ countOf s → m - (k + 1) ≡ fromEnd s k
+back-at s m k e = rw (e, add-one k) refl
 
-  pub back-old : i < countOf s → countOf t ≤ i → lastDifferenceOf s t ≡ At (positionAt s (fromEnd s i))
-  back-old a b = rw (← end, lt-ltb i (countOf s) a, le-ltb i (countOf t) b)
+pub back-record : (s t : List ℕ) (m n k : ℕ) → m ≡ countOf s → n ≡ countOf t → sameRecord s (m - (k + 1)) t (n - (k + 1)) ≡ sameBack s t k
+back-record s t m n k e f = rw (back-at s m k e, back-at t n k f) refl
 
-  pub back-new : countOf s ≤ i → i < countOf t → lastDifferenceOf s t ≡ At (positionAt t (fromEnd t i))
-  back-new a b = rw (← end, le-ltb i (countOf s) a, lt-ltb i (countOf t) b)
+-- ---- the last difference
+module _ (s t : List ℕ) (k : ℕ) (end : k ≡ sameEnd s t) where
+  pub back-both : k < countOf s → k < countOf t → lastDifferenceOf s t ≡ At (max (positionAt s (fromEnd s k)) (positionAt t (fromEnd t k)))
+  back-both a b = rw (← end, lt-ltb k (countOf s) a, lt-ltb k (countOf t) b)
 
-  pub back-none : countOf s ≤ i → countOf t ≤ i → lastDifferenceOf s t ≡ Equal
-  back-none a b = rw (← end, le-ltb i (countOf s) a, le-ltb i (countOf t) b)
+  pub back-old : k < countOf s → countOf t ≤ k → lastDifferenceOf s t ≡ At (positionAt s (fromEnd s k))
+  back-old a b = rw (← end, lt-ltb k (countOf s) a, le-ltb k (countOf t) b)
+
+  pub back-new : countOf s ≤ k → k < countOf t → lastDifferenceOf s t ≡ At (positionAt t (fromEnd t k))
+  back-new a b = rw (← end, le-ltb k (countOf s) a, lt-ltb k (countOf t) b)
+
+  pub back-none : countOf s ≤ k → countOf t ≤ k → lastDifferenceOf s t ≡ Equal
+  back-none a b = rw (← end, le-ltb k (countOf s) a, le-ltb k (countOf t) b)

@@ -9,8 +9,8 @@ use Rattle.score.specs.declared.Verdict.{Verdict}
 use Rattle.score.specs.declared.Difference.{Difference}
 use Rattle.score.specs.Record.{countOf, positionAt, recordAt, encodeOf}
 use Rattle.score.specs.Score.{verdictOf, answerOf}
-use Rattle.score.specs.Below.{isCountBelow}
-use Rattle.score.specs.Apart.{differenceOf}
+use Rattle.score.specs.Below.{isCountBelow, nextNotBelow}
+use Rattle.score.specs.Apart.{differenceOf, lastDifferenceOf}
 
 pub check-unique : (s : List ℕ) (a b : Answer) → a ≡ answerOf s → b ≡ answerOf s → a ≡ b
 check-unique s a b p q = p ∙ sym q
@@ -35,3 +35,9 @@ is-count-below-unique s k n a b p q = p ∙ sym q
 
 pub first-difference-unique : (s t : List ℕ) (a b : Difference) → a ≡ differenceOf s t → b ≡ differenceOf s t → a ≡ b
 first-difference-unique s t a b p q = p ∙ sym q
+
+pub last-difference-unique : (s t : List ℕ) (a b : Difference) → a ≡ lastDifferenceOf s t → b ≡ lastDifferenceOf s t → a ≡ b
+last-difference-unique s t a b p q = p ∙ sym q
+
+pub next-not-below-unique : (s : List ℕ) (i p a b : ℕ) → a ≡ nextNotBelow s i p → b ≡ nextNotBelow s i p → a ≡ b
+next-not-below-unique s i p a b e f = e ∙ sym f

@@ -9,7 +9,7 @@ ghost use Rattle.score.specs.Record.{byteAt, wordAt, positionAt, kindOf,
 ghost use Rattle.score.specs.Inner.{markAt, bodyAt};
 ghost use Rattle.score.specs.Score.{fieldLimit, markRight, kindRight, fieldsRight, allRight, inOrder, faultsAt, verdictOf, answerOf};
 ghost use Rattle.score.specs.Below.{lastBelow, isCountBelow, nextNotBelow};
-ghost use Rattle.score.specs.Apart.{sameRecord, firstIndex, differenceOf, sameEnd, lastDifferenceOf};
+ghost use Rattle.score.specs.Apart.{sameRecord, firstIndex, differenceOf, fromEnd, sameEnd, lastDifferenceOf};
 use answers::Answer;
 use answers::Refusal;
 use answers::ScoreFault;
@@ -207,21 +207,29 @@ pub fn last_difference(old: &[u8], new: &[u8]) -> Difference
     ensures { λ r. ⌜ r ≡ lastDifferenceOf (now (old .entry)) (now (new .entry)) ⌝ }
 {
     let k = same_end(old, new);
-    let m = count(old);
-    let n = count(new);
-    if k < m {
-        let x = position(old, m - (k + 1));
-        if k < n {
-            let y = position(new, n - (k + 1));
+    let x = position_back(old, k);
+    let y = position_back(new, k);
+    if k < count(old) {
+        if k < count(new) {
             return Difference::At(higher(x, y));
         }
         return Difference::At(x);
     }
-    if k < n {
-        let y = position(new, n - (k + 1));
+    if k < count(new) {
         return Difference::At(y);
     }
     Difference::Equal
+}
+
+// The position of the record that k records follow, or of record 0 where there is none.
+fn position_back(score: &[u8], k: usize) -> u32
+    ensures { λ r. ⌜ r ≡ positionAt (now (score .entry)) (fromEnd (now (score .entry)) k) ⌝ }
+{
+    let n = count(score);
+    if n <= k {
+        return position(score, 0);
+    }
+    position(score, n - (k + 1))
 }
 
 // Whether k is 0 or record k - 1 is below p.

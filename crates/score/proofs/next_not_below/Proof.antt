@@ -1,51 +1,56 @@
+-- `score::next_not_below` meets its contract. Assumes nothing.
+use mathlib.Core.Path.{_≡_, refl, sym, ap, _∙_}
+use Prim.Native.Nat.{ℕ, _-_}
+use native.Mathlib.Omega.{arith}
+use lib.Dec.{leb}
+use borrow.Author.Needs.{needs}
+use borrow.Author.Tests.{le-leb, lt-leb}
+use Rattle.runs.specs.Runs.{firstPassing}
+use Rattle.runs.proofs.First.{passing-on, passing-stop, passing-end}
+use Rattle.score.specs.Record.{positionAt}
+use Rattle.score.specs.Below.{nextNotBelow}
 use Rattle.score.proofs.next_not_below.Statement.{statement}
 use Rattle.score.proofs.next_not_below.Tie as tie
-use Rattle.score.proofs.next_not_below.Reads as reads
-use Rattle.score.proofs.next_not_below.Lts as lts
-use Rattle.score.proofs.count.Reads as count-reads
-use Rattle.score.proofs.word_at.Reads as word-at-reads
 
 abbrev Inv-loop : tie.InvT-loop
-Inv-loop score from p n next₀ next = ?
+Inv-loop score from p n next₀ next = nextNotBelow score from p ≡ firstPassing (λ (j : ℕ). leb p (positionAt score j)) (n - next) next
 
 abbrev μ-loop : tie.MeasureT-loop
-μ-loop score from p n next₀ next = ?
+μ-loop score from p n next₀ next = n - next
 
--- src/lib.rt:142:9
 count-requires : tie.Need-count-requires Inv-loop μ-loop
-count-requires c κs = ?
+count-requires c κs = search needs
 
--- src/lib.rt:144:5
 loop-holds : tie.Need-loop-holds Inv-loop μ-loop
-loop-holds c = ?
+unfolding nextNotBelow
+loop-holds c = rw (c .count .ensures) refl
 
--- src/lib.rt:145:17
 word-at-requires : tie.Need-word-at-requires Inv-loop μ-loop
-word-at-requires c κs = ?
+word-at-requires c κs = search needs
 
--- src/lib.rt:145:17
 cast-if1 : tie.Need-cast-if1 Inv-loop μ-loop
-cast-if1 c = ?
+cast-if1 c = search needs
 
--- src/lib.rt:146:13
 returns : tie.Need-returns Inv-loop μ-loop
-returns c = ?
+unfolding positionAt
+returns c =
+    let at = c .before .before .before in
+    sym (at .loop .inv ∙ passing-stop _ _ (at .loop .next) (omega arith) (ap (leb _) (sym (c .before .word-at .ensures)) ∙ le-leb _ _ (c .if1 .taken)))
 
--- src/lib.rt:148:9
 add-next : tie.Need-add-next Inv-loop μ-loop
-add-next c = ?
+add-next c = omega arith
 
--- src/lib.rt:144:5
 loop-less : tie.Need-loop-less Inv-loop μ-loop
-loop-less c = ?
+loop-less c = omega arith
 
--- src/lib.rt:144:5
 loop-again : tie.Need-loop-again Inv-loop μ-loop
-loop-again c = ?
+unfolding positionAt
+loop-again c =
+    let at = c .before .before .before in
+    at .loop .inv ∙ passing-on _ _ (at .loop .next) (omega arith) (ap (leb _) (sym (c .before .word-at .ensures)) ∙ lt-leb _ _ (c .if1 .left))
 
--- src/lib.rt:139:1
 returns-2 : tie.Need-returns-2 Inv-loop μ-loop
-returns-2 c = ?
+returns-2 c = sym (c .before .loop .inv ∙ passing-end _ _ (c .before .loop .next) (omega arith))
 
 pub next-not-below-spec : {M : Type 1} → statement M
 next-not-below-spec =

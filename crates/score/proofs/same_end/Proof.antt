@@ -1,72 +1,72 @@
+-- `score::same_end` meets its contract. Assumes nothing.
+use mathlib.Core.Path.{_≡_, refl, sym, ap, _∙_}
+use mathlib.Core.Bool.{not}
+use Prim.Native.Nat.{ℕ, _≤_, _-_}
+use native.Mathlib.Nat.{sub-zero}
+use native.Mathlib.Omega.{arith}
+use borrow.Author.Needs.{needs}
+use Rattle.runs.specs.Runs.{firstPassing}
+use Rattle.runs.proofs.First.{passing-on, passing-stop, passing-end}
+use Rattle.score.specs.Apart.{sameBack, sameEnd}
+use Rattle.score.proofs.Turns.{back-record}
 use Rattle.score.proofs.same_end.Statement.{statement}
 use Rattle.score.proofs.same_end.Tie as tie
-use Rattle.score.proofs.same_end.Reads as reads
-use Rattle.score.proofs.same_end.Lts as lts
-use Rattle.score.proofs.count.Reads as count-reads
-use Rattle.score.proofs.fewer.Reads as fewer-reads
-use Rattle.score.proofs.same_record.Reads as same-record-reads
 
 abbrev Inv-loop : tie.InvT-loop
-Inv-loop old new m n most k₀ k = ?
+Inv-loop old new m n most k₀ k = (k ≤ most) × (sameEnd old new ≡ firstPassing (λ (j : ℕ). not (sameBack old new j)) (most - k) k)
 
 abbrev μ-loop : tie.MeasureT-loop
-μ-loop old new m n most k₀ k = ?
+μ-loop old new m n most k₀ k = most - k
 
--- src/lib.rt:191:9
 count-requires : tie.Need-count-requires Inv-loop μ-loop
-count-requires c κs = ?
+count-requires c κs = search needs
 
--- src/lib.rt:192:9
 count-requires-2 : tie.Need-count-requires-2 Inv-loop μ-loop
-count-requires-2 c κs = ?
+count-requires-2 c κs = search needs
 
--- src/lib.rt:193:9
 fewer-requires : tie.Need-fewer-requires Inv-loop μ-loop
-fewer-requires c κs = ?
+fewer-requires c κs = search needs
 
--- src/lib.rt:195:5
 loop-holds : tie.Need-loop-holds Inv-loop μ-loop
-loop-holds c = ?
+loop-holds c = (omega arith, rw (sub-zero, c .fewer .ensures, c .before .before .count .ensures, c .before .count2 .ensures) refl)
 
--- src/lib.rt:196:35
 add-same-record : tie.Need-add-same-record Inv-loop μ-loop
-add-same-record c = ?
+add-same-record c = omega arith
 
--- src/lib.rt:196:30
 sub-same-record : tie.Need-sub-same-record Inv-loop μ-loop
-sub-same-record c = ?
+sub-same-record c = omega arith
 
--- src/lib.rt:196:53
 add-same-record-2 : tie.Need-add-same-record-2 Inv-loop μ-loop
-add-same-record-2 c = ?
+add-same-record-2 c = omega arith
 
--- src/lib.rt:196:48
 sub-same-record-2 : tie.Need-sub-same-record-2 Inv-loop μ-loop
-sub-same-record-2 c = ?
+sub-same-record-2 c = omega arith
 
--- src/lib.rt:196:13
 same-record-requires : tie.Need-same-record-requires Inv-loop μ-loop
-same-record-requires c κs = ?
+same-record-requires c κs = search needs
 
--- src/lib.rt:197:13
 returns : tie.Need-returns Inv-loop μ-loop
-returns c = ?
+returns c =
+    let at = c .before .before .before in
+    let back = back-record _ _ _ _ (at .loop .k) (at .before .before .before .count .ensures) (at .before .before .count2 .ensures) in
+    sym (at .loop .inv .1 ∙ passing-stop _ _ (at .loop .k) (omega arith) (ap not (sym (c .before .same-record .ensures ∙ back)) ∙ c .if1 .taken))
 
--- src/lib.rt:199:9
 add-k : tie.Need-add-k Inv-loop μ-loop
-add-k c = ?
+add-k c = omega arith
 
--- src/lib.rt:195:5
 loop-less : tie.Need-loop-less Inv-loop μ-loop
-loop-less c = ?
+loop-less c = omega arith
 
--- src/lib.rt:195:5
 loop-again : tie.Need-loop-again Inv-loop μ-loop
-loop-again c = ?
+loop-again c =
+    let at = c .before .before .before in (
+      omega arith,
+      let back = back-record _ _ _ _ (at .loop .k) (at .before .before .before .count .ensures) (at .before .before .count2 .ensures) in
+          at .loop .inv .1 ∙ passing-on _ _ (at .loop .k) (omega arith) (ap not (sym (c .before .same-record .ensures ∙ back)) ∙ c .if1 .left),
+    )
 
--- src/lib.rt:188:1
 returns-2 : tie.Need-returns-2 Inv-loop μ-loop
-returns-2 c = ?
+returns-2 c = sym (c .before .loop .inv .1 ∙ passing-end _ _ (c .before .loop .k) (omega arith) ∙ omega arith)
 
 pub same-end-spec : {M : Type 1} → statement M
 same-end-spec =
