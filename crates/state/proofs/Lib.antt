@@ -11,6 +11,8 @@ pub mod ButReleases
 pub mod Beside
 -- no sample depends on the number of records acted
 pub mod ButActed
+-- from a position on, the records from there on decide: why a re-render may stop early
+pub mod Tail
 -- the LFO changes nothing but the factor
 pub mod ButLfo
 -- that number is the number of records below the position
