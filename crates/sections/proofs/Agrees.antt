@@ -4,34 +4,21 @@
 use mathlib.Core.Path.{_≡_, refl, ap, _∙_}
 use mathlib.Core.Bool.{Bool, true, _&&_}
 use mathlib.Core.List.{List}
-use Prim.Native.Nat.{ℕ, suc, _+_, _-_, _*_, min, _≤_, _<_}
+use Prim.Native.Nat.{ℕ, suc, _+_, _-_, _*_, min, _≤_}
 use native.Mathlib.Omega.{arith}
 use lib.Dec.{leb}
 use Rattle.runs.proofs.Listed.{listed-same}
-use Rattle.runs.proofs.First.{first-passing, first-same}
+use Rattle.runs.proofs.First.{first-same}
 use Rattle.score.specs.Below.{Sorted, Cut}
 use Rattle.state.specs.declared.Settings.{Settings}
 use Rattle.state.specs.declared.State.{State}
 use Rattle.state.specs.Heart.{stateFrom, samplesFrom, entriesFrom}
-use Rattle.shelf.specs.Shelf.{sectionSize, entryWords, entriesFor, shelfOf, entryAt, meets}
-use Rattle.spans.specs.declared.Place.{Place}
+use Rattle.shelf.specs.Shelf.{sectionSize, entriesFor, shelfOf, entryAt, meets}
 use Rattle.spans.specs.Walk.{placeOf}
 use Rattle.spans.proofs.Agrees.{kept, samples-agree}
 use Rattle.sections.specs.Outcome.{Buffers, samplesIn, roomIn, Outcome}
 use Rattle.sections.specs.declared.End.{End}
 use Rattle.sections.specs.Sections.{madeBetween, stopWhere, mayStop, stopFor, keptFrom, playOnOf}
-
--- ---- a stop, by any test, lies after section m and not past the end
-pub record Stop (m n stop : ℕ) : Type 0 where
-  pub after : m * sectionSize ≤ stop
-  pub within : stop ≤ n
-  pub later : m < entriesFor stop
-  pub whole : stop < n → stop ≡ entriesFor stop * sectionSize
-
-pub stop-is : (passes : ℕ → Bool) (m n : ℕ) → m < entriesFor n → Stop m n (stopWhere passes m n)
-stop-is passes m n h =
-    let f = first-passing passes (entriesFor n - suc m) (suc m) in
-    record { after = omega (arith, f .low, h); within = omega arith; later = omega (arith, f .low, h); whole = λ l. omega (arith, f .low, h) }
 
 module _ (g : Settings) (s : List ℕ) (o : Sorted s) (m i : ℕ) (v : State) (c : Cut s (m * sectionSize) i) where
   entries-agree : (k : ℕ) → keptFrom g s m (placeOf v i) k ≡ shelfOf (entriesFrom g s m v k)

@@ -5,6 +5,8 @@ pub mod Room
 pub mod Between
 -- the summary: what it depends on, and that it stays right
 pub mod Summed
+-- what is made from a section up to a stop
+pub mod Made
 -- a turn of the loop over the sections
 pub mod Turns
 -- for an accepted score the sections are what the definitions of `state` make

@@ -5,6 +5,7 @@ use Prim.Native.Nat.{ℕ}
 use lib.Ieee.{Float}
 use Rattle.state.specs.declared.Settings.{Settings}
 use Rattle.spans.specs.declared.Place.{Place}
+use Rattle.sections.specs.declared.End.{End}
 use Rattle.sections.specs.Outcome.{Buffers, lends, Outcome, leaves}
 use Rattle.sections.specs.Sections.{playOnOf}
 
@@ -15,6 +16,6 @@ same-left o r t ys zs ws vs ms ns is js x y =
     let e = x ∙ sym y in
     (ap (λ o. o .result) e, ap (λ o. o .left .heard) e, ap (λ o. o .left .stored) e, ap (λ o. o .left .summary .magnitudes) e, ap (λ o. o .left .summary .numbers) e)
 
-pub play-on-unique : (g : Settings) (s : List ℕ) (m : ℕ) (p : Place) (b : Buffers) (r t : Place) (ys zs : List Float) (ws vs : List ℕ) (ms ns : List Float) (is js : List ℕ)
-    → leaves r (lends ys ws ms is) ≡ playOnOf g s m p b → leaves t (lends zs vs ns js) ≡ playOnOf g s m p b → (r ≡ t) × (ys ≡ zs) × (ws ≡ vs) × (ms ≡ ns) × (is ≡ js)
-play-on-unique g s m p b r t ys zs ws vs ms ns is js x y = same-left (playOnOf g s m p b) r t ys zs ws vs ms ns is js x y
+pub play-on-unique : (g : Settings) (s : List ℕ) (m : ℕ) (p : Place) (quiet : ℕ) (b : Buffers) (r t : End) (ys zs : List Float) (ws vs : List ℕ) (ms ns : List Float) (is js : List ℕ)
+    → leaves r (lends ys ws ms is) ≡ playOnOf g s m p quiet b → leaves t (lends zs vs ns js) ≡ playOnOf g s m p quiet b → (r ≡ t) × (ys ≡ zs) × (ws ≡ vs) × (ms ≡ ns) × (is ≡ js)
+play-on-unique g s m p quiet b r t ys zs ws vs ms ns is js x y = same-left (playOnOf g s m p quiet b) r t ys zs ws vs ms ns is js x y
