@@ -6,6 +6,7 @@ use mathlib.Core.List.{List, [], _∷_, _++_, map}
 use Prim.Native.Nat.{ℕ, _+_, _*_}
 use lib.ListN.{set, take}
 use lib.Ieee.{binary64, lt, eq, le, ofBits, toBits}
+use Rattle.words.specs.Words.{same}
 use Rattle.floats.specs.Double.{zero64, half, one}
 use Rattle.domain.specs.Domain.{highestPitch}
 use Rattle.envelope.specs.Limits.{eleven, isEnvelope}
@@ -16,7 +17,7 @@ use Rattle.waveform.specs.Waveform.{radians}
 use Rattle.state.specs.declared.State.{State}
 use Rattle.state.specs.State.{freshOf, concert}
 use Rattle.state.specs.Limits.{inLimits, isState}
-use Rattle.shelf.specs.Shelf.{packedWord, fourPairs, entryOf, stateOf, isEntry}
+use Rattle.shelf.specs.Shelf.{packedWord, fourPairs, entryOf, stateOf, isEntry, withCount, meets}
 
 -- the fresh state
 abbrev rest : List ℕ
@@ -114,3 +115,41 @@ at-limits = refl
 pub past-limits : map isEntry (set filled 0 0x408f_4000_0000_0000 ∷ set filled 2 0x3ff0_0000_0000_0001 ∷ set filled 3 0x4026_0000_0000_0001 ∷ set filled 4 0x3ff0_0000_0000_0001 ∷ set filled 6 0x40c8_8000_0000_0001 ∷ set filled 7 0x3ff0_0000_0000_0001 ∷ set filled 12 0x408f_4000_0000_0000 ∷ []) ≡ false ∷ false ∷ false ∷ false ∷ false ∷ false ∷ false ∷ []
 unfolding isEntry stateOf isState inLimits isEnvelope isKeys atMost ofBits lt eq le
 past-limits = refl
+
+-- ---- the number of records acted
+-- words of ones are no entry, and get the number 2 all the same: bits 0 to 15 of word 5 stay
+abbrev ones : ℕ
+ones = 0xffff_ffff_ffff_ffff
+
+pub renewed : withCount (ones ∷ ones ∷ ones ∷ ones ∷ ones ∷ ones ∷ ones ∷ ones ∷ ones ∷ ones ∷ ones ∷ ones ∷ ones ∷ []) 2 ≡ ones ∷ ones ∷ ones ∷ ones ∷ ones ∷ 0x2_ffff ∷ ones ∷ ones ∷ ones ∷ ones ∷ ones ∷ ones ∷ ones ∷ []
+renewed = refl
+
+-- 4,096 in place of 2; no more than 48 bits; five words stay
+pub renewed-more : withCount played 4096 ∷ withCount played 0x1_0000_0000_0001 ∷ withCount (take 5 played) 7 ∷ [] ≡ set played 5 0x1000_0540 ∷ set played 5 0x1_0540 ∷ take 5 played ∷ []
+renewed-more = refl
+
+-- the state's own words meet it, and so do words with another number
+pub met : map (λ (ws : List ℕ). meets ws playing) (played ∷ set played 5 0x0540 ∷ set played 5 0xffff_ffff_ffff_0540 ∷ []) ≡ true ∷ true ∷ true ∷ []
+unfolding meets same isEntry entryOf packedWord fourPairs stateOf isState inLimits isEnvelope isKeys atMost ofBits toBits lt eq le
+met = refl
+
+-- entries that do not: a release level of -0 in place of 0, a stage time of -0, a velocity held of 91 in place of 90,
+-- another LFO's phase, the entry of the fresh state
+abbrev others : List (List ℕ)
+others = set played 4 0x8000_0000_0000_0000 ∷ set played 3 0x8000_0000_0000_0000 ∷ set played 8 0x5b40_643c ∷ set played 12 0 ∷ rest ∷ []
+
+pub others-taken : map isEntry others ≡ true ∷ true ∷ true ∷ true ∷ true ∷ []
+unfolding isEntry stateOf isState inLimits isEnvelope isKeys atMost ofBits lt eq le
+others-taken = refl
+
+pub not-met : map (λ (ws : List ℕ). meets ws playing) others ≡ false ∷ false ∷ false ∷ false ∷ false ∷ []
+unfolding meets same isEntry entryOf packedWord fourPairs stateOf isState inLimits isEnvelope isKeys atMost ofBits toBits lt eq le
+not-met = refl
+
+-- a state with a frequency of 0 is outside the limits, and its own words do not meet it
+abbrev outside : State
+outside = record { phase = playing .phase; envelope = playing .envelope; frequency = zero64; velocity = playing .velocity; keys = playing .keys; acted = playing .acted; lfo = playing .lfo }
+
+pub not-itself : meets (entryOf outside) outside ≡ false
+unfolding meets same isEntry entryOf packedWord fourPairs stateOf isState inLimits isEnvelope isKeys atMost ofBits toBits lt eq le
+not-itself = refl

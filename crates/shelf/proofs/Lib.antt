@@ -11,6 +11,10 @@ pub mod Parts
 pub mod There
 -- the state of an entry has that entry's words, so no bit is ignored
 pub mod Back
+-- words compared one by one, without the number of records acted
+pub mod Turns
+-- that number renewed, and what words meet a state
+pub mod Counted
 -- the entries of a shelf, joined and found again
 pub mod Whole
 -- the test is 01's sentence, word by word

@@ -54,7 +54,7 @@ stage-low Release = refl
 note-low : (n : ℕ) (g : Bool) → T (isGateRight (Note n) g) → n ≤ 127
 note-low n g t = leb→le n 127 (and-l (leb n 127) g t)
 
-active-low : (a : ActiveNote) (g : Bool) → T (isGateRight a g) → activeByte a < 256
+pub active-low : (a : ActiveNote) (g : Bool) → T (isGateRight a g) → activeByte a < 256
 active-low Silent g t = lit< tt
 active-low (Note n) g t = omega (arith, note-low n g t)
 
@@ -64,7 +64,7 @@ active-back (Note n) g t =
     let l = note-low n g t in
     rw (ne-eqb n 255 (λ e. omega arith)) refl
 
-gate-low : (g : Bool) → gateBit g < 2
+pub gate-low : (g : Bool) → gateBit g < 2
 gate-low false = lit< tt
 gate-low true = lit< tt
 

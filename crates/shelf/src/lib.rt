@@ -1,9 +1,12 @@
 // An entry of the shelf (01, "The shelf"): the state before a section's first sample, as thirteen words, and back.
 // Every state can be written and any words can be read; a test of its own says which words are an entry. The crates
-// above decide when an entry is kept and who starts from it.
+// above decide when an entry is kept, who starts from it and where a re-render stops.
+ghost use mathlib.Core.Bool.{cond};
 ghost use mathlib.Core.Path.{_≡_};
-ghost use Prim.Native.Nat.{_<_, _≤_};
-ghost use Rattle.shelf.specs.Shelf.{entriesFor, wordsFor, stageWord, activeByte, gateBit, packedWord, pairAt, fourPairs, entryOf, storedIn, word, float, stageOf, activeOf, notesOf, velocitiesOf, keysIn, envelopeIn, stateOf, decodedOf};
+ghost use Prim.Native.Nat.{_%_, _<_, _≤_};
+ghost use lib.Dec.{eqb};
+ghost use Rattle.words.specs.Words.{same};
+ghost use Rattle.shelf.specs.Shelf.{entriesFor, wordsFor, stageWord, activeByte, gateBit, packedWord, pairAt, fourPairs, entryOf, storedIn, word, float, stageOf, activeOf, notesOf, velocitiesOf, keysIn, envelopeIn, stateOf, decodedOf, withCount, meets};
 use envelope::Envelope;
 use envelope::EnvelopeStage;
 use state::State;
@@ -16,6 +19,9 @@ pub const ENTRY_WORDS: usize = 13;
 
 // The samples of a section, from one entry to the next.
 pub const SECTION_SIZE: usize = 4096;
+
+// The word that holds the number of records acted, in its bits 16 to 63.
+const COUNT_WORD: usize = 5;
 
 // Whether words are an entry, and the state that they are read as, of use only if they are.
 pub struct Entry {
@@ -85,6 +91,56 @@ pub fn decode(words: &[u64]) -> Entry
     let state = state_of(words);
     let valid = (words.len() == ENTRY_WORDS) & (word(words, 1) <= 4) & state::is_state(state);
     Entry { valid, state }
+}
+
+// Whether words are an entry and, but for the number of records acted, those of the state, bit for bit. Most entries
+// differ in a word, so the limits are asked last.
+pub fn meets(words: &[u64], state: State) -> bool
+    ensures { λ r. ⌜ r ≡ meets (now (words .entry)) state ⌝ }
+{
+    if !same_but_count(words, state) {
+        return false;
+    }
+    decode(words).valid
+}
+
+// Writes the number of records acted into the words of an entry, whatever they are; nothing, if there are fewer than
+// six.
+pub fn recount(words: &mut [u64], count: u64)
+    ensures { λ _. ⌜ now (words .exit) ≡ withCount (now (words .entry)) count ⌝ }
+{
+    if words.len() <= COUNT_WORD {
+        return;
+    }
+    words[COUNT_WORD] = words[COUNT_WORD] % 65536 + 65536 * (count % 0x1_0000_0000_0000);
+}
+
+// Whether words are those of the state but for the number of records acted.
+fn same_but_count(words: &[u64], state: State) -> bool
+    ensures { λ r. ⌜ r ≡ same (withCount (now (words .entry)) 0) (withCount (entryOf state) 0) ⌝ }
+{
+    if words.len() != ENTRY_WORDS {
+        return false;
+    }
+    let entry = encode(state);
+    let mut i = 0;
+    while i < ENTRY_WORDS {
+        if compared(words[i], i) != compared(entry[i], i) {
+            return false;
+        }
+        i += 1;
+    }
+    true
+}
+
+// What is compared of word i: the word, without the number of records acted.
+fn compared(word: u64, i: usize) -> u64
+    ensures { λ r. ⌜ r ≡ cond (eqb i 5) (word % 65536) word ⌝ }
+{
+    if i == COUNT_WORD {
+        return word % 65536;
+    }
+    word
 }
 
 fn stage_word(stage: EnvelopeStage) -> u64
