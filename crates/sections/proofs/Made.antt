@@ -108,11 +108,15 @@ module _ (m stop : ℕ) (xs : List Float) (ws : List ℕ) (b : Buffers) (s : Sto
       refl
 
   -- ---- what lies between
+  -- a section that the stop does not begin is the last, and then all is taken
+  heard-front : take (e * sectionSize) (made .heard) ≡ take stop (made .heard)
+  heard-front =
+      ⊎-elim (λ l. ap (λ (i : ℕ). take i (made .heard)) (sym (s .whole l)))
+      (λ l. take-all (e * sectionSize) (made .heard) (omega (arith, made-samples)) ∙ sym (take-all stop (made .heard) (omega (arith, made-samples)))) (lt-or-ge stop (samplesIn b))
+
   heard-between : drop (m * sectionSize) (take (e * sectionSize) (made .heard)) ≡ xs
   heard-between =
-      ap (drop (m * sectionSize)) (⊎-elim (λ l. rw (← s .whole l) refl)
-      (λ l. take-all (e * sectionSize) (made .heard) (omega (arith, made-samples)) ∙ sym (take-all stop (made .heard) (omega (arith, made-samples)))) (lt-or-ge stop (samplesIn b))
-      ∙ between-front (m * sectionSize) stop (b .heard) xs in-heard heard-long)
+      ap (drop (m * sectionSize)) (heard-front ∙ between-front (m * sectionSize) stop (b .heard) xs in-heard heard-long)
       ∙ drop-at (take (m * sectionSize) (b .heard)) xs (m * sectionSize) (length-take-le (m * sectionSize) (b .heard) in-heard)
 
   between-is : {A : Type 0} (a c : ℕ) (came new : List A) → a ≤ length came → a + length new ≡ c → drop a (take c (between a c came new)) ≡ new

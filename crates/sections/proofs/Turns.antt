@@ -4,7 +4,7 @@ use mathlib.Core.Bool.{Bool, true, false, _&&_}
 use mathlib.Core.List.{List, [], _++_, append-assoc, append-nil}
 use mathlib.Core.Logic.{⊎-elim}
 use Prim.Native.Nat.{ℕ, suc, _+_, _-_, _*_, min, _<_, _≤_}
-use native.Mathlib.Nat.{sub-self, eq-or-lt-of-le}
+use native.Mathlib.Nat.{sub-self}
 use native.Mathlib.Omega.{arith}
 use lib.Dec.{ltb, leb}
 use lib.ListN.{length, take, drop, set, length-set, drop-of-length-le}
@@ -117,6 +117,9 @@ module _ (g : Settings) (s : List ℕ) (m : ℕ) (p : Place) (quiet : ℕ) (b : 
       -- so a number of a sample fits a word
       pub few : length out ≤ mostSamples
       few = omega (arith, room-is .short, w .len)
+
+      pub few-sections : k ≤ mostSamples
+      few-sections = omega (arith, begins, few)
 
       -- the words of the entry lie within the shelf, and section k within the summary
       pub room : k * entryWords + entryWords ≤ length shelf
@@ -250,7 +253,7 @@ module _ (g : Settings) (s : List ℕ) (m : ℕ) (p : Place) (quiet : ℕ) (b : 
         pub turn-firsts : numbers′ ≡ between m (k + 1) (b .summary .numbers) (saidFrom firstNumber out′ m (k + 1 - m))
         turn-firsts =
             said-turn firstNumber out out′ m k (b .summary .numbers) numbers (sample + q .offset) (w .past) (omega (arith, room-numbers, w .len-numbers)) (omega (arith, begins)) (omega (arith, begins, long)) front-stays
-            (w .firsts) (rw begins (ap (λ (p : Peak). k * sectionSize + p .offset) turn-peak))
+            (w .firsts) (ap (λ (i : ℕ). i + q .offset) begins ∙ ap (λ (p : Peak). k * sectionSize + p .offset) turn-peak)
 
         pub walk-on : Walked g s m p quiet b out′ shelf′ magnitudes′ numbers′ r (k + 1) e
         walk-on =
@@ -272,7 +275,7 @@ module _ (g : Settings) (s : List ℕ) (m : ℕ) (p : Place) (quiet : ℕ) (b : 
               stored = turn-stored;
               largests = turn-largests;
               firsts = turn-firsts;
-              went-on = λ j l u. ⊎-elim (λ i. rw i (sym (test-is (omega arith)) ∙ t)) (λ i. w .went-on j l (omega arith)) (eq-or-lt-of-le (let v : suc j ≤ suc k = omega arith in v));
+              went-on = λ j l u. ⊎-elim (λ i. w .went-on j l i) (λ i. (let v : j ≡ k = omega arith in rw v (sym (test-is (omega arith)) ∙ t))) (lt-or-ge j k);
             }
 
 -- ---- the cases of the call

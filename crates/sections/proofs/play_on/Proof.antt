@@ -10,7 +10,7 @@ sizes-fit-requires : tie.Need-sizes-fit-requires
 sizes-fit-requires c κs = search needs
 
 returns : tie.Need-returns
-returns c = unfit _ _ _ _ _ (sym (c .before .sizes-fit .ensures) ∙ not-true _ (c .if1 .taken))
+returns c = unfit _ _ _ _ _ _ (sym (c .before .sizes-fit .ensures) ∙ not-true _ (c .if1 .taken))
 
 entries-requires : tie.Need-entries-requires
 entries-requires c κs = search needs
@@ -18,7 +18,7 @@ entries-requires c κs = search needs
 returns-2 : tie.Need-returns-2
 returns-2 c =
     let tested = c .before .before in
-    past-the-end _ _ _ _ _ (sym (tested .before .sizes-fit .ensures) ∙ not-false _ (tested .if1 .left)) (rw (c .before .entries .ensures) at (c .if2 .taken))
+    past-the-end _ _ _ _ _ _ (sym (tested .before .sizes-fit .ensures) ∙ not-false _ (tested .if1 .left)) (rw (c .before .entries .ensures) at (c .if2 .taken))
 
 play-sections-requires : tie.Need-play-sections-requires
 play-sections-requires c κs =
@@ -43,7 +43,7 @@ returns-3 c =
     let made = c .before .before .before .before .before .before .before .before in
     let there = made .before .before .before .before .before in
     let tested = there .before .before in
-    made .play-sections .ensures ∙ fit _ _ _ _ _ (sym (tested .before .sizes-fit .ensures) ∙ not-false _ (tested .if1 .left))
+    made .play-sections .ensures ∙ fit _ _ _ _ _ _ (sym (tested .before .sizes-fit .ensures) ∙ not-false _ (tested .if1 .left))
 
 pub play-on-spec : {M : Type 1} → statement M
 play-on-spec =
