@@ -10,13 +10,14 @@ use lib.ListN.{replicate, length-append, length-replicate}
 use lib.Seq.{take-all}
 use lib.Ieee.{binary64}
 use lib.Ieee.Bits.{ofBits-fits}
+use Rattle.runs.specs.Runs.{firstPassing}
 use Rattle.floats.specs.Double.{half}
 use Rattle.answers.specs.declared.Answer.the-variants.{Done}
 use Rattle.score.specs.declared.Difference.the-variants.{At}
 use Rattle.score.specs.declared.Verdict.the-variants.{Accepted}
 use Rattle.score.specs.Record.{positionAt}
 use Rattle.score.specs.Score.{markRight, kindRight, fieldsRight, inOrder, faultsAt, faultsFrom, faultsOf, verdictOf}
-use Rattle.score.specs.Apart.{sameTo, firstFrom, differenceOf}
+use Rattle.score.specs.Apart.{sameTo, differenceOf}
 use Rattle.shelf.specs.Shelf.{entryWords, entryOf}
 use Rattle.shelf.proofs.There.{entry-length}
 use Rattle.demands.specs.Demand3.{Taken, Edit, BuffersOf}
@@ -38,7 +39,7 @@ unfolding positionAt markRight kindRight fieldsRight inOrder faultsAt faultsFrom
 edited-accepted = refl
 
 differs : differenceOf begins edited ≡ At 5000
-unfolding positionAt sameTo firstFrom
+unfolding positionAt sameTo firstPassing
 differs = refl
 
 an-edit : Edit trembling begins edited
@@ -90,7 +91,7 @@ some : (n : ℕ) → 6000 ≡ n → BuffersOf n
 some n e = record { buffers = rubbish; lent = lent; long = long ∙ e }
 
 back-again : differenceOf edited begins ≡ At 5000
-unfolding positionAt sameTo firstFrom
+unfolding positionAt sameTo firstPassing
 back-again = refl
 
 heard-from : (p q : ℕ) → At p ≡ At q → p ≡ 5000 → 1 * 4096 ≤ q

@@ -64,7 +64,7 @@ module _ (s t : List ℕ) (x : Taken s) (y : Taken t) (p : ℕ) (found : differe
       let bytes : (j : ℕ) → j < 10 → byteAt s d j ≡ byteAt t d j =
       λ j h. sym (getD-take (cs * 10) s (d * 10 + j) 0 (omega arith)) ∙ ap (λ (l : List ℕ). getD l (d * 10 + j) 0) same ∙ getD-take (ct * 10) t (d * 10 + j) 0 (omega arith) in
       let first : First s t d = first-index s t in
-      let z : true ≡ false = sym (bytes-same s t d 10 bytes) ∙ first .differs (omega arith) (omega arith) in
+      let z : true ≡ false = sym (bytes-same s d t d 10 bytes) ∙ first .differs (omega arith) (omega arith) in
       clash (cc)
 
   pub first-change : FirstChange s t p

@@ -35,7 +35,9 @@ returns : tie.Need-returns Inv-loop μ-loop
 unfolding positionAt
 returns c =
     let at = c .before .before .before in
-    sym (at .loop .inv ∙ passing-stop _ _ (at .loop .next) (omega arith) (ap (leb _) (sym (c .before .word-at .ensures)) ∙ le-leb _ _ (c .if1 .taken)))
+    let a = at .before .before .before .args in
+    let read : c .before .word-at .result ≡ positionAt (a .score .now) (at .loop .next) = c .before .word-at .ensures in
+    sym (at .loop .inv ∙ passing-stop _ _ (at .loop .next) (omega arith) (ap (leb (a .p)) (sym read) ∙ le-leb _ _ (c .if1 .taken)))
 
 add-next : tie.Need-add-next Inv-loop μ-loop
 add-next c = omega arith
@@ -47,7 +49,9 @@ loop-again : tie.Need-loop-again Inv-loop μ-loop
 unfolding positionAt
 loop-again c =
     let at = c .before .before .before in
-    at .loop .inv ∙ passing-on _ _ (at .loop .next) (omega arith) (ap (leb _) (sym (c .before .word-at .ensures)) ∙ lt-leb _ _ (c .if1 .left))
+    let a = at .before .before .before .args in
+    let read : c .before .word-at .result ≡ positionAt (a .score .now) (at .loop .next) = c .before .word-at .ensures in
+    at .loop .inv ∙ passing-on _ _ (at .loop .next) (omega arith) (ap (leb (a .p)) (sym read) ∙ lt-leb _ _ (c .if1 .left))
 
 returns-2 : tie.Need-returns-2 Inv-loop μ-loop
 returns-2 c = sym (c .before .loop .inv ∙ passing-end _ _ (c .before .loop .next) (omega arith))
