@@ -11,6 +11,7 @@ use lib.Dec.{T}
 use lib.ListN.{length}
 use lib.Ieee.{Float, binary64, fits}
 use borrow.Author.Tests.{le-leb}
+use Rattle.runs.specs.Runs.{firstPassing}
 use Rattle.answers.specs.declared.Answer.the-variants.{Done}
 use Rattle.sections.specs.Outcome.{Buffers, samplesIn, Outcome}
 use Rattle.score.specs.declared.Record.{Record}
@@ -19,7 +20,7 @@ use Rattle.score.specs.declared.Difference.the-variants.{At}
 use Rattle.score.specs.declared.Verdict.the-variants.{Accepted}
 use Rattle.score.specs.Record.{countOf, positionAt, recordAt}
 use Rattle.score.specs.Score.{markRight, kindRight, fieldsRight, inOrder, faultsAt, faultsFrom, faultsOf, verdictOf}
-use Rattle.score.specs.Apart.{sameTo, firstFrom, differenceOf}
+use Rattle.score.specs.Apart.{sameTo, differenceOf}
 use Rattle.score.proofs.Verdicts.{accepted-faults}
 use Rattle.shelf.specs.Shelf.{entriesFor}
 use Rattle.voice.specs.declared.VoiceState.{VoiceState}
@@ -115,7 +116,7 @@ unfolding positionAt markRight kindRight fieldsRight inOrder faultsAt faultsFrom
 hushed-accepted = refl
 
 pub hushed-differs : differenceOf edited hushed ≡ At 5000
-unfolding positionAt sameTo firstFrom
+unfolding positionAt sameTo firstPassing
 hushed-differs = refl
 
 hushed-each : (i : ℕ) → i < 2 → (recordAt edited i ≡ recordAt hushed i) ⊎ SameRelease (recordAt edited i) (recordAt hushed i)
