@@ -115,17 +115,17 @@ pub fn recount(words: &mut [u64], count: u64)
     words[COUNT_WORD] = words[COUNT_WORD] % 65536 + 65536 * (count % 0x1_0000_0000_0000);
 }
 
-// Whether words are those of the state but for the number of records acted.
-fn same_but_count(words: &[u64], state: State) -> bool
-    ensures { λ r. ⌜ r ≡ same (withCount (now (words .entry)) 0) (withCount (entryOf state) 0) ⌝ }
+// Whether stored words are those of the state but for the number of records acted.
+fn same_but_count(stored: &[u64], state: State) -> bool
+    ensures { λ r. ⌜ r ≡ same (withCount (now (stored .entry)) 0) (withCount (entryOf state) 0) ⌝ }
 {
-    if words.len() != ENTRY_WORDS {
+    if stored.len() != ENTRY_WORDS {
         return false;
     }
     let entry = encode(state);
     let mut i = 0;
     while i < ENTRY_WORDS {
-        if compared(words[i], i) != compared(entry[i], i) {
+        if compared(stored[i], i) != compared(entry[i], i) {
             return false;
         }
         i += 1;

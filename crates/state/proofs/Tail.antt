@@ -1,5 +1,5 @@
--- What is made from a position on depends on the records from there on alone, and not on how many have acted before: two
--- scores that have the same records from position q on lead from two states that are the same but for the number of
+-- What is made from a position on depends on the records from there on alone, and not on how many have acted before:
+-- two scores that have the same records from position q on lead from two states that are the same but for the number of
 -- records acted to the same samples, and to states that are the same but for that number. So a re-render may stop where
 -- the state meets the stored one and the records that are left are the same (02, R-12). Assumes nothing.
 use mathlib.Core.Path.{_≡_, refl, sym, ap, _∙_}

@@ -13,15 +13,15 @@ use Rattle.shelf.proofs.same_but_count.Statement.{statement}
 use Rattle.shelf.proofs.same_but_count.Tie as tie
 
 abbrev Inv-loop : tie.InvT-loop
-Inv-loop words entry i₀ i = (length words ≡ entryWords) × (length entry ≡ entryWords) × (i ≤ entryWords) × (take i (withCount words 0) ≡ take i (withCount entry 0))
+Inv-loop stored entry i₀ i = (length stored ≡ entryWords) × (length entry ≡ entryWords) × (i ≤ entryWords) × (take i (withCount stored 0) ≡ take i (withCount entry 0))
 
 abbrev μ-loop : tie.MeasureT-loop
-μ-loop words entry i₀ i = entryWords - i
+μ-loop stored entry i₀ i = entryWords - i
 
 returns : tie.Need-returns Inv-loop μ-loop
 returns c =
     let given = c .before .before .args in
-    sym (other-length (given .words .now) (entryOf (given .state)) (λ e. c .if1 .taken (e ∙ entry-length (given .state))))
+    sym (other-length (given .stored .now) (entryOf (given .state)) (λ e. c .if1 .taken (e ∙ entry-length (given .state))))
 
 encode-requires : tie.Need-encode-requires Inv-loop μ-loop
 encode-requires c κs = search needs
@@ -55,7 +55,7 @@ returns-2 c =
     let made = at .before in
     let given = made .before .before .before .args in
     rw (sym (made .encode .ensures))
-    (sym (other-word (given .words .now) (made .encode .result) (at .loop .i) (omega arith) (omega arith) (λ e. c .if2 .taken (first .compared .ensures ∙ e ∙ sym (second .compared2 .ensures)))))
+    (sym (other-word (given .stored .now) (made .encode .result) (at .loop .i) (omega arith) (omega arith) (λ e. c .if2 .taken (first .compared .ensures ∙ e ∙ sym (second .compared2 .ensures)))))
 
 add-i : tie.Need-add-i Inv-loop μ-loop
 add-i c = omega arith
@@ -71,14 +71,14 @@ loop-again c =
     let made = at .before in
     let given = made .before .before .before .args in
     let e = sym (first .compared .ensures) ∙ c .if2 .left ∙ second .compared2 .ensures in
-    (at .loop .inv .0, at .loop .inv .1, omega arith, rw (add-one (at .loop .i)) (same-on (given .words .now) (made .encode .result) (at .loop .i) (omega arith) (omega arith) (at .loop .inv .3) e))
+    (at .loop .inv .0, at .loop .inv .1, omega arith, rw (add-one (at .loop .i)) (same-on (given .stored .now) (made .encode .result) (at .loop .i) (omega arith) (omega arith) (at .loop .inv .3) e))
 
 returns-3 : tie.Need-returns-3 Inv-loop μ-loop
 returns-3 c =
     let at = c .before in
     let made = at .before in
     let given = made .before .before .before .args in
-    rw (sym (made .encode .ensures)) (sym (same-all (given .words .now) (made .encode .result) (at .loop .i) (omega arith) (omega arith) (at .loop .inv .3)))
+    rw (sym (made .encode .ensures)) (sym (same-all (given .stored .now) (made .encode .result) (at .loop .i) (omega arith) (omega arith) (at .loop .inv .3)))
 
 pub same-but-count-spec : {M : Type 1} → statement M
 same-but-count-spec =
