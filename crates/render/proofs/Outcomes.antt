@@ -2,13 +2,17 @@
 use mathlib.Core.Path.{_≡_, refl, sym, ap, _∙_}
 use mathlib.Core.Bool.{Bool, true, false, _&&_}
 use mathlib.Core.List.{List, []}
-use Prim.Native.Nat.{ℕ, _-_}
+use mathlib.Core.Logic.{⊎-elim}
+use Prim.Native.Nat.{ℕ, _+_, _-_, _≤_}
 use native.Mathlib.Nat.{sub-zero}
 use native.Mathlib.Omega.{arith}
+use lib.Dec.{leb}
 use lib.ListN.{length}
 use lib.Ieee.{Float}
 use Rattle.sections.specs.Outcome.{Buffers, samplesIn, roomIn, Outcome, leaves}
-use Rattle.sections.specs.Summary.{summaryFrom, summaryOf}
+use borrow.Author.Tests.{leb-true}
+use Rattle.runs.specs.Runs.{firstPassing}
+use Rattle.runs.proofs.First.{first-passing}
 use Rattle.answers.specs.Order.{unless, firstOf}
 use Rattle.answers.specs.declared.Answer.the-variants.{Done, Refused}
 use Rattle.answers.specs.declared.Refusal.{Refusal}
@@ -16,7 +20,7 @@ use Rattle.answers.specs.declared.Refusal.the-variants.{GivenState}
 use Rattle.answers.proofs.Order.{first-append, leads-first, done-none, refused-leads, Decided, decided}
 use Rattle.score.specs.Below.{isCountBelow, Sorted, Cut}
 use Rattle.score.proofs.Codec.{both}
-use Rattle.score.proofs.Cuts.{parts-cut, parts-count}
+use Rattle.score.proofs.Cuts.{lt-or-ge, parts-cut, parts-count}
 use Rattle.state.specs.declared.Settings.{Settings}
 use Rattle.state.specs.declared.State.{State}
 use Rattle.state.specs.State.{freshOf}
@@ -27,8 +31,10 @@ use Rattle.state.proofs.RunsOn.{samples-length}
 use Rattle.spans.specs.declared.Place.{Place}
 use Rattle.spans.specs.Walk.{placeOf, Played}
 use Rattle.spans.proofs.Agrees.{kept, samples-agree}
-use Rattle.sections.specs.Sections.{playOnOf}
-use Rattle.sections.proofs.Room.{same-buffers}
+use Rattle.sections.specs.declared.End.{End}
+use Rattle.sections.specs.Sections.{madeBetween, stopWhere, playOnOf}
+use Rattle.sections.proofs.Room.{in-room}
+use Rattle.sections.proofs.Made.{made-whole}
 use Rattle.sections.proofs.Agrees.{made}
 use Rattle.judging.specs.Judging.{refusalsOf, partFits}
 use Rattle.judging.proofs.Refusals.{all-passed, passed-sorted}
@@ -55,19 +61,31 @@ module _ (g : Settings) (s : List ℕ) (b : Buffers) where
   at-zero : Cut s 0 0
   at-zero = record { inside = omega arith; lows = λ i l. omega arith; highs = λ i a b. omega arith }
 
-  pub render-done : (m : ℕ) → firstOf refusals Refused (Done n) ≡ Done m → (p : Place) (c : Buffers) → leaves p c ≡ playOnOf g s 0 (placeOf (freshOf 0) 0) b → leaves (says (Done m) (p .state)) c ≡ renderOf g s b
+  -- no section has the number n, so the stop is the end
+  never-stops : (passes : ℕ → Bool) → stopWhere (λ (k : ℕ). leb n k && passes k) 0 n ≡ n
+  never-stops passes =
+      let f = first-passing (λ (k : ℕ). leb n k && passes k) (entriesFor n - 1) 1 in
+      ⊎-elim
+      (λ l. absurd (let t : n ≤ firstPassing (λ (k : ℕ). leb n k && passes k) (entriesFor n - 1) 1 = leb-true _ _ (both (leb n _) (passes _) (f .here l) .0) in omega (arith, t, l)))
+      (λ l. omega (arith, l))
+      (lt-or-ge (firstPassing (λ (k : ℕ). leb n k && passes k) (entriesFor n - 1) 1) (1 + (entriesFor n - 1)))
+
+  pub render-done : (m : ℕ) → firstOf refusals Refused (Done n) ≡ Done m → (r : End) (c : Buffers) → leaves r c ≡ playOnOf g s 0 (placeOf (freshOf 0) 0) m b → leaves (says (Done m) (r .place .state)) c ≡ renderOf g s b
   unfolding renderOf
-  render-done m e p c x =
+  render-done m e r c x =
       let none : refusals ≡ [] = done-none refusals n m e in
-      let k : Done n ≡ Done m = rw none at e in
-      let d = made g s (passed-sorted g (roomIn b) s none) 0 0 (freshOf 0) at-zero b (all-passed g (roomIn b) s none .sized) in
-      let v : p .state ≡ stateFrom g s 0 (freshOf 0) n = ap (λ (o : Outcome Place). o .result .state) x ∙ d .state-is ∙ ap (stateFrom g s 0 (freshOf 0)) (sub-zero n) in
-      let y : c .heard ≡ samplesFrom g s 0 (freshOf 0) n = ap (λ (o : Outcome Place). o .left .heard) x ∙ d .heard-is ∙ ap (samplesFrom g s 0 (freshOf 0)) (sub-zero n) in
-      let w : c .stored ≡ shelfOf (entriesFrom g s 0 (freshOf 0) (entriesFor n)) = ap (λ (o : Outcome Place). o .left .stored) x ∙ d .stored-is ∙ ap (λ (l : ℕ). shelfOf (entriesFrom g s 0 (freshOf 0) l)) (sub-zero (entriesFor n)) in
-      let u : c .summary ≡ summaryOf (c .heard) =
-      ap (λ (o : Outcome Place). o .left .summary) x ∙ d .summary-is ∙ ap (λ (o : Outcome Place). summaryFrom (o .left .heard) 0 (entriesFor n - 0)) (sym x)
-      ∙ ap (λ (l : ℕ). summaryFrom (c .heard) 0 l) (sub-zero (entriesFor n) ∙ ap entriesFor (sym (ap length y ∙ samples-length g s 0 (freshOf 0) n))) in
-      rw (none, ← k, v) (ap (leaves (says (Done n) (stateFrom g s 0 (freshOf 0) n))) (same-buffers c (madeOf g s n .left) y w (u ∙ ap summaryOf y)))
+      let k : n ≡ m = (let q : Done n ≡ Done m = rw none at e in cc) in
+      let d = rw (← x) at (made g s (passed-sorted g (roomIn b) s none) 0 0 (freshOf 0) at-zero m b (all-passed g (roomIn b) s none .sized)) in
+      let stop : r .sample ≡ n = d .stop-is ∙ rw (← k) (never-stops _) in
+      let samples = samplesFrom g s 0 (freshOf 0) n in
+      let words = shelfOf (entriesFrom g s 0 (freshOf 0) (entriesFor n)) in
+      let left : c ≡ madeBetween 0 n samples words b =
+      d .left-is ∙ ap (λ (e : ℕ). madeBetween 0 e (samplesFrom g s 0 (freshOf 0) (e - 0)) (shelfOf (entriesFrom g s 0 (freshOf 0) (entriesFor e - 0))) b) stop
+      ∙ ap (λ (e : ℕ). madeBetween 0 n (samplesFrom g s 0 (freshOf 0) e) (shelfOf (entriesFrom g s 0 (freshOf 0) (entriesFor n - 0))) b) (sub-zero n)
+      ∙ ap (λ (e : ℕ). madeBetween 0 n samples (shelfOf (entriesFrom g s 0 (freshOf 0) e)) b) (sub-zero (entriesFor n)) in
+      let v : r .place .state ≡ stateFrom g s 0 (freshOf 0) n = rw (stop, sub-zero n) at (d .state-is) in
+      rw (none, ← k, v)
+      (ap (leaves (says (Done n) (stateFrom g s 0 (freshOf 0) n))) (left ∙ made-whole samples words b (in-room b (all-passed g (roomIn b) s none .sized)) (samples-length g s 0 (freshOf 0) n)))
 
 module _ (g : Settings) (s : List ℕ) (v : State) (p : ℕ) (part : List Float) where
   abbrev room : Bool

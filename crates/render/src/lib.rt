@@ -42,16 +42,25 @@ pub fn render(
             state: state::fresh(),
         },
         Answer::Done(n) => {
-            let start = Place {
-                state: state::fresh(),
-                next: 0,
-            };
-            let end = sections::play_on(settings, score, 0, start, out, shelf, magnitudes, numbers);
-            let state = end.state;
-            Rendered {
-                answer: Answer::Done(n),
-                state,
-            }
+            let state = state::fresh();
+            let next = 0;
+            let start = Place { state, next };
+            // No section has the number n: nothing stops a render.
+            let end = sections::play_on(
+                settings,
+                score,
+                0,
+                start,
+                n,
+                out,
+                shelf,
+                magnitudes,
+                numbers,
+            );
+            let after = end.place;
+            let state = after.state;
+            let answer = Answer::Done(n);
+            Rendered { answer, state }
         }
     }
 }

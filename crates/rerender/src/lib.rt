@@ -1,16 +1,18 @@
 // The re-render: after an edit the output goes on from the state that the score gives, not from the state of a part
 // that is playing. The judging, then a plan, which is nothing or the section that holds the first changed position,
-// then the plan's run, from the state that the shelf keeps for the start of that section. 01, "The shelf", demand 3,
-// and 02, R-3. No state is answered: the shelf has the states.
+// then the plan's run, from the state that the shelf keeps for the start of that section to the end, or to the first
+// later section whose entry says that the rest may stay. 01, "The shelf", demand 3, and 02, R-3 and R-12. No state is
+// answered: the shelf has the states.
 ghost use mathlib.Core.Path.{_≡_};
 ghost use mathlib.Core.Bool.{true};
-ghost use Prim.Native.Nat.{_<_};
+ghost use Prim.Native.Nat.{_*_, _≤_, _<_};
 ghost use lib.ListN.{length};
-ghost use Rattle.score.specs.Below.{Sorted};
-ghost use Rattle.shelf.specs.Shelf.{entriesFor};
+ghost use Rattle.score.specs.Below.{Sorted, Cut};
+ghost use Rattle.shelf.specs.Shelf.{sectionSize, entriesFor, wordsFor};
+ghost use Rattle.judging.specs.Judging.{mostSamples};
 ghost use Rattle.sections.specs.Outcome.{lends, roomIn, leaves};
 ghost use Rattle.rerender.specs.Rerender.{planOf, rerenderOf};
-ghost use Rattle.rerender.specs.Inner.{rerenderFrom};
+ghost use Rattle.rerender.specs.Inner.{rerenderFrom, Whole, quietOf, recountedOn};
 use answers::Answer;
 use answers::Refusal;
 use score::Difference;
@@ -26,8 +28,8 @@ pub enum Plan {
     From(usize),
 }
 
-// The samples, the entries and the summary from the start of the section that holds the first changed position, as the
-// new score gives them.
+// The samples, the entries and the summary from the start of the section that holds the first changed position to the
+// stop, as the new score gives them; from the stop on each entry's number of records acted.
 pub fn rerender(
     settings: Settings,
     old: &[u8],
@@ -69,7 +71,7 @@ fn planned(old: &[u8], new: &[u8], samples: usize) -> Plan
     }
 }
 
-// From the state that the shelf keeps for the start of the section, or refusal 8.
+// From the state that the shelf keeps for the start of the section to the stop, or refusal 8.
 fn rerender_from(
     settings: Settings,
     old: &[u8],
@@ -80,14 +82,14 @@ fn rerender_from(
     magnitudes: &mut [f64],
     numbers: &mut [u64],
 ) -> Answer
-    requires { ⌜ Sorted (now new) ⌝ }
+    requires { ⌜ Whole (now old) ⌝ }
+    requires { ⌜ Whole (now new) ⌝ }
     requires { ⌜ roomIn (lends (now out) (now shelf) (now magnitudes) (now numbers)) ≡ true ⌝ }
     requires { ⌜ section < entriesFor (length (now out)) ⌝ }
     ensures { λ r. ⌜ leaves r (lends (now (out .exit)) (now (shelf .exit)) (now (magnitudes .exit)) (now (numbers .exit))) ≡ rerenderFrom settings (now (old .entry)) (now (new .entry)) section (lends (now (out .entry)) (now (shelf .entry)) (now (magnitudes .entry)) (now (numbers .entry))) ⌝ }
 {
     let word = section * ENTRY_WORDS;
     let start = section * SECTION_SIZE;
-    let count = out.len() - start;
     let entry = shelf::decode(&shelf[word..word + ENTRY_WORDS]);
     let state = entry.state;
     let acted = state.acted;
@@ -96,6 +98,48 @@ fn rerender_from(
     }
     let next = acted as usize;
     let at = Place { state, next };
-    sections::play_on(settings, new, section, at, out, shelf, magnitudes, numbers);
-    Answer::Done(count)
+    let quiet = quiet_from(old, new);
+    let end = sections::play_on(
+        settings,
+        new,
+        section,
+        at,
+        quiet,
+        out,
+        shelf,
+        magnitudes,
+        numbers,
+    );
+    let stop = end.sample;
+    let place = end.place;
+    recount(new, shelf::entries(stop), place.next, shelf);
+    Answer::Done(stop - start)
+}
+
+// The first section from whose first sample on both scores have the same records: the one after their last difference.
+fn quiet_from(old: &[u8], new: &[u8]) -> usize
+    ensures { λ r. ⌜ r ≡ quietOf (now (old .entry)) (now (new .entry)) ⌝ }
+{
+    match score::last_difference(old, new) {
+        Difference::Equal => 0,
+        Difference::At(position) => position as usize / SECTION_SIZE + 1,
+    }
+}
+
+// Every entry from a section on gets the number of the score's records below its position; `next` are below the first.
+fn recount(score: &[u8], section: usize, next: usize, shelf: &mut [u64])
+    requires { ⌜ Sorted (now score) ⌝ }
+    requires { ⌜ Cut (now score) (section * sectionSize) next ⌝ }
+    requires { ⌜ length (now shelf) ≤ wordsFor mostSamples ⌝ }
+    ensures { λ _. ⌜ now (shelf .exit) ≡ recountedOn (now (score .entry)) section (now (shelf .entry)) ⌝ }
+{
+    let entries = shelf.len() / ENTRY_WORDS;
+    let mut acted = next;
+    let mut k = section;
+    while k < entries {
+        acted = score::next_not_below(score, acted, (k * SECTION_SIZE) as u64);
+        let word = k * ENTRY_WORDS;
+        shelf::recount(&mut shelf[word..word + ENTRY_WORDS], acted as u64);
+        k += 1;
+    }
 }

@@ -14,9 +14,9 @@ use Rattle.score.proofs.Cuts.{lt-or-ge}
 use Rattle.shelf.specs.Shelf.{sectionSize, entryWords, entriesFor}
 use Rattle.peaks.specs.declared.Peak.{Peak}
 use Rattle.sections.specs.Outcome.{Buffers, lends, samplesIn, Lent, before, onward}
-use Rattle.sections.specs.Summary.{largest, firstNumber, saidFrom}
+use Rattle.sections.specs.Summary.{largest, firstNumber, saidFrom, summaryOf}
 use Rattle.sections.specs.Sections.{between, madeBetween, stopWhere}
-use Rattle.sections.proofs.Between.{between-front, between-after, between-before, between-length}
+use Rattle.sections.proofs.Between.{between-end, between-front, between-after, between-before, between-length}
 use Rattle.sections.proofs.Summed.{said-length}
 
 -- a stop lies after the first sample of section m, at the first of a later section or at the end
@@ -131,3 +131,17 @@ module _ (m stop : ℕ) (xs : List Float) (ws : List ℕ) (b : Buffers) (s : Sto
         between-is m e (b .summary .numbers) (says firstNumber) in-numbers (said-long firstNumber),
       )
       refl
+
+-- all of it: what is made from the first section to the end is all that is left
+pub made-whole : (xs : List Float) (ws : List ℕ) (b : Buffers) → Lent b → length xs ≡ samplesIn b → madeBetween 0 (samplesIn b) xs ws b ≡ record { heard = xs; stored = ws; summary = summaryOf xs }
+made-whole xs ws b z l =
+    let n = samplesIn b in
+    let all : entriesFor n - 0 ≡ entriesFor (length xs) = rw l (omega arith) in
+    rw (
+      between-end 0 n (b .heard) xs (omega arith),
+      between-end 0 (entriesFor n * entryWords) (b .stored) ws (omega (arith, z .fits)),
+      all,
+      between-end 0 (entriesFor n) (b .summary .magnitudes) (saidFrom largest xs 0 (entriesFor (length xs))) (omega (arith, z .magnitudes-fit)),
+      between-end 0 (entriesFor n) (b .summary .numbers) (saidFrom firstNumber xs 0 (entriesFor (length xs))) (omega (arith, z .numbers-fit)),
+    )
+    refl

@@ -46,7 +46,7 @@ same-length-4 c = search needs
 
 returns-2 : tie.Need-returns-2
 returns-2 c =
-    let made = c .before .before .before .before .before .before .before .before .before in
+    let made = c .before .before .before .before .before .before .before .before .before .before in
     let begun = made .before .before .before .before .before in
     let x = begun .before .before .before .before in
     let e = sym (rw (x .before .sizes-fit .ensures) at (x .judged .ensures)) ∙ begun .before .before .answer2 .given .1 in
