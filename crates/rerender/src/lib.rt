@@ -5,14 +5,14 @@
 // answered: the shelf has the states.
 ghost use mathlib.Core.Path.{_≡_};
 ghost use mathlib.Core.Bool.{true};
-ghost use Prim.Native.Nat.{_*_, _≤_, _<_};
+ghost use Prim.Native.Nat.{_+_, _*_, _≤_, _<_};
 ghost use lib.ListN.{length};
-ghost use Rattle.score.specs.Below.{Sorted, Cut};
-ghost use Rattle.shelf.specs.Shelf.{sectionSize, entriesFor, wordsFor};
+ghost use Rattle.score.specs.Below.{Sorted};
+ghost use Rattle.shelf.specs.Shelf.{sectionSize, entryWords, entriesFor, wordsFor};
 ghost use Rattle.judging.specs.Judging.{mostSamples};
 ghost use Rattle.sections.specs.Outcome.{lends, roomIn, leaves};
 ghost use Rattle.rerender.specs.Rerender.{planOf, rerenderOf};
-ghost use Rattle.rerender.specs.Inner.{rerenderFrom, Whole, quietOf, recountedOn};
+ghost use Rattle.rerender.specs.Inner.{rerenderFrom, startedAt, Whole, quietOf, Behind, recountedOn};
 use answers::Answer;
 use answers::Refusal;
 use score::Difference;
@@ -26,6 +26,12 @@ use state::Settings;
 pub enum Plan {
     Nothing,
     From(usize),
+}
+
+// Where a re-render starts: the place, of use only if it is valid.
+struct Start {
+    valid: bool,
+    place: Place,
 }
 
 // The samples, the entries and the summary from the start of the section that holds the first changed position to the
@@ -88,16 +94,11 @@ fn rerender_from(
     requires { ⌜ section < entriesFor (length (now out)) ⌝ }
     ensures { λ r. ⌜ leaves r (lends (now (out .exit)) (now (shelf .exit)) (now (magnitudes .exit)) (now (numbers .exit))) ≡ rerenderFrom settings (now (old .entry)) (now (new .entry)) section (lends (now (out .entry)) (now (shelf .entry)) (now (magnitudes .entry)) (now (numbers .entry))) ⌝ }
 {
-    let word = section * ENTRY_WORDS;
-    let start = section * SECTION_SIZE;
-    let entry = shelf::decode(&shelf[word..word + ENTRY_WORDS]);
-    let state = entry.state;
-    let acted = state.acted;
-    if !(entry.valid & score::is_count_below(new, acted, start as u64)) {
+    let start = start_at(new, section, shelf);
+    let at = start.place;
+    if !start.valid {
         return Answer::Refused(Refusal::StartEntry);
     }
-    let next = acted as usize;
-    let at = Place { state, next };
     let quiet = quiet_from(old, new);
     let end = sections::play_on(
         settings,
@@ -113,7 +114,26 @@ fn rerender_from(
     let stop = end.sample;
     let place = end.place;
     recount(new, shelf::entries(stop), place.next, shelf);
-    Answer::Done(stop - start)
+    let count = stop - section * SECTION_SIZE;
+    Answer::Done(count)
+}
+
+// The place that a section's entry is read as, and whether the re-render may start there.
+fn start_at(new: &[u8], section: usize, shelf: &[u64]) -> Start
+    requires { ⌜ Sorted (now new) ⌝ }
+    requires { ⌜ section * entryWords + entryWords ≤ length (now shelf) ⌝ }
+    requires { ⌜ section ≤ mostSamples ⌝ }
+    ensures { λ r. ⌜ r ≡ startedAt (now (new .entry)) section (now (shelf .entry)) ⌝ }
+{
+    let word = section * ENTRY_WORDS;
+    let entry = shelf::decode(&shelf[word..word + ENTRY_WORDS]);
+    let state = entry.state;
+    let acted = state.acted;
+    let counted = score::is_count_below(new, acted, (section * SECTION_SIZE) as u64);
+    let valid = entry.valid & counted;
+    let next = acted as usize;
+    let place = Place { state, next };
+    Start { valid, place }
 }
 
 // The first section from whose first sample on both scores have the same records: the one after their last difference.
@@ -126,10 +146,10 @@ fn quiet_from(old: &[u8], new: &[u8]) -> usize
     }
 }
 
-// Every entry from a section on gets the number of the score's records below its position; `next` are below the first.
+// Every entry from a section on gets the number of the score's records below its position; `next` are known to be below.
 fn recount(score: &[u8], section: usize, next: usize, shelf: &mut [u64])
     requires { ⌜ Sorted (now score) ⌝ }
-    requires { ⌜ Cut (now score) (section * sectionSize) next ⌝ }
+    requires { ⌜ Behind (now score) next (section * sectionSize) ⌝ }
     requires { ⌜ length (now shelf) ≤ wordsFor mostSamples ⌝ }
     ensures { λ _. ⌜ now (shelf .exit) ≡ recountedOn (now (score .entry)) section (now (shelf .entry)) ⌝ }
 {

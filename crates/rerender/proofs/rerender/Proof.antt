@@ -1,6 +1,6 @@
 -- `rerender::rerender` meets its contract. Assumes nothing.
 use mathlib.Core.Path.{sym, _∙_}
-use Rattle.score.proofs.Cuts.{accepted-sorted}
+use Rattle.score.proofs.Cuts.{accepted-length, accepted-sorted}
 use Rattle.rerender.proofs.Cases.{plan-there, answer-checked, checks-refuse, nothing-run, section-run}
 use borrow.Author.Needs.{needs}
 use Rattle.rerender.proofs.rerender.Statement.{statement}
@@ -41,7 +41,7 @@ rerender-from-requires c κs =
     let told = made .before in
     let x = told .before .before in
     let k = answer-checked _ _ _ _ _ (sym (rw (x .before .judged-new .ensures, x .before .before .sizes-fit .ensures) at (x .judged .ensures)) ∙ told .enum-told .given .1) in
-    (accepted-sorted _ _ (k .new-accepted), (k .fits, plan-there _ _ _ _ (sym (made .planned .ensures) ∙ c .before .before .before .before .before .plan .given .1)))
+    (record { sorted = accepted-sorted _ _ (k .old-accepted); records = accepted-length _ _ (k .old-accepted) }, (record { sorted = accepted-sorted _ _ (k .new-accepted); records = accepted-length _ _ (k .new-accepted) }, (k .fits, plan-there _ _ _ _ (sym (made .planned .ensures) ∙ c .before .before .before .before .before .plan .given .1))))
 
 returns-2 : tie.Need-returns-2
 returns-2 c =
