@@ -132,8 +132,55 @@ uint64_t first_change(const uint8_t *old, size_t old_len, const uint8_t *new_, s
     return p < q ? p : q;
 }
 
+/* "the two scores' records from that position on are the same": all ten bytes of each, past the output's end too. */
+static bool same_from(struct records old, struct records new_, uint64_t position) {
+    size_t i = records_below(old, position), j = records_below(new_, position);
+    if (old.count - i != new_.count - j) return false;
+    for (; i < old.count; i++, j++) {
+        if (memcmp(old.bytes + RECORD * i, new_.bytes + RECORD * j, RECORD) != 0) return false;
+    }
+    return true;
+}
+
+/* "if the state there equals the stored one apart from records acted"; "An entry compared but not a state is simply
+ * unequal." Equal is every bit: -0 is not 0. */
+static bool is_stored(const struct voice *voice, const uint64_t *entry) {
+    uint64_t here[GAV_STATE_WORDS], there[GAV_STATE_WORDS];
+    struct voice stored;
+    if (!voice_read(&stored, entry)) return false;
+    stored.acted = voice->acted;
+    voice_words(voice, here);
+    voice_words(&stored, there);
+    return memcmp(here, there, sizeof here) == 0;
+}
+
+/* "Entries from the stop on get as records-acted number the new score's records below their position": states or not,
+ * and the low 16 bits of the word stay. */
+static void recount(struct records score, uint64_t *shelf, size_t stop, size_t n) {
+    for (size_t at = stop; at < n; at += GAV_SECTION) {
+        uint64_t *keys = shelf + at / GAV_SECTION * GAV_STATE_WORDS + 5;
+        *keys = *keys % 65536 + 65536 * (uint64_t)records_below(score, at);
+    }
+}
+
+/* "The re-render may stop at a later entry", and "stops at the first such entry past the start": plays sections from a
+ * mark on, and gives the mark of that entry, or n where there is none. An entry is compared as it came. */
+static size_t play_to_stop(const struct gav_settings *s, struct records old, struct records new_, struct voice *voice,
+                           size_t from, double *out, size_t n, uint64_t *shelf) {
+    size_t at = from;
+    while (at < n) {
+        size_t length = n - at < GAV_SECTION ? n - at : GAV_SECTION;
+        play(s, new_, voice, at, out + at, length, shelf);
+        at += length;
+        if (at == n) break;
+        if (same_from(old, new_, at) && is_stored(voice, shelf + at / GAV_SECTION * GAV_STATE_WORDS)) break;
+    }
+    return at;
+}
+
 /* "It starts at entry floor(P/4096). Equal scores, or P at or above N, write nothing and count 0." It "touches only
- * sections from its start entry on". */
+ * sections from its start entry on". From the stop on "nothing else" than the counts "is written", and the count "is
+ * the samples from start to stop, or to the end where no entry stops it". */
 uint64_t reference_rerender(const struct gav_settings *s, const uint8_t *old, size_t old_len, const uint8_t *new_,
                             size_t new_len, double *out, size_t n, uint64_t *shelf, size_t words, double *magnitudes,
                             size_t magnitudes_len, uint64_t *numbers, size_t numbers_len) {
@@ -143,12 +190,13 @@ uint64_t reference_rerender(const struct gav_settings *s, const uint8_t *old, si
     if (refusal) return refusal + 16;
     uint64_t p = first_change(old, old_len, new_, new_len), from = p / GAV_SECTION * GAV_SECTION;
     if (p >= n) return says(0, 0, 0);
-    struct records score = {new_, new_len / RECORD};
+    struct records before = {old, old_len / RECORD}, score = {new_, new_len / RECORD};
     struct voice voice;
     if (!is_start(&voice, shelf + from / GAV_SECTION * GAV_STATE_WORDS, score, from)) return says(8, 0, 0);
-    play(s, score, &voice, from, out + from, n - from, shelf);
-    sum_up(out, from, n, magnitudes, numbers);
-    return says(0, 0, n - from);
+    size_t stop = play_to_stop(s, before, score, &voice, from, out, n, shelf);
+    sum_up(out, from, stop, magnitudes, numbers);
+    recount(score, shelf, stop, n);
+    return says(0, 0, stop - from);
 }
 
 uint64_t reference_continue(const struct gav_settings *s, const uint8_t *score, size_t len, uint64_t *state,

@@ -100,8 +100,9 @@ static bool near_block(struct tally *tally, const struct block *b, double phase,
  * the LFO's; 3 and 4 set the phase back before they play. */
 static void block_row(struct rows *rows, struct tally *tally) {
     const uint64_t *row = take(rows, 10), *theirs = take(rows, row[7]);
-    const struct block b = {(uint32_t)row[3], (uint32_t)row[1],          number(row[2]),
-                            number(row[4]),   row[0] % 3 == 1 ? 100 : 20000, number(row[5])};
+    const struct block b = {
+        (uint32_t)row[3], (uint32_t)row[1], number(row[2]), number(row[4]), row[0] % 3 == 1 ? 100 : 20000,
+        number(row[5])};
     size_t n = (size_t)row[7];
     double start = row[0] == 3 || row[0] == 4 ? 0.0 : number(row[6]), phase = start, *out = room(n * sizeof *out);
     for (size_t i = 0; i < n; i++) out[i] = UNWRITTEN;
@@ -211,17 +212,20 @@ static bool same_call(struct tally *tally, const struct asked *a, bool is_render
            (is_render || same_words(after, state, GAV_STATE_WORDS));
 }
 
-/* A re-render, over the samples and words that the row has for it: what lies before its start stays. */
+/* A re-render, over the samples and words that the row has for it. Where a sine is heard the samples from start to stop
+ * are ours; all others, before the start and from the stop on, are those that it found, and the row's by every bit. */
 static bool same_edit(struct tally *tally, const struct asked *a, double *out, uint64_t *shelf) {
     memcpy(out, a->found, a->n * sizeof *out);
     memcpy(shelf, a->found + a->n, a->words * sizeof *shelf);
     uint64_t answer = reference_rerender(&a->settings, a->old, a->old_len, a->score, a->len, out, a->n, shelf, a->words,
                                          a->magnitudes, a->sections, a->numbers, a->sections);
-    bool fine = answer == a->answer[0];
-    size_t start = a->n - gav_count(answer);
-    fine &= same_words(out, a->samples, a->scales ? start : a->n);
-    for (size_t i = start; a->scales && i < a->n; i++) {
-        fine &= near(tally, out[i], number(a->samples[i]), number(a->scales[i]));
+    bool fine = answer == a->answer[0], is_ours = a->scales && gav_count(answer) > 0;
+    uint64_t p = is_ours ? first_change(a->old, a->old_len, a->score, a->len) : 0;
+    size_t start = (size_t)p / GAV_SECTION * GAV_SECTION, stop = start + gav_count(answer);
+    for (size_t i = 0; i < a->n; i++) {
+        bool is_sine = is_ours && i >= start && i < stop;
+        fine &=
+            is_sine ? near(tally, out[i], number(a->samples[i]), number(a->scales[i])) : bits(out[i]) == a->samples[i];
     }
     return fine;
 }

@@ -118,12 +118,14 @@ static void same_samples(struct round *r, struct written w) {
     }
 }
 
-/* The peaks that a render or a re-render is due, from the section of the first sample that it writes on: those of the
- * samples that are expected. */
+/* The peaks that a render or a re-render is due, of the sections that it writes: those of the samples that are
+ * expected.
+ */
 static void expect_peaks(struct round *r, struct written w) {
-    const size_t first = w.from / GAV_SECTION, sections = w.samples > 0 ? gav_sections(r->n) : first;
+    const size_t first = w.from / GAV_SECTION, end = w.from + w.samples;
+    const size_t sections = w.samples > 0 ? gav_sections(end) : first;
     double *out = inside(&r->expected, OUT), *magnitudes = inside(&r->expected, MAGNITUDES);
-    judge_peaks(out, w.from, r->n, magnitudes, words_of(&r->expected, NUMBERS));
+    judge_peaks(out, w.from, end, magnitudes, words_of(&r->expected, NUMBERS));
     for (size_t i = first; i < sections; i++) {
         r->tally->peaks++;
         r->tally->silent += magnitudes[i] == 0.0;

@@ -1,58 +1,115 @@
-/* The edits of a round, each re-rendered in what the call before it left, and compared with a render from sample zero.
- */
+/* The edits of a round, each re-rendered in what the call before it left, and compared with renders of both scores from
+ * sample zero: their entries say where it stops. */
 #include "scale.h"
 
 #include <stdio.h>
 
-/* What a re-render must do: the first sample of the section that it starts at, or the end where it writes nothing. */
-struct plan {
-    size_t from, section, entry; /* in samples, in sections, and in words of the shelf */
-    uint64_t answer;
-};
+/* What lies behind the entry that a re-render starts from: what the old render left; the same with rubbish for sound
+ * and summary; with other entries too; nothing but rubbish. */
+enum behind { AS_LEFT, OTHER_SOUND, OTHER_ENTRIES, RUBBISH };
 
-static struct plan plan_of(const struct round *r, const struct score *new_) {
+/* A section's first sample, or the end. */
+static size_t sample_of(const struct round *r, size_t section) {
+    return section < gav_sections(r->n) ? section * GAV_SECTION : r->n;
+}
+
+size_t start_of(const struct round *r, const struct score *new_) {
     uint64_t p = first_change(r->score.bytes, r->score.len, new_->bytes, new_->len);
-    size_t section = p < r->n ? (size_t)p / GAV_SECTION : gav_sections(r->n);
-    size_t from = p < r->n ? section * GAV_SECTION : r->n;
-    return (struct plan){from, section, section * GAV_STATE_WORDS, says(0, 0, r->n - from)};
+    return p < r->n ? (size_t)p / GAV_SECTION : gav_sections(r->n);
 }
 
-/* Everything but the entry to start from may be rubbish: what lies before the start stays, and no call reads what lies
- * after it. */
-static void spoil(struct round *r, struct plan plan, bool before, bool behind) {
-    uint64_t *out = words_of(&r->lent, OUT), *shelf = words_of(&r->lent, SHELF);
-    uint64_t *magnitudes = words_of(&r->lent, MAGNITUDES), *numbers = words_of(&r->lent, NUMBERS);
-    size_t words = gav_shelf_words(r->n), after = plan.entry + GAV_STATE_WORDS;
-    if (before) {
-        rubbish(&r->chance, out, plan.from);
-        rubbish(&r->chance, shelf, plan.entry);
-        rubbish(&r->chance, magnitudes, plan.section);
-        rubbish(&r->chance, numbers, plan.section);
+void spoil_sound(struct round *r, size_t from, size_t to) {
+    const size_t first = sample_of(r, from);
+    rubbish(&r->chance, words_of(&r->lent, OUT) + first, sample_of(r, to) - first);
+    rubbish(&r->chance, words_of(&r->lent, MAGNITUDES) + from, to - from);
+    rubbish(&r->chance, words_of(&r->lent, NUMBERS) + from, to - from);
+}
+
+/* Another bit of an entry, often a sign or the last one, but none of the records acted. */
+static void flip_bit(struct chance *c, uint64_t *entry) {
+    const uint64_t any[] = {0, 63, below(c, 64)}, word = below(c, GAV_STATE_WORDS);
+    entry[word] ^= UINT64_C(1) << (word == 5 ? below(c, 16) : PICK(c, any));
+}
+
+/* Rubbish; or the entry that came or the one that the new score is due, as it is, with any number of records acted, or
+ * with another bit. */
+static void spoil_entry(struct chance *c, uint64_t *entry, const uint64_t *due) {
+    if (one_in(c, 4)) {
+        rubbish(c, entry, GAV_STATE_WORDS);
+        return;
     }
-    if (behind && plan.entry < words) {
-        rubbish(&r->chance, out + plan.from, r->n - plan.from);
-        rubbish(&r->chance, shelf + after, words - after);
-        rubbish(&r->chance, magnitudes + plan.section, gav_sections(r->n) - plan.section);
-        rubbish(&r->chance, numbers + plan.section, gav_sections(r->n) - plan.section);
+    if (one_in(c, 2)) memcpy(entry, due, 8 * GAV_STATE_WORDS);
+    if (one_in(c, 2)) entry[5] = entry[5] % 65536 | chance_word(c) << 16;
+    if (one_in(c, 2)) flip_bit(c, entry);
+}
+
+/* What lies before the start, all but the entry to start from. */
+static void spoil_before(struct round *r, size_t start) {
+    spoil_sound(r, 0, start);
+    rubbish(&r->chance, words_of(&r->lent, SHELF), start * GAV_STATE_WORDS);
+}
+
+static void spoil_behind(struct round *r, enum behind how, size_t start, const struct heard *due) {
+    const size_t sections = gav_sections(r->n);
+    if (how == AS_LEFT) return;
+    spoil_sound(r, start, sections);
+    for (size_t k = start + 1; k < sections && how != OTHER_SOUND; k++) {
+        const size_t at = k * GAV_STATE_WORDS;
+        uint64_t *entry = words_of(&r->lent, SHELF) + at;
+        if (how == RUBBISH)
+            rubbish(&r->chance, entry, GAV_STATE_WORDS);
+        else
+            spoil_entry(&r->chance, entry, due->shelf + at);
     }
 }
 
-/* From the start on, what is expected is the render of the new score. */
-static void expect(struct round *r, struct plan plan, const struct heard *heard) {
-    size_t words = gav_shelf_words(r->n);
+/* From start to stop what is expected is the render of the new score; of the entries from the stop on the records acted
+ * alone. */
+static void expect(struct round *r, size_t start, size_t stop, const struct heard *due) {
+    const size_t words = gav_shelf_words(r->n), from = sample_of(r, start), entry = start * GAV_STATE_WORDS;
     copy_buffers(&r->expected, &r->lent);
-    memcpy(words_of(&r->expected, OUT) + plan.from, heard->samples + plan.from, 8 * (r->n - plan.from));
-    memcpy(words_of(&r->expected, SHELF) + plan.entry, heard->shelf + plan.entry, 8 * (words - plan.entry));
+    uint64_t *shelf = words_of(&r->expected, SHELF);
+    memcpy(words_of(&r->expected, OUT) + from, due->samples + from, 8 * (sample_of(r, stop) - from));
+    memcpy(shelf + entry, due->shelf + entry, 8 * (stop * GAV_STATE_WORDS - entry));
+    for (size_t keys = stop * GAV_STATE_WORDS + 5; keys < words; keys += GAV_STATE_WORDS) {
+        shelf[keys] = shelf[keys] % 65536 | due->shelf[keys] >> 16 << 16;
+    }
 }
 
-static void rerender(struct round *r, const struct score *new_, struct plan plan, const struct heard *heard) {
+/* What became of a re-render; and whether an entry from start to stop was passed though it is the state that is due, or
+ * though the scores agree. */
+static void count_stop(struct round *r, const struct score *new_, const struct heard *due, const uint64_t *came,
+                       size_t start, size_t stop) {
+    const uint64_t same = same_after(&r->score, new_);
+    const size_t sections = gav_sections(r->n);
+    bool by_state = false, by_scores = false;
+    r->tally->idle += start == sections;
+    r->tally->last += start + 1 == sections;
+    r->tally->ended += start + 1 < sections && stop == sections;
+    if (stop == sections) return;
+    for (size_t k = start + 1; k < stop; k++) {
+        const size_t at = k * GAV_STATE_WORDS;
+        by_state |= k * GAV_SECTION >= same;
+        by_scores |= is_same_state(came + at, due->shelf + at);
+    }
+    r->tally->stopped++;
+    r->tally->by_state += by_state;
+    r->tally->by_scores += by_scores;
+}
+
+size_t rerender(struct round *r, const struct score *new_, const struct heard *due, const uint64_t *came) {
     const struct call call = {.which = RERENDER, .settings = r->settings};
+    const size_t sections = gav_sections(r->n), start = start_of(r, new_);
+    const size_t stop = judge_stop(&r->score, new_, came, due->shelf, start, sections);
+    const size_t from = sample_of(r, start), count = sample_of(r, stop) - from;
+    count_stop(r, new_, due, came, start, stop);
     lend_score(&r->lent, OLD, &r->score);
     lend_score(&r->lent, NEW, new_);
-    expect(r, plan, heard);
-    call_done(r, &call, plan.answer, (struct written){plan.from, r->n - plan.from, heard->scales + plan.from});
-    r->tally->words += gav_shelf_words(r->n) - plan.entry;
-    r->tally->kept += 8 * (plan.from + plan.entry + 2 * plan.section);
+    expect(r, start, stop, due);
+    call_done(r, &call, says(0, 0, count), (struct written){from, count, due->scales + from});
+    r->tally->words += gav_shelf_words(r->n) - start * GAV_STATE_WORDS;
+    r->tally->kept += 8 * (r->n - count + (sections - (stop - start)) * (GAV_STATE_WORDS + 2));
+    return count;
 }
 
 /* "If it was right for the buffer as that came, all finite, it afterwards equals a summary of the finished buffer
@@ -68,41 +125,65 @@ static void same_summary(const struct round *r) {
     }
 }
 
-/* Rubbish before the start is replaced afterwards by the judge's samples: there the two scores play the same. */
-static void edit(struct round *r, int number) {
-    static struct score new_;
-    bool before = one_in(&r->chance, 2), behind = one_in(&r->chance, 2);
-    new_ = r->score;
-    edit_score(&r->chance, r->n, &new_);
-    struct plan plan = plan_of(r, &new_);
-    snprintf(r->what, sizeof r->what, "edit %d, re-rendered from %zu of %zu", number, plan.from, r->n);
-    judge_hear(r, &new_, &r->heard);
-    spoil(r, plan, before, behind);
-    rerender(r, &new_, plan, &r->heard);
-    if (before) {
-        memcpy(inside(&r->lent, OUT), r->heard.samples, 8 * plan.from);
-        memcpy(inside(&r->lent, SHELF), r->heard.shelf, 8 * plan.entry);
-        judge_peaks(r->heard.samples, 0, plan.from, inside(&r->lent, MAGNITUDES), words_of(&r->lent, NUMBERS));
+/* "Demand 3's equality with a fresh render stands". */
+void same_render(const struct round *r, const struct heard *due) {
+    const uint64_t *out = words_of(&r->lent, OUT);
+    for (size_t i = 0; i < r->n; i++) {
+        bool same = is_judged(r, number(out[i]), due->samples[i], due->scales[i]);
+        if (!same) differ(r, "sample %zu is not that of a render from zero", i);
+    }
+    if (memcmp(inside(&r->lent, SHELF), due->shelf, 8 * gav_shelf_words(r->n)) != 0) {
+        differ(r, "the shelf is not that of a render from zero");
     }
     same_summary(r);
+}
+
+/* What is lent is the judge's render again. */
+static void restore(struct round *r) {
+    memcpy(inside(&r->lent, OUT), r->heard.samples, 8 * r->n);
+    memcpy(inside(&r->lent, SHELF), r->heard.shelf, 8 * gav_shelf_words(r->n));
+    judge_peaks(r->heard.samples, 0, r->n, inside(&r->lent, MAGNITUDES), words_of(&r->lent, NUMBERS));
+}
+
+/* Half of the edits are made in what the render or the edit before left; of the other half a part is rubbish. */
+static void edit(struct round *r, int number) {
+    static struct score new_;
+    static struct heard due;
+    static const enum behind HOW[] = {AS_LEFT, OTHER_SOUND, OTHER_ENTRIES, OTHER_ENTRIES, RUBBISH};
+    const bool is_honest = one_in(&r->chance, 2), before = !is_honest && one_in(&r->chance, 2);
+    const enum behind behind = is_honest ? AS_LEFT : PICK(&r->chance, HOW);
+    new_ = r->score;
+    (one_in(&r->chance, 3) ? edit_score : change_score)(&r->chance, r->n, &new_);
+    const size_t start = start_of(r, &new_);
+    snprintf(r->what, sizeof r->what, "edit %d, re-rendered from section %zu of %zu", number, start,
+             gav_sections(r->n));
+    judge_hear(r, &new_, &due);
+    if (before) spoil_before(r, start);
+    spoil_behind(r, behind, start, &due);
+    r->tally->spoilt += behind != AS_LEFT && start < gav_sections(r->n);
+    rerender(r, &new_, &due, is_honest ? r->heard.shelf : words_of(&r->lent, SHELF));
     r->score = new_;
+    r->heard = due;
+    if (is_honest)
+        same_render(r, &due);
+    else
+        restore(r);
 }
 
 /* An entry that is a state, but one that no score may reach, is played all the same. */
 static void stray_edit(struct round *r) {
     static struct score new_;
-    static struct heard heard;
+    static struct heard due;
     new_ = r->score;
     edit_score(&r->chance, r->n, &new_);
-    struct plan plan = plan_of(r, &new_);
-    if (plan.from == r->n) return;
-    uint64_t *entry = words_of(&r->lent, SHELF) + plan.entry, state[GAV_STATE_WORDS];
+    const size_t start = start_of(r, &new_), at = start * GAV_STATE_WORDS, from = sample_of(r, start);
+    if (from == r->n) return;
+    uint64_t *entry = words_of(&r->lent, SHELF) + at, state[GAV_STATE_WORDS];
     move_state(&r->chance, entry);
     memcpy(state, entry, sizeof state);
-    snprintf(r->what, sizeof r->what, "re-render from another state at %zu of %zu", plan.from, r->n);
-    judge_play(&r->settings, &new_, state, plan.from, heard.samples + plan.from, heard.scales + plan.from,
-               r->n - plan.from, heard.shelf + plan.entry);
-    rerender(r, &new_, plan, &heard);
+    snprintf(r->what, sizeof r->what, "re-render from another state at %zu of %zu", from, r->n);
+    judge_play(&r->settings, &new_, state, from, due.samples + from, due.scales + from, r->n - from, due.shelf + at);
+    rerender(r, &new_, &due, words_of(&r->lent, SHELF));
 }
 
 /* What is lent holds the render of the score, and does so after every edit. */

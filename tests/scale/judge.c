@@ -54,6 +54,37 @@ void judge_peaks(const double *samples, size_t from, size_t n, double *magnitude
     }
 }
 
+bool is_same_state(const uint64_t *entry, const uint64_t *other) {
+    uint64_t apart = 0;
+    for (size_t i = 0; i < GAV_STATE_WORDS; i++) apart |= (entry[i] ^ other[i]) & (i == 5 ? 0xFFFF : UINT64_MAX);
+    return apart == 0;
+}
+
+/* One past the position of a score's last record, of so many bytes. */
+static uint64_t past_last(const struct score *score, size_t len) {
+    return len > 0 ? 1 + (uint64_t)score_position(score, len / RECORD - 1) : 0;
+}
+
+/* From the end back to the last difference, of whose two records the higher position counts. */
+uint64_t same_after(const struct score *old, const struct score *new_) {
+    size_t i = old->len, j = new_->len;
+    while (i > 0 && j > 0 && memcmp(old->bytes + i - RECORD, new_->bytes + j - RECORD, RECORD) == 0) {
+        i -= RECORD, j -= RECORD;
+    }
+    uint64_t p = past_last(old, i), q = past_last(new_, j);
+    return p > q ? p : q;
+}
+
+size_t judge_stop(const struct score *old, const struct score *new_, const uint64_t *came, const uint64_t *due,
+                  size_t start, size_t sections) {
+    const uint64_t same = same_after(old, new_);
+    for (size_t k = start + 1; k < sections; k++) {
+        const size_t entry = k * GAV_STATE_WORDS;
+        if (k * GAV_SECTION >= same && is_same_state(came + entry, due + entry)) return k;
+    }
+    return sections;
+}
+
 bool is_judged(const struct round *r, double ours, double judged, double scale) {
     if (bits(ours) == bits(judged)) return true;
     return original_is_here && has_sine(&r->settings) && fabs(ours - judged) <= 0.000001 * scale;

@@ -1,6 +1,7 @@
 /* scale SEED ROUNDS [FIRST]: compares the library with the original, or with the reference voice where that is not
- * here, over so many rounds from the first on. Exit status 1 at the first difference, which is told with its seed and
- * round; and where many rounds had no section of silence, or no peak above 1, and so compared too little. */
+ * here, over so many rounds from the first on; before round 0 come the re-renders of stops.c. Exit status 1 at the
+ * first difference, which is told with its seed and round; and where many rounds had no section of silence, no peak
+ * above 1, or none of the re-renders that there must be, and so compared too little. */
 #include "scale.h"
 
 #include <inttypes.h>
@@ -26,6 +27,27 @@ static void start_round(struct round *r, uint64_t seed, uint64_t number) {
     r->chance.seed = chance_word(&from_seed) ^ number;
 }
 
+/* Whether there were some of each. */
+static bool has_all(const struct tally *t) {
+    if (t->silent && t->above && t->stopped && t->ended && t->idle && t->spoilt && t->by_state && t->by_scores)
+        return true;
+    puts("scale: there must be some of each");
+    return false;
+}
+
+static void print_tally(const struct tally *t, uint64_t seed, uint64_t rounds) {
+    printf("scale: %" PRIu64 " rounds equal: %" PRIu64 " calls, %" PRIu64 " of them refused, %" PRIu64
+           " samples, %" PRIu64 " words of entries and states, %" PRIu64 " peaks (%" PRIu64 " of silence, %" PRIu64
+           " above 1), ",
+           rounds, t->calls, t->refused, t->samples, t->words, t->peaks, t->silent, t->above);
+    printf("%" PRIu64 " re-renders stopped (%" PRIu64 " passed an entry for its state, %" PRIu64
+           " for the scores), %" PRIu64 " did not, %" PRIu64 " had no later entry, %" PRIu64 " wrote nothing, %" PRIu64
+           " were over rubbish, ",
+           t->stopped, t->by_state, t->by_scores, t->ended, t->last, t->idle, t->spoilt);
+    printf("%" PRIu64 " bytes left as they came (seed %" PRIu64 "), judged by %s\n", t->kept, seed,
+           original_is_here ? "the original and the reference voice" : "the reference voice: the original is not here");
+}
+
 int main(int argc, char **argv) {
     static struct round round;
     struct tally tally = {0};
@@ -39,21 +61,12 @@ int main(int argc, char **argv) {
     make_buffers(&round.lent);
     make_buffers(&round.expected);
     make_buffers(&round.twins);
+    start_round(&round, seed, first);
+    if (first == 0) run_stops(&round);
     for (uint64_t i = first; i < first + rounds; i++) {
         start_round(&round, seed, i);
         run_round(&round);
     }
-    if (rounds >= MANY_ROUNDS && (tally.silent == 0 || tally.above == 0)) {
-        printf("scale: seed %" PRIu64 ", %" PRIu64 " rounds: of %" PRIu64 " peaks %" PRIu64
-               " were of silence and %" PRIu64 " above 1; there must be some of each\n",
-               seed, rounds, tally.peaks, tally.silent, tally.above);
-        return 1;
-    }
-    printf("scale: %" PRIu64 " rounds equal: %" PRIu64 " calls, %" PRIu64 " of them refused, %" PRIu64
-           " samples, %" PRIu64 " words of entries and states, %" PRIu64 " peaks (%" PRIu64 " of silence, %" PRIu64
-           " above 1), %" PRIu64 " bytes left as they came (seed %" PRIu64 "), judged by %s\n",
-           rounds, tally.calls, tally.refused, tally.samples, tally.words, tally.peaks, tally.silent, tally.above,
-           tally.kept, seed,
-           original_is_here ? "the original and the reference voice" : "the reference voice: the original is not here");
-    return 0;
+    print_tally(&tally, seed, rounds);
+    return rounds >= MANY_ROUNDS && !has_all(&tally);
 }

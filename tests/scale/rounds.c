@@ -110,7 +110,7 @@ static void edge_part(struct round *r) {
     part_from(r, state, position, length < left ? length : left);
 }
 
-static void render(struct round *r) {
+void run_render(struct round *r) {
     snprintf(r->what, sizeof r->what, "render of %zu samples", r->n);
     lend_output(r);
     copy_buffers(&r->expected, &r->lent);
@@ -155,19 +155,24 @@ static void samples(struct round *r) {
     }
 }
 
-/* One round in sixteen is silent, and one in sixteen has peaks above 1. */
+static size_t random_length(struct chance *c) {
+    static const size_t LENGTHS[] = {0,    1,    63,   64,    65,    4095,  4096,   4097,
+                                     8191, 8192, 8193, 12287, 12288, 12289, LONGEST};
+    return one_in(c, 4) ? PICK(c, LENGTHS) : below(c, 12001);
+}
+
+/* One round in sixteen is silent, and one in sixteen has peaks above 1; in one in four the output is long, and keys
+ * come one after the other. */
 static void draw(struct round *r) {
     struct chance *c = &r->chance;
     uint64_t kind = below(c, 16);
+    r->n = kind < 12 ? random_length(c) : GAV_SECTION + 1 + below(c, LONGEST - GAV_SECTION);
     r->settings = kind == 1 ? loud_settings(c) : random_settings(c);
-    (kind == 0 ? silent_score : kind == 1 ? loud_score : random_score)(c, r->n, &r->score);
+    (kind == 0 ? silent_score : kind == 1 ? loud_score : kind < 12 ? random_score : plain_score)(c, r->n, &r->score);
 }
 
 void run_round(struct round *r) {
-    static const size_t LENGTHS[] = {0, 1, 63, 64, 65, 4095, 4096, 4097, 8191, 8192, 8193, 12287, 12288, LONGEST};
-    struct chance *c = &r->chance;
-    r->lent.has_nulls = one_in(c, 2);
-    r->n = one_in(c, 4) ? PICK(c, LENGTHS) : below(c, 12001);
+    r->lent.has_nulls = one_in(&r->chance, 2);
     draw(r);
     snprintf(r->what, sizeof r->what, "the judge");
     judge_hear(r, &r->score, &r->heard);
@@ -176,7 +181,7 @@ void run_round(struct round *r) {
     edge_part(r);
     listings(r);
     samples(r);
-    render(r);
+    run_render(r);
     run_edits(r);
     run_refusals(r);
 }

@@ -8,8 +8,8 @@
 #include "chance.h"
 #include "original.h"
 
-#define LONGEST 12289 /* the most samples of a round's output */
-#define MOST_ENTRIES 4
+#define LONGEST 24577 /* the most samples of a round's output */
+#define MOST_ENTRIES 7
 #define COUNT_OF(array) (sizeof(array) / sizeof *(array))
 
 /* scores.c: a score as a round holds it, with room for one record too many. */
@@ -25,7 +25,11 @@ void random_score(struct chance *c, size_t n, struct score *score);
 /* No key; or high keys, struck hard, whose peaks are above 1 under loud_settings. */
 void silent_score(struct chance *c, size_t n, struct score *score);
 void loud_score(struct chance *c, size_t n, struct score *score);
+/* Keys one after the other, so that the states after an edit are soon as they were. */
+void plain_score(struct chance *c, size_t n, struct score *score);
 void edit_score(struct chance *c, size_t n, struct score *score);
+/* Up to three changes at once, after most of which the states may be as they were. */
+void change_score(struct chance *c, size_t n, struct score *score);
 /* A key struck at a position, among the others there; a full score stays as it is. */
 void strike(struct chance *c, struct score *score, uint64_t position);
 /* One fault, and the answer that it is due. */
@@ -66,6 +70,10 @@ void copy_buffers(struct buffers *to, const struct buffers *from);
 struct tally {
     uint64_t calls, refused, samples, words, kept;
     uint64_t peaks, silent, above; /* sections whose peaks were compared; those without a sound, and those above 1 */
+    /* Re-renders: stopped before the end, gone to the end past an entry, gone to it past none, and without a sample; of
+     * all of them those over rubbish. Of the stopped, those that passed an entry for its state alone, and those that
+     * passed one for the scores alone. */
+    uint64_t stopped, ended, last, idle, spoilt, by_state, by_scores;
 };
 
 struct heard {
@@ -92,8 +100,16 @@ void judge_play(const struct gav_settings *settings, const struct score *score, 
 void judge_hear(struct round *r, const struct score *score, struct heard *heard);
 /* Whether a sample is the judge's; where a sine is heard the original's is another one and only near. */
 bool is_judged(const struct round *r, double ours, double judged, double scale);
-/* The peaks of the sections that samples from one on fill, worked out from the samples alone. */
+/* The peaks of the sections that samples from one on fill, of n in all, worked out from the samples alone. */
 void judge_peaks(const double *samples, size_t from, size_t n, double *magnitudes, uint64_t *numbers);
+/* Whether two entries are one state, but for the records acted. */
+bool is_same_state(const uint64_t *entry, const uint64_t *other);
+/* The first position from which on two scores have the same records. */
+uint64_t same_after(const struct score *old, const struct score *new_);
+/* The section at which a re-render from one on stops, or how many there are: by the scores, by the entries as they
+ * came, and by those that the new score is due. */
+size_t judge_stop(const struct score *old, const struct score *new_, const uint64_t *came, const uint64_t *due,
+                  size_t start, size_t sections);
 
 /* calls.c: one call, of the library and of the reference. */
 enum which { CHECK, LIST, FRESH, RENDER, RERENDER, CONTINUE };
@@ -124,7 +140,21 @@ void sample_same(struct round *r, uint32_t code, double phase, double dt, double
 
 /* rounds.c, edits.c and refusals.c: the parts of a round. */
 void run_round(struct round *r);
+void run_render(struct round *r); /* of the round's score */
 void run_edits(struct round *r);
 void run_refusals(struct round *r);
+
+/* edits.c: the section that a re-render with a new score starts at, or how many there are where it writes nothing. */
+size_t start_of(const struct round *r, const struct score *new_);
+/* Samples and peaks of the sections from one to another are rubbish. */
+void spoil_sound(struct round *r, size_t from, size_t to);
+/* A re-render from the round's score to another one, over what is lent, with the render that the new score is due. It
+ * stops by the entries that came. The count. */
+size_t rerender(struct round *r, const struct score *new_, const struct heard *due, const uint64_t *came);
+/* What is lent is a render of a score from zero, and its summary that of the samples. */
+void same_render(const struct round *r, const struct heard *due);
+
+/* stops.c: re-renders whose stop documents name. */
+void run_stops(struct round *r);
 
 #endif

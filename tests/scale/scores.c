@@ -130,6 +130,39 @@ void loud_score(struct chance *c, size_t n, struct score *score) {
     }
 }
 
+/* At the start of a section, at the sample before it, or as it is. */
+static uint32_t snapped(struct chance *c, size_t position) {
+    const uint32_t mark = (uint32_t)(position / GAV_SECTION * GAV_SECTION);
+    uint64_t kind = below(c, 8);
+    return kind == 0 ? mark : kind == 1 ? before(mark) : (uint32_t)position;
+}
+
+static void append(struct score *score, uint32_t position, enum kind kind, uint8_t note, uint8_t velocity) {
+    size_t count = score_count(score);
+    uint32_t last = count > 0 ? score_position(score, count - 1) : 0;
+    put_record(score->bytes + score->len, position > last ? position : last, kind, note, velocity);
+    score->len += RECORD;
+}
+
+/* Few samples or many from one record to the next, up to the end and somewhat past it; now and then a reset, or a key
+ * let go that is not down. */
+void plain_score(struct chance *c, size_t n, struct score *score) {
+    const uint64_t most = one_in(c, 2) ? 1500 : 5000;
+    score->len = 0;
+    for (size_t at = below(c, most); at < n + 1000 && score_count(score) < 60; at += below(c, most)) {
+        uint8_t note = (uint8_t)below(c, 128), velocity = (uint8_t)(1 + below(c, 127));
+        uint64_t kind = below(c, 8);
+        if (kind == 0) {
+            append(score, snapped(c, at), RESET, 0, 0);
+        } else if (kind == 1) {
+            append(score, snapped(c, at), OFF, note, velocity);
+        } else {
+            append(score, snapped(c, at), ON, note, velocity);
+            append(score, snapped(c, at += below(c, most)), OFF, note, (uint8_t)below(c, 128));
+        }
+    }
+}
+
 /* From no record to 4,096. */
 void random_score(struct chance *c, size_t n, struct score *score) {
     static uint32_t positions[MOST_RECORDS];
@@ -193,6 +226,54 @@ void edit_score(struct chance *c, size_t n, struct score *score) {
     take_out(score, index);
     put_record(record, edit_position(c, n), record[6], record[7], record[8]);
     if (how > 4) put_in(c, score, record);
+}
+
+/* Any record, or the one at a position that edits are often at. */
+static size_t edit_index(struct chance *c, size_t n, const struct score *score) {
+    size_t count = score_count(score), index = score_below(score, edit_position(c, n));
+    return one_in(c, 2) || index == count ? below(c, count) : index;
+}
+
+/* Another velocity, which is not heard in an off, and with which an on stays one. */
+static void change_velocity(struct chance *c, uint8_t *record) {
+    if (record[6] == OFF) record[8] = (uint8_t)below(c, 128);
+    if (record[6] == ON && record[8] > 0) record[8] = (uint8_t)(1 + below(c, 127));
+}
+
+/* A record somewhat earlier or later. */
+static void shift(struct chance *c, struct score *score, size_t index) {
+    uint8_t record[RECORD];
+    memcpy(record, score->bytes + RECORD * index, RECORD);
+    uint64_t position = record_position(record) + below(c, 1001);
+    take_out(score, index);
+    put_record(record, (uint32_t)(position > 500 ? position - 500 : 0), record[6], record[7], record[8]);
+    put_in(c, score, record);
+}
+
+/* A key let go, which is often not down; a reset; a key at the end or past it. */
+static void add_record(struct chance *c, size_t n, struct score *score) {
+    const uint32_t late[] = {(uint32_t)n, (uint32_t)n + 1, (uint32_t)(n + below(c, 5000)), UINT32_MAX};
+    uint8_t record[RECORD];
+    uint64_t kind = below(c, 6);
+    if (kind == 0)
+        put_record(record, edit_position(c, n), RESET, 0, 0);
+    else if (kind == 1)
+        put_record(record, PICK(c, late), ON, (uint8_t)below(c, 128), (uint8_t)(1 + below(c, 127)));
+    else
+        put_release(c, record, edit_position(c, n), (uint8_t)below(c, 128));
+    put_in(c, score, record);
+}
+
+void change_score(struct chance *c, size_t n, struct score *score) {
+    for (uint64_t times = 1 + below(c, 3); times > 0; times--) {
+        uint64_t how = below(c, 8);
+        if (how < 3 || score->len == 0)
+            add_record(c, n, score);
+        else if (how < 6)
+            change_velocity(c, score->bytes + RECORD * edit_index(c, n, score));
+        else
+            shift(c, score, edit_index(c, n, score));
+    }
 }
 
 /* A position below that of the record before, if there is one. */
