@@ -179,9 +179,26 @@ static void run_recount(struct round *r) {
     }
 }
 
+/* Another bit in the one entry that would stop: then it does not, but for a bit of the records acted. */
+static void run_bit(struct round *r, size_t word, unsigned bit) {
+    static const struct stop STOP = {
+        "another bit", 4097, 4097, {{0, ON, 60, 100}}, {{0, ON, 60, 100}, {0, OFF, 61, 0}}};
+    static struct score new_;
+    static struct heard due;
+    begin(r, &STOP, &new_, &due);
+    snprintf(r->what, sizeof r->what, "another bit %u of word %zu", bit, word);
+    words_of(&r->lent, SHELF)[GAV_STATE_WORDS + word] ^= UINT64_C(1) << bit;
+    size_t count = rerender(r, &new_, &due, words_of(&r->lent, SHELF));
+    same_count(r, &STOP, count + (word == 5 && bit >= 16));
+}
+
 void run_stops(struct round *r) {
+    static const unsigned BITS[] = {0, 15, 16, 51, 63};
+
     r->settings = (struct gav_settings)GAV_SETTINGS_DEFAULT;
     for (size_t i = 0; i < COUNT_OF(STOPS); i++) run_stop(r, STOPS + i);
     run_recount(r);
+    for (size_t i = 0; i < GAV_STATE_WORDS * COUNT_OF(BITS); i++)
+        run_bit(r, i / COUNT_OF(BITS), BITS[i % COUNT_OF(BITS)]);
     run_minus_zero(r);
 }

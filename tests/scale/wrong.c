@@ -1,6 +1,6 @@
 /* Wrong libraries: each is put between the program at scale and the library (gcc's --wrap) and spoils one thing of one
- * call. WRONG in the environment chooses it, from 1 on; 0 spoils nothing, and one past the last says how many there
- * are. */
+ * call. WRONG in the environment chooses it, from 1 on; 0 spoils nothing, one past the last says how many there are,
+ * and the one after that has the re-render of wrong_stop.c without a fault. */
 #include "wrong.h"
 
 #include <math.h>
@@ -16,8 +16,6 @@ uint64_t __real_gav_render(SETTINGS, const uint8_t *score, size_t len, double *o
                            size_t words, SUMMARY);
 uint64_t __real_gav_rerender(SETTINGS, const uint8_t *old, size_t old_len, const uint8_t *new_, size_t new_len,
                              double *out, size_t n, uint64_t *shelf, size_t words, SUMMARY);
-uint64_t __real_gav_continue(SETTINGS, const uint8_t *score, size_t len, uint64_t *state, size_t state_words,
-                             uint64_t position, double *part, size_t n);
 
 /* In the order in which they are counted. */
 enum wrong {
@@ -78,7 +76,8 @@ enum wrong {
     CONTINUE_LFO_CODES = CONTINUE_CODES + 4,
     RENDER_SUMMARIES = CONTINUE_LFO_CODES + 4,       /* those of wrong.h that a render has, in that order */
     RERENDER_SUMMARIES = RENDER_SUMMARIES + OF_BOTH, /* all of them */
-    WRONGS = RERENDER_SUMMARIES + SUMMARIES
+    RERENDER_STOPS = RERENDER_SUMMARIES + SUMMARIES, /* all stops of wrong.h */
+    WRONGS = RERENDER_STOPS + STOPPINGS
 };
 
 static enum wrong wrong(void) {
@@ -93,6 +92,13 @@ static enum wrong wrong(void) {
 /* The wrong summary of a call that has so many, from one wrong library on. */
 static enum summary wrong_summary(enum wrong first, int count) {
     return wrong() >= first && (int)wrong() < (int)first + count ? (enum summary)(wrong() - first) : RIGHT;
+}
+
+/* Whether a re-render has a wrong stop, or the right one that is made here. */
+static bool is_stop_wrong(void) { return wrong() >= RERENDER_STOPS; }
+
+static enum stopping wrong_stop(void) {
+    return wrong() < WRONGS ? (enum stopping)(wrong() - RERENDER_STOPS) : STOPS_RIGHT;
 }
 
 static void flip(double *x) { *x = number(bits(*x) ^ 1); }
@@ -186,7 +192,7 @@ uint64_t __wrap_gav_render(SETTINGS, const uint8_t *score, size_t len, double *o
     lfo_code = taken_code(lfo_code, lfo_duty, RENDER_LFO_CODES);
     double last = n > 0 ? out[n - 1] : 0.0;
     uint64_t answer = __real_gav_render(GIVEN, score, len, out, n, shelf, words, PEAKS);
-    if (gav_number(answer) == 0) spoil_summary(how, &lent, 0);
+    if (gav_number(answer) == 0) spoil_summary(how, &lent, 0, n);
     if (wrong() == RENDER_TWELVE && gav_number(answer) == 7 && 13 * words == 12 * gav_shelf_words(n))
         return says(0, 0, n);
     if (gav_number(answer) == 0) spoil_render(out, n, shelf);
@@ -195,34 +201,42 @@ uint64_t __wrap_gav_render(SETTINGS, const uint8_t *score, size_t len, double *o
     return answer_of(how, answer, &lent, score, len);
 }
 
-static uint64_t spoil_rerender(uint64_t answer, double *out, size_t n, uint64_t *shelf) {
-    size_t from = n - gav_count(answer);
+static uint64_t spoil_rerender(uint64_t answer, const struct lent_edit *edit, size_t from) {
+    double *out = edit->lent.out;
     if (wrong() == RERENDER_NAN_BEFORE) one_payload(out, from);
     if (wrong() == RERENDER_BEFORE && from > 0) out[from - 1] = 0.25;
-    if (wrong() == RERENDER_OLD_ENTRY && from > 0) shelf[2] ^= 1;
-    return wrong() == RERENDER_COUNT ? says(0, 0, n) : answer;
+    if (wrong() == RERENDER_OLD_ENTRY && from > 0) edit->shelf[2] ^= 1;
+    return wrong() == RERENDER_COUNT ? says(0, 0, edit->lent.n) : answer;
+}
+
+/* A library that is right but for what it is lent, which nothing is written to. */
+static uint64_t rerender_aside(SETTINGS, const struct lent_edit *edit) {
+    static double out[LONGEST], magnitudes[MOST_ENTRIES + 1];
+    static uint64_t shelf[(MOST_ENTRIES + 1) * GAV_STATE_WORDS], numbers[MOST_ENTRIES + 1];
+    const struct lent_summary *lent = &edit->lent;
+    if (lent->words <= COUNT_OF(shelf)) memcpy(shelf, edit->shelf, lent->words * sizeof *shelf);
+    return __real_gav_rerender(GIVEN, edit->old, edit->old_len, edit->new_, edit->new_len, out, lent->n, shelf,
+                               lent->words, magnitudes, lent->magnitudes_len, numbers, lent->numbers_len);
 }
 
 uint64_t __wrap_gav_rerender(SETTINGS, const uint8_t *old, size_t old_len, const uint8_t *new_, size_t new_len,
                              double *out, size_t n, uint64_t *shelf, size_t words, SUMMARY) {
-    static double spare[LONGEST], peaks[MOST_ENTRIES + 1];
-    static uint64_t entries[(MOST_ENTRIES + 1) * GAV_STATE_WORDS], places[MOST_ENTRIES + 1];
-    const struct lent_summary lent = {out, n, words, PEAKS};
+    const struct lent_edit edit = {{GIVEN}, old, new_, old_len, new_len, shelf, {out, n, words, PEAKS}};
+    const struct lent_summary *lent = &edit.lent;
     const enum summary how = wrong_summary(RERENDER_SUMMARIES, SUMMARIES);
-    if (how == BEFORE_SETTINGS && !is_summary(&lent)) return 7;
-    keep_summary(&lent);
-    if (wrong() == RERENDER_NOTHING && words <= COUNT_OF(entries)) {
-        memcpy(entries, shelf, words * sizeof *entries);
-        out = spare, shelf = entries, magnitudes = peaks, numbers = places;
-    }
+    if (how == BEFORE_SETTINGS && !is_summary(lent)) return 7;
+    if (wrong() == RERENDER_NOTHING) return rerender_aside(GIVEN, &edit);
+    if (is_stop_wrong()) return wrong_rerender(wrong_stop(), &edit, rerender_aside(GIVEN, &edit));
+    keep_summary(lent);
     joined = taken_keying(joined, RERENDER_ALL_STRUCK);
     code = taken_code(code, duty, RERENDER_CODES);
     lfo_code = taken_code(lfo_code, lfo_duty, RERENDER_LFO_CODES);
     uint64_t answer = __real_gav_rerender(GIVEN, old, old_len, new_, new_len, out, n, shelf, words, PEAKS);
     if (wrong() == RERENDER_START && gav_number(answer) == 8) return 0;
-    if (gav_number(answer) == 0) spoil_summary(how, &lent, n - gav_count(answer));
-    return gav_number(answer) == 0 ? spoil_rerender(answer, out, n, shelf)
-                                   : answer_of(how, answer, &lent, old, old_len);
+    if (gav_number(answer) != 0) return answer_of(how, answer, lent, old, old_len);
+    size_t from = first_written(&edit, answer);
+    spoil_summary(how, lent, from, from + gav_count(answer));
+    return spoil_rerender(answer, &edit, from);
 }
 
 /* A phase of the LFO that is given, or the one that is taken for it. */

@@ -1,4 +1,4 @@
-/* Wrong summaries: a fault each of a render or a re-render that is otherwise right, for wrong.c. */
+/* Wrong summaries and wrong stops: a fault each of a render or a re-render that is otherwise right, for wrong.c. */
 #ifndef WRONG_H
 #define WRONG_H
 
@@ -50,8 +50,79 @@ struct lent_summary {
 /* Whether the lengths are right; and whether a wrong library takes them all the same. */
 bool is_summary(const struct lent_summary *lent);
 bool is_wrongly_taken(enum summary how, const struct lent_summary *lent);
-/* Keeps what is lent as it comes, before a call that is done; then spoils what it has left, from a sample on. */
+/* Keeps what is lent as it comes, before a call that is done; then spoils what it has left, from a sample to another.
+ */
 void keep_summary(const struct lent_summary *lent);
-void spoil_summary(enum summary how, const struct lent_summary *lent, size_t from);
+void spoil_summary(enum summary how, const struct lent_summary *lent, size_t from, size_t to);
+
+/* In the order in which they are counted. */
+enum stopping {
+    /* Which entry stops. */
+    KEPT_FIRST,                                     /* it is kept before it is compared, and so always equal */
+    NEVER_STOPS,                                    /* none */
+    LAST_EQUAL,                                     /* the last such entry, not the first */
+    ONE_LATER,                                      /* the entry after it */
+    NEXT_LEFT_OUT,                                  /* the entry after the start is not compared */
+    LAST_LEFT_OUT,                                  /* nor is the shelf's last */
+    SCORES_LEFT_OUT,                                /* the scores are not compared */
+    NUMBER_ALONE,                                   /* of the records from there on, how many there are is compared */
+    POSITIONS_ALONE,                                /* their positions are */
+    SILENT_LEFT_OUT,                                /* all but the velocity of an off is */
+    PAST_END_LEFT_OUT,                              /* those past the end are not */
+    MARK_LEFT_OUT,                                  /* those at the entry's own position are not */
+    MARK_AND_BEFORE,                                /* those at the sample before are too */
+    LAST_WRAPS,                                     /* the position after the last difference has 32 bits */
+    MARK_WRAPS,                                     /* the entry after it has */
+    LOWER_OF_TWO,                                   /* at the last difference the lower position counts */
+    OLD_ALONE,                                      /* the old score's does */
+    NEW_ALONE,                                      /* the new score's does */
+    ACTED_COMPARED,                                 /* the records acted are compared */
+    ACTED_OF_OLD,                                   /* they must be those of the old score */
+    AS_NUMBERS,                                     /* floats are compared as numbers, so that -0 is 0 */
+    NO_STATE_STOPS,                                 /* an entry that is no state is taken for equal */
+    WORD_LEFT_OUT,                                  /* thirteen: a word is not compared, of word 5 the low 16 bits */
+    SAMPLES_LEFT = WORD_LEFT_OUT + GAV_STATE_WORDS, /* the samples of the section before the stop are not written */
+    ENTRY_LEFT,                                     /* its entry is not */
+    PEAK_LEFT,                                      /* its peak is not */
+    SAMPLES_MORE,                                   /* the samples of the section from the stop on are written */
+    PEAK_MORE,                                      /* its peak is worked out anew */
+    SAMPLES_CLEARED,                                /* the samples from the stop on are 0 */
+    PEAKS_CLEARED,                                  /* the peaks are */
+    ENTRIES_CLEARED,                                /* the entries are, but for the records acted */
+    /* The records acted of the entries from the stop on. */
+    NOT_RECOUNTED,
+    STOP_ALONE,       /* only the stop's are counted */
+    STOP_PASSED,      /* all but the stop's are */
+    STOPS_COUNT,      /* all get the stop's */
+    BY_DIFFERENCE,    /* the number that came, and the difference of the two scores */
+    LOW_LOST,         /* the low 16 bits are 0 */
+    STATES_ALONE,     /* only those of states are counted */
+    MARK_COUNTED,     /* those at the entry's own position count */
+    ALL_COUNTED,      /* all of the score count */
+    OLD_COUNTED,      /* the old score's are counted */
+    EARLIER_COUNTED,  /* those of the entries before the start are counted too */
+    NOTHING_COUNTED,  /* where nothing is rendered all are counted */
+    COUNT_TO_END,     /* the call's count is to the end */
+    COUNT_FROM_START, /* it is from the output's start */
+    STOPPINGS,
+    STOPS_RIGHT = STOPPINGS
+};
+
+/* What a re-render is given. */
+struct lent_edit {
+    struct gav_settings settings;
+    const uint8_t *old, *new_;
+    size_t old_len, new_len;
+    uint64_t *shelf;
+    struct lent_summary lent;
+};
+
+/* What a re-render with a fault leaves, and its answer; the right one's answer is given. */
+uint64_t wrong_rerender(enum stopping how, const struct lent_edit *edit, uint64_t answer);
+/* The first sample that a re-render with a right answer writes, or the end where it writes nothing. */
+size_t first_written(const struct lent_edit *edit, uint64_t answer);
+
+uint64_t __real_gav_continue(SETTINGS, const uint8_t *score, size_t len, uint64_t *state, size_t state_words,
+                             uint64_t position, double *part, size_t n);
 
 #endif

@@ -26,11 +26,11 @@ void keep_summary(const struct lent_summary *lent) {
     memcpy(came_numbers, lent->numbers, lent->numbers_len * sizeof *came_numbers);
 }
 
-/* The peaks of the sections from one on, by one of the wrong rules or by the right one. */
-static void sum_up(enum summary how, const struct lent_summary *lent, const double *samples, size_t from) {
+/* The peaks of the sections from one on, up to a sample, by one of the wrong rules or by the right one. */
+static void sum_up(enum summary how, const struct lent_summary *lent, const double *samples, size_t from, size_t to) {
     double largest = 0.0;
     uint64_t at = 0;
-    for (size_t i = from * GAV_SECTION; i < lent->n; i++) {
+    for (size_t i = from * GAV_SECTION; i < to; i++) {
         double x = how == LARGEST_SIGNED ? samples[i] : fabs(samples[i]);
         bool is_first = i % GAV_SECTION == 0 && (how != CARRIED || i == from * GAV_SECTION);
         if (is_first) largest = how == LARGEST_SIGNED ? samples[i] : 0.0, at = i;
@@ -63,16 +63,16 @@ static void spoil_section(enum summary how, const struct lent_summary *lent, siz
     if (how == LEFT_ALONE) put_back(lent, section);
 }
 
-void spoil_summary(enum summary how, const struct lent_summary *lent, size_t from) {
-    const size_t start = from / GAV_SECTION, sections = gav_sections(lent->n);
-    if (from == lent->n) {
-        if (how == NOTHING_CHANGES) sum_up(RIGHT, lent, lent->out, 0);
+void spoil_summary(enum summary how, const struct lent_summary *lent, size_t from, size_t to) {
+    const size_t start = from / GAV_SECTION, stop = gav_sections(to), sections = gav_sections(lent->n);
+    if (from == to) {
+        if (how == NOTHING_CHANGES) sum_up(RIGHT, lent, lent->out, 0, lent->n);
         return;
     }
-    if (how == LATER_EQUAL || how == LARGEST_SIGNED || how == CARRIED) sum_up(how, lent, lent->out, start);
-    if (how == STALE) sum_up(RIGHT, lent, came, start);
-    if (how == FROM_ZERO) sum_up(RIGHT, lent, lent->out, 0);
-    if (how == SECTION_BEFORE && start > 0) sum_up(RIGHT, lent, lent->out, start - 1);
-    for (size_t k = start; k < sections; k++) spoil_section(how, lent, k, k == start);
+    if (how == LATER_EQUAL || how == LARGEST_SIGNED || how == CARRIED) sum_up(how, lent, lent->out, start, to);
+    if (how == STALE) sum_up(RIGHT, lent, came, start, to);
+    if (how == FROM_ZERO) sum_up(RIGHT, lent, lent->out, 0, to);
+    if (how == SECTION_BEFORE && start > 0) sum_up(RIGHT, lent, lent->out, start - 1, to);
+    for (size_t k = start; k < stop; k++) spoil_section(how, lent, k, k == start);
     if (how == PAST_THE_END && lent->n % GAV_SECTION == 0) lent->numbers[sections] = lent->n;
 }
