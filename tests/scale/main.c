@@ -1,14 +1,15 @@
 /* scale SEED ROUNDS [FIRST]: compares the library with the original, or with the reference voice where that is not
- * here, over so many rounds from the first on; before round 0 come the re-renders of stops.c. Exit status 1 at the
- * first difference, which is told with its seed and round; and where many rounds had no section of silence, no peak
- * above 1, or none of the re-renders that there must be, and so compared too little. */
+ * here, over so many rounds from the first on; before round 0 come the re-renders of stops.c, which are not counted.
+ * Exit status 1 at the first difference, which is told with its seed and round; and where many rounds had no section of
+ * silence, no peak above 1, or none of some kind of re-render, and so compared too little. */
 #include "scale.h"
 
 #include <inttypes.h>
 #include <stdio.h>
 #include <stdlib.h>
 
-/* So many have both, whatever the seed: one in sixteen is silent, and one in sixteen has peaks above 1. */
+/* So many have some of each, whatever the seed: one in sixteen is silent, one in sixteen has peaks above 1, and of the
+ * re-renders one in seven stops. */
 #define MANY_ROUNDS 1000
 
 static uint64_t read_number(const char *text) {
@@ -50,19 +51,20 @@ static void print_tally(const struct tally *t, uint64_t seed, uint64_t rounds) {
 
 int main(int argc, char **argv) {
     static struct round round;
-    struct tally tally = {0};
+    struct tally given = {0}, tally = {0};
     if (argc < 3 || argc > 4) read_number("");
     if (gav_version() != GAV_VERSION) {
         printf("scale: the library has version %u, the header %u\n", (unsigned)gav_version(), (unsigned)GAV_VERSION);
         return 1;
     }
     uint64_t seed = read_number(argv[1]), rounds = read_number(argv[2]), first = argc > 3 ? read_number(argv[3]) : 0;
-    round.tally = &tally;
     make_buffers(&round.lent);
     make_buffers(&round.expected);
     make_buffers(&round.twins);
+    round.tally = &given;
     start_round(&round, seed, first);
     if (first == 0) run_stops(&round);
+    round.tally = &tally;
     for (uint64_t i = first; i < first + rounds; i++) {
         start_round(&round, seed, i);
         run_round(&round);

@@ -214,7 +214,7 @@ static uint64_t rerender_aside(SETTINGS, const struct lent_edit *edit) {
     static double out[LONGEST], magnitudes[MOST_ENTRIES + 1];
     static uint64_t shelf[(MOST_ENTRIES + 1) * GAV_STATE_WORDS], numbers[MOST_ENTRIES + 1];
     const struct lent_summary *lent = &edit->lent;
-    if (lent->words <= COUNT_OF(shelf)) memcpy(shelf, edit->shelf, lent->words * sizeof *shelf);
+    if (lent->words <= COUNT_OF(shelf)) keep(shelf, edit->shelf, lent->words * sizeof *shelf);
     return __real_gav_rerender(GIVEN, edit->old, edit->old_len, edit->new_, edit->new_len, out, lent->n, shelf,
                                lent->words, magnitudes, lent->magnitudes_len, numbers, lent->numbers_len);
 }

@@ -47,6 +47,11 @@ struct lent_summary {
     size_t numbers_len;
 };
 
+/* Copies what is lent; of a length of 0 the pointer may be null. */
+static inline void keep(void *to, const void *from, size_t bytes) {
+    if (bytes > 0) memcpy(to, from, bytes);
+}
+
 /* Whether the lengths are right; and whether a wrong library takes them all the same. */
 bool is_summary(const struct lent_summary *lent);
 bool is_wrongly_taken(enum summary how, const struct lent_summary *lent);

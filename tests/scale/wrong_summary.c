@@ -21,9 +21,9 @@ bool is_wrongly_taken(enum summary how, const struct lent_summary *lent) {
 
 void keep_summary(const struct lent_summary *lent) {
     if (lent->n > LONGEST) return;
-    memcpy(came, lent->out, lent->n * sizeof *came);
-    memcpy(came_magnitudes, lent->magnitudes, lent->magnitudes_len * sizeof *came_magnitudes);
-    memcpy(came_numbers, lent->numbers, lent->numbers_len * sizeof *came_numbers);
+    keep(came, lent->out, lent->n * sizeof *came);
+    keep(came_magnitudes, lent->magnitudes, lent->magnitudes_len * sizeof *came_magnitudes);
+    keep(came_numbers, lent->numbers, lent->numbers_len * sizeof *came_numbers);
 }
 
 /* The peaks of the sections from one on, up to a sample, by one of the wrong rules or by the right one. */
