@@ -118,9 +118,7 @@ static void same_samples(struct round *r, struct written w) {
     }
 }
 
-/* The peaks that a render or a re-render is due, of the sections that it writes: those of the samples that are
- * expected.
- */
+/* The peaks that a render or a re-render is due in the sections that it writes: of the samples that are expected. */
 static void expect_peaks(struct round *r, struct written w) {
     const size_t first = w.from / GAV_SECTION, end = w.from + w.samples;
     const size_t sections = w.samples > 0 ? gav_sections(end) : first;

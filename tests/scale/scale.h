@@ -154,7 +154,7 @@ size_t rerender(struct round *r, const struct score *new_, const struct heard *d
 /* What is lent is a render of a score from zero, and its summary that of the samples. */
 void same_render(const struct round *r, const struct heard *due);
 
-/* stops.c: re-renders whose stop documents name. */
+/* stops.c: re-renders whose count is known beforehand. */
 void run_stops(struct round *r);
 
 #endif

@@ -1,6 +1,5 @@
-/* Re-renders whose start and stop are named in words: which entry is the first that is equal, what counts as a record
- * from there on, and what becomes of the entries behind. Each is made over what the old render left, and over rubbish.
- */
+/* Re-renders whose count is known beforehand: which entry is the first that is equal, what counts as a record from
+ * there on, and what becomes of the entries behind. Each is made over what the old render left, and over rubbish. */
 #include "scale.h"
 
 #include <stdio.h>
@@ -194,7 +193,6 @@ static void run_bit(struct round *r, size_t word, unsigned bit) {
 
 void run_stops(struct round *r) {
     static const unsigned BITS[] = {0, 15, 16, 51, 63};
-
     r->settings = (struct gav_settings)GAV_SETTINGS_DEFAULT;
     for (size_t i = 0; i < COUNT_OF(STOPS); i++) run_stop(r, STOPS + i);
     run_recount(r);

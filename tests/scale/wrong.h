@@ -55,7 +55,7 @@ static inline void keep(void *to, const void *from, size_t bytes) {
 /* Whether the lengths are right; and whether a wrong library takes them all the same. */
 bool is_summary(const struct lent_summary *lent);
 bool is_wrongly_taken(enum summary how, const struct lent_summary *lent);
-/* Keeps what is lent as it comes, before a call that is done; then spoils what it has left, from a sample to another.
+/* Keeps what is lent as it comes, before a call that is done; then spoils what it has left, from one sample to another.
  */
 void keep_summary(const struct lent_summary *lent);
 void spoil_summary(enum summary how, const struct lent_summary *lent, size_t from, size_t to);
