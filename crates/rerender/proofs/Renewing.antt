@@ -2,12 +2,14 @@
 -- what lies before; each entry; and entries of states. Assumes nothing.
 use mathlib.Core.Path.{_≡_, refl, sym, ap, _∙_}
 use mathlib.Core.Bool.{true}
-use mathlib.Core.List.{List, [], _∷_, _++_, append-assoc, append-nil}
+use mathlib.Core.List.{List, _∷_, _++_, append-assoc}
 use Prim.Native.Nat.{ℕ, zero, suc, _+_, _-_, _*_, _/_, _≤_, _<_}
 use native.Mathlib.Nat.{add-zero}
 use native.Mathlib.Omega.{arith}
 use lib.ListN.{length, take, drop, take-append-drop, length-append, length-drop}
-use lib.Seq.{take-at, drop-at, take-all, drop-drop, length-take-le}
+use Rattle.runs.specs.Runs.{listed}
+use Rattle.runs.proofs.Listed.{listed-on}
+use lib.Seq.{take-at, drop-at, drop-drop, length-take-le}
 use borrow.Rule.Slice.PartMut.{putMid, midOf, mid-len, same-len-mid, drop-put}
 use Rattle.score.specs.Below.{countBelow, nextNotBelow, Sorted}
 use Rattle.score.proofs.Ends.{next-cut, next-count}
@@ -18,7 +20,7 @@ use Rattle.spans.proofs.Turns.{take-mid}
 use Rattle.state.specs.declared.State.{State}
 use Rattle.state.specs.Limits.{isState}
 use Rattle.state.specs.ButActed.{SameButActed}
-use Rattle.sections.specs.Outcome.{Buffers, samplesIn, before, onward}
+use Rattle.sections.specs.Outcome.{Buffers, samplesIn, before}
 use Rattle.rerender.specs.Rerender.{recounted, recountedFrom}
 use Rattle.rerender.specs.Inner.{Behind, recountedOn}
 
@@ -95,20 +97,25 @@ pub record Renewed (s : List ℕ) (k : ℕ) (old new : State) : Type 0 where
   pub same : SameButActed old new
   pub acted : new .acted ≡ countBelow s (k * sectionSize)
 
-abbrev pub AllRenewed : List ℕ → ℕ → List State → List State → Type 0
-AllRenewed s k [] [] = Unit
-AllRenewed s k [] (w ∷ ws) = ⊥
-AllRenewed s k (v ∷ vs) [] = ⊥
-AllRenewed s k (v ∷ vs) (w ∷ ws) = Renewed s k v w × AllRenewed s (suc k) vs ws
+listed-first : (f : ℕ → State) (j : ℕ) → listed f (suc j) ≡ f 0 ∷ listed (λ (i : ℕ). f (1 + i)) j
+unfolding listed
+listed-first f j = let e : suc j ≡ 1 + j = omega arith in ap (listed f) e ∙ listed-on f 1 j
 
-pub recounted-shelf : (s : List ℕ) (k : ℕ) (vs ws : List State) → AllRenewed s k vs ws → recounted s k (length vs) (shelfOf vs) ≡ shelfOf ws
-unfolding recounted shelfOf
-recounted-shelf s k [] [] a = refl
-recounted-shelf s k (v ∷ vs) (w ∷ ws) a =
-    let r : Renewed s k v w = a .0 in
-    rw (take-at (entryOf v) (shelfOf vs) entryWords (entry-length v), drop-at (entryOf v) (shelfOf vs) entryWords (entry-length v), recounted-shelf s (suc k) vs ws (a .1), ← r .acted, entry-same v w (r .old-state) (r .new-state) (r .same)) refl
-recounted-shelf s k [] (w ∷ ws) a = absurd a
-recounted-shelf s k (v ∷ vs) [] a = absurd a
+pub recounted-listed : (s : List ℕ) (k j : ℕ) (old new : ℕ → State) → ((i : ℕ) → i < j → Renewed s (k + i) (old i) (new i)) → recounted s k j (shelfOf (listed old j)) ≡ shelfOf (listed new j)
+unfolding recounted listed shelfOf
+recounted-listed s k zero old new h = refl
+recounted-listed s k (suc j) old new h =
+    let r : Renewed s k (old 0) (new 0) = rw (add-zero k) at (h 0 (omega arith)) in
+    let rest = recounted-listed s (suc k) j (λ (i : ℕ). old (1 + i)) (λ (i : ℕ). new (1 + i)) (λ i l. (let e : suc k + i ≡ k + (1 + i) = omega arith in rw e (h (1 + i) (omega arith)))) in
+    rw (
+      listed-first old j,
+      listed-first new j,
+      take-at (entryOf (old 0)) (shelfOf (listed (λ (i : ℕ). old (1 + i)) j)) entryWords (entry-length (old 0)),
+      drop-at (entryOf (old 0)) (shelfOf (listed (λ (i : ℕ). old (1 + i)) j)) entryWords (entry-length (old 0)),
+      rest,
+      ← r .acted,
+      entry-same (old 0) (new 0) (r .old-state) (r .new-state) (r .same),
+    ) refl
 
 -- ---- the buffers
 module _ (s : List ℕ) (k : ℕ) (b : Buffers) (fits : length (b .stored) ≡ entriesFor (samplesIn b) * entryWords) (l : k ≤ entriesFor (samplesIn b)) where

@@ -1,7 +1,7 @@
 -- In a score whose positions never fall, from the first record that is not below a section's first sample, the sections
 -- are what the definitions of `state` make: samples, states, entries, the stop; and at the stop the next record is the
 -- first that is not below it. Assumes nothing.
-use mathlib.Core.Path.{_≡_, refl, ap, _∙_}
+use mathlib.Core.Path.{_≡_, refl, ap}
 use mathlib.Core.Bool.{Bool, true, _&&_}
 use mathlib.Core.List.{List}
 use Prim.Native.Nat.{ℕ, suc, _+_, _-_, _*_, min, _≤_}

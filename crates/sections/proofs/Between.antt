@@ -1,11 +1,13 @@
--- A list with items in place of those from an index up to another: what lies around them, one part more, one item more,
--- and its length. Assumes nothing.
+-- A list in parts, and a list with items in place of those from an index up to another: what lies around them, one part
+-- more, one item more, and its length. Assumes nothing.
 use mathlib.Core.Path.{_≡_, refl, sym, ap, _∙_}
 use mathlib.Core.List.{List, [], _∷_, _++_, append-assoc, append-nil}
+use mathlib.Core.Logic.{_⊎_, inl, inr, ⊎-elim}
 use Prim.Native.Nat.{ℕ, suc, _+_, _-_, _≤_, _<_}
 use native.Mathlib.Omega.{arith}
 use lib.ListN.{length, take, drop, set, take-append-drop, length-append, length-drop, drop-of-length-le}
-use lib.Seq.{take-at, drop-at, take-all, drop-drop, drop-cons, set-at, length-take-le}
+use lib.Seq.{take-at, drop-at, take-add, take-nil, drop-drop, drop-cons, set-at, length-take-le}
+use Rattle.score.proofs.Cuts.{lt-or-ge}
 use borrow.Rule.Slice.PartMut.{putMid}
 use Rattle.sections.specs.Sections.{between}
 
@@ -17,6 +19,23 @@ module _ {A : Type 0} where
   -- where all from index a on is replaced, nothing is kept after it
   pub between-end : (a b : ℕ) (xs ys : List A) → length xs ≤ b → between a b xs ys ≡ take a xs ++ ys
   between-end a b xs ys h = rw (drop-of-length-le xs {i = b} h, append-nil ys) refl
+
+  -- k items from index a on
+  pub drop-take : (a k : ℕ) (xs : List A) → drop a (take (a + k) xs) ≡ take k (drop a xs)
+  drop-take a k xs =
+      ⊎-elim (λ l. ap (drop a) (take-add a k xs) ∙ drop-at (take a xs) (take k (drop a xs)) a (length-take-le a xs l))
+      (λ l. drop-of-length-le (take (a + k) xs) {i = a} (omega (arith, length-take-le-of xs (a + k))) ∙ sym (ap (take k) (drop-of-length-le xs {i = a} (omega arith)) ∙ take-nil k))
+      (le-or-gt a (length xs))
+    where
+      le-or-gt : (a b : ℕ) → (a ≤ b) ⊎ (b < a)
+      le-or-gt a b = ⊎-elim (λ l. inr l) (λ l. inl l) (lt-or-ge b a)
+
+      length-take-le-of : (xs : List A) (n : ℕ) → length (take n xs) ≤ length xs
+      length-take-le-of xs n = omega (arith, length-append (take n xs) (drop n xs), ap length (take-append-drop n xs))
+
+  -- what lies from index a on, in two parts
+  pub in-parts : (a k : ℕ) (xs : List A) → drop a xs ≡ drop a (take (a + k) xs) ++ drop (a + k) xs
+  in-parts a k xs = rw (drop-take a k xs, ← drop-drop k a xs) (sym (take-append-drop k (drop a xs)))
 
   module _ (a b : ℕ) (xs ys : List A) (h : a ≤ length xs) (e : a + length ys ≡ b) where
     in-two : between a b xs ys ≡ (take a xs ++ ys) ++ drop b xs

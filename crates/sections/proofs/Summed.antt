@@ -6,8 +6,8 @@ use mathlib.Core.Logic.{⊎-elim}
 use Prim.Native.Nat.{ℕ, suc, _+_, _-_, _*_, _<_, _≤_}
 use native.Mathlib.Nat.{zero-add}
 use native.Mathlib.Omega.{arith}
-use lib.ListN.{length, take, drop, set, take-append-drop, length-drop, length-append}
-use lib.Seq.{take-all, take-at, drop-at, drop-append-le, take-append-le, drop-drop, take-suc-set, length-take-le}
+use lib.ListN.{length, take, drop, set}
+use lib.Seq.{take-all, take-at, drop-at, drop-drop, take-take}
 use lib.Ieee.{Float}
 use Rattle.score.proofs.Cuts.{lt-or-ge}
 use Rattle.runs.specs.Runs.{listed}
@@ -17,7 +17,7 @@ use Rattle.peaks.specs.Peaks.{peakOf}
 use Rattle.shelf.specs.Shelf.{sectionSize}
 use Rattle.sections.specs.Summary.{sectionOf, largest, firstNumber, saidFrom, summaryFrom}
 use Rattle.sections.specs.Sections.{between, summedBetween}
-use Rattle.sections.proofs.Between.{between-set}
+use Rattle.sections.proofs.Between.{between-set, drop-take}
 
 -- ---- a section
 -- the section that stands between A and C is ys, where ys is whole or nothing follows
@@ -33,11 +33,12 @@ section-on xs m j =
     let e : (m + j) * sectionSize ≡ m * sectionSize + j * sectionSize = omega arith in
     rw e (ap (take sectionSize) (sym (drop-drop (j * sectionSize) (m * sectionSize) xs)))
 
--- the sections before section m are those of the samples before it
-section-before : (xs ys : List Float) (m j : ℕ) → m * sectionSize ≡ length xs → j < m → sectionOf (xs ++ ys) j ≡ sectionOf xs j
-section-before xs ys m j e l =
-    rw (drop-append-le (j * sectionSize) xs ys (omega (arith, e)))
-    (take-append-le sectionSize (drop (j * sectionSize) xs) ys (omega (arith, e, length-drop (j * sectionSize) xs)))
+-- the sections before section e lie before its first sample
+section-in-front : (xs : List Float) (e j : ℕ) → j < e → sectionOf xs j ≡ sectionOf (take (e * sectionSize) xs) j
+section-in-front xs e j l =
+    let d : j * sectionSize + (e - j) * sectionSize ≡ e * sectionSize = omega arith in
+    let c : sectionSize ≤ (e - j) * sectionSize = omega arith in
+    sym (ap (take sectionSize) (ap (λ (i : ℕ). drop (j * sectionSize) (take i xs)) (sym d) ∙ drop-take (j * sectionSize) ((e - j) * sectionSize) xs) ∙ take-take sectionSize ((e - j) * sectionSize) (drop (j * sectionSize) xs) c)
 
 module _ {A : Type 0} (f : ℕ → Peak → A) where
   pub said-length : (xs : List Float) (m k : ℕ) → length (saidFrom f xs m k) ≡ k
@@ -71,42 +72,40 @@ module _ {A : Type 0} (f : ℕ → Peak → A) where
   pub said-rest : (xs : List Float) (m n : ℕ) → m ≤ n → drop m (saidFrom f xs 0 n) ≡ saidFrom f xs m (n - m)
   said-rest xs m n l = ap (drop m) (said-cut xs m n l) ∙ drop-at (saidFrom f xs 0 m) (saidFrom f xs m (n - m)) m (said-length xs 0 m)
 
-  -- what is said of the sections before section e depends on the samples before it
-  said-before : (xs ys : List Float) (m k e : ℕ) → m + k ≡ e → e * sectionSize ≡ length xs → saidFrom f (xs ++ ys) m k ≡ saidFrom f xs m k
+  said-front : (xs : List Float) (m k e : ℕ) → m + k ≡ e → saidFrom f xs m k ≡ saidFrom f (take (e * sectionSize) xs) m k
   unfolding saidFrom
-  said-before xs ys m k e is h = listed-same _ _ k (λ j l. ap (λ (zs : List Float). f (m + j) (peakOf zs)) (section-before xs ys e (m + j) h (omega arith)))
+  said-front xs m k e is = listed-same _ _ k (λ j l. ap (λ (zs : List Float). f (m + j) (peakOf zs)) (section-in-front xs e (m + j) (omega arith)))
 
-  -- samples that are the same before section e say the same of the sections from section m up to e
-  pub said-shared : (xs ys : List Float) (m k e : ℕ) → m + k ≡ e → e * sectionSize ≤ length xs → e * sectionSize ≤ length ys → take (e * sectionSize) xs ≡ take (e * sectionSize) ys → saidFrom f xs m k ≡ saidFrom f ys m k
-  said-shared xs ys m k e is h l same = of-front xs h ∙ ap (λ (zs : List Float). saidFrom f zs m k) same ∙ sym (of-front ys l)
-    where
-      of-front : (zs : List Float) → e * sectionSize ≤ length zs → saidFrom f zs m k ≡ saidFrom f (take (e * sectionSize) zs) m k
-      of-front zs l =
-          ap (λ (ws : List Float). saidFrom f ws m k) (sym (take-append-drop (e * sectionSize) zs))
-          ∙ said-before (take (e * sectionSize) zs) (drop (e * sectionSize) zs) m k e is (sym (length-take-le (e * sectionSize) zs l))
+  -- samples that are the same before section e say the same of the sections before it
+  pub said-shared : (xs ys : List Float) (m k e : ℕ) → m + k ≡ e → take (e * sectionSize) xs ≡ take (e * sectionSize) ys → saidFrom f xs m k ≡ saidFrom f ys m k
+  said-shared xs ys m k e is same = said-front xs m k e is ∙ ap (λ (zs : List Float). saidFrom f zs m k) same ∙ sym (said-front ys m k e is)
+
+  -- samples that are the same from section m up to section e say the same of these sections
+  pub said-part : (xs ys : List Float) (m k e : ℕ) → m + k ≡ e → drop (m * sectionSize) (take (e * sectionSize) xs) ≡ drop (m * sectionSize) (take (e * sectionSize) ys) → saidFrom f xs m k ≡ saidFrom f ys m k
+  said-part xs ys m k e is same = said-front xs m k e is ∙ said-alike (take (e * sectionSize) xs) (take (e * sectionSize) ys) m k same ∙ sym (said-front ys m k e is)
 
   -- samples that changed from section m up to section e: what was said of the others stays right
-  pub said-right : (xs ys : List Float) (m e n : ℕ) → m ≤ e → e ≤ n → m * sectionSize ≤ length xs → m * sectionSize ≤ length ys → take (m * sectionSize) xs ≡ take (m * sectionSize) ys → drop (e * sectionSize) xs ≡ drop (e * sectionSize) ys
+  pub said-right : (xs ys : List Float) (m e n : ℕ) → m ≤ e → e ≤ n → take (m * sectionSize) xs ≡ take (m * sectionSize) ys → drop (e * sectionSize) xs ≡ drop (e * sectionSize) ys
       → between m e (saidFrom f xs 0 n) (saidFrom f ys m (e - m)) ≡ saidFrom f ys 0 n
-  said-right xs ys m e n l u hx hy front rest =
+  said-right xs ys m e n l u front rest =
       let d : n - m ≡ e - m + (n - e) = omega arith in
       let c : m + (e - m) ≡ e = omega arith in
-      let first : take m (saidFrom f xs 0 n) ≡ saidFrom f ys 0 m = said-first xs m n (omega arith) ∙ said-shared xs ys 0 m m (omega arith) hx hy front in
+      let first : take m (saidFrom f xs 0 n) ≡ saidFrom f ys 0 m = said-first xs m n (omega arith) ∙ said-shared xs ys 0 m m (omega arith) front in
       let last : drop e (saidFrom f xs 0 n) ≡ saidFrom f ys e (n - e) = said-rest xs e n u ∙ said-alike xs ys e (n - e) rest in
       rw (first, last) (sym (said-cut ys m n (omega arith) ∙ ap (λ (i : ℕ). saidFrom f ys 0 m ++ saidFrom f ys m i) d
       ∙ ap (λ (zs : List A). saidFrom f ys 0 m ++ zs) (said-on ys m (e - m) (n - e) ∙ ap (λ (i : ℕ). saidFrom f ys m (e - m) ++ saidFrom f ys i (n - e)) c)))
 
   -- ---- a turn of the loop over the sections: section k of the new samples has its say
-  pub said-turn : (xs ys : List Float) (m k : ℕ) (came now : List A) (v : A) → m ≤ k → k < length came → k * sectionSize ≤ length xs → k * sectionSize ≤ length ys → take (k * sectionSize) xs ≡ take (k * sectionSize) ys
+  pub said-turn : (xs ys : List Float) (m k : ℕ) (came now : List A) (v : A) → m ≤ k → k < length came → take (k * sectionSize) xs ≡ take (k * sectionSize) ys
       → now ≡ between m k came (saidFrom f xs m (k - m)) → v ≡ f k (peakOf (sectionOf ys k)) → set now k v ≡ between m (k + 1) came (saidFrom f ys m (k + 1 - m))
-  said-turn xs ys m k came now v l h hx hy front e is =
+  said-turn xs ys m k came now v l h front e is =
       let b : k + 1 - m ≡ suc (k - m) = omega arith in
       let c : m + (k - m) ≡ k = omega arith in
-      let same : saidFrom f xs m (k - m) ≡ saidFrom f ys m (k - m) = said-shared xs ys m (k - m) k c hx hy front in
+      let same : saidFrom f xs m (k - m) ≡ saidFrom f ys m (k - m) = said-shared xs ys m (k - m) k c front in
       ap (λ (zs : List A). set zs k v) e ∙ between-set m k came (saidFrom f xs m (k - m)) (omega arith) (ap (λ (i : ℕ). m + i) (said-length xs m (k - m)) ∙ c) v h
       ∙ rw (b, said-more ys m (k - m), c, ← is, same) refl
 
 -- the summary that was right, with the sections from section m up to section e worked out anew, is right
-pub summed-right : (xs ys : List Float) (m e n : ℕ) → m ≤ e → e ≤ n → m * sectionSize ≤ length xs → m * sectionSize ≤ length ys → take (m * sectionSize) xs ≡ take (m * sectionSize) ys → drop (e * sectionSize) xs ≡ drop (e * sectionSize) ys
+pub summed-right : (xs ys : List Float) (m e n : ℕ) → m ≤ e → e ≤ n → take (m * sectionSize) xs ≡ take (m * sectionSize) ys → drop (e * sectionSize) xs ≡ drop (e * sectionSize) ys
     → summedBetween m e (summaryFrom xs 0 n) (summaryFrom ys m (e - m)) ≡ summaryFrom ys 0 n
-summed-right xs ys m e n l u hx hy front rest = rw (said-right largest xs ys m e n l u hx hy front rest, said-right firstNumber xs ys m e n l u hx hy front rest) refl
+summed-right xs ys m e n l u front rest = rw (said-right largest xs ys m e n l u front rest, said-right firstNumber xs ys m e n l u front rest) refl

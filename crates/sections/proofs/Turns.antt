@@ -247,12 +247,12 @@ module _ (g : Settings) (s : List ℕ) (m : ℕ) (p : Place) (quiet : ℕ) (b : 
 
         pub turn-largests : magnitudes′ ≡ between m (k + 1) (b .summary .magnitudes) (saidFrom largest out′ m (k + 1 - m))
         turn-largests =
-            said-turn largest out out′ m k (b .summary .magnitudes) magnitudes (q .magnitude) (w .past) (omega (arith, room-magnitudes, w .len-magnitudes)) (omega (arith, begins)) (omega (arith, begins, long)) front-stays
+            said-turn largest out out′ m k (b .summary .magnitudes) magnitudes (q .magnitude) (w .past) (omega (arith, room-magnitudes, w .len-magnitudes)) front-stays
             (w .largests) (ap (λ (p : Peak). p .magnitude) turn-peak)
 
         pub turn-firsts : numbers′ ≡ between m (k + 1) (b .summary .numbers) (saidFrom firstNumber out′ m (k + 1 - m))
         turn-firsts =
-            said-turn firstNumber out out′ m k (b .summary .numbers) numbers (sample + q .offset) (w .past) (omega (arith, room-numbers, w .len-numbers)) (omega (arith, begins)) (omega (arith, begins, long)) front-stays
+            said-turn firstNumber out out′ m k (b .summary .numbers) numbers (sample + q .offset) (w .past) (omega (arith, room-numbers, w .len-numbers)) front-stays
             (w .firsts) (ap (λ (i : ℕ). i + q .offset) begins ∙ ap (λ (p : Peak). k * sectionSize + p .offset) turn-peak)
 
         pub walk-on : Walked g s m p quiet b out′ shelf′ magnitudes′ numbers′ r (k + 1) e

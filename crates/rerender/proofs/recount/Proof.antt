@@ -1,9 +1,8 @@
 -- `rerender::recount` meets its contract. The loop's invariant is `Recounting` of proofs/Renewing.antt. Assumes nothing.
 use borrow.Author.Needs.{needs}
 use mathlib.Core.Path.{_≡_}
-use Prim.Native.Nat.{_+_, _-_, _*_, _/_}
+use Prim.Native.Nat.{_+_, _-_, _*_}
 use native.Mathlib.Omega.{arith}
-use lib.ListN.{length}
 use Rattle.shelf.specs.Shelf.{entryWords}
 use Rattle.rerender.proofs.Renewing.{Recounting, recount-first, recount-last, within, recount-on}
 use Rattle.rerender.proofs.recount.Statement.{statement}
