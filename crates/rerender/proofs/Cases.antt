@@ -6,14 +6,15 @@ use mathlib.Core.Logic.{⊎-elim}
 use Prim.Native.Nat.{ℕ, suc, _+_, _-_, _*_, _/_, min, _≤_, _<_}
 use native.Mathlib.Omega.{arith}
 use lib.Dec.{ltb, leb, eqb}
-use lib.ListN.{length, take}
+use lib.ListN.{length, take, drop}
+use lib.Seq.{drop-drop}
 use lib.Ieee.{Float}
 use borrow.Author.Tests.{lt-ltb, le-ltb, ltb-true, le-leb, lt-leb, eqb-true}
 use Rattle.runs.proofs.First.{first-same}
 use Rattle.sections.specs.declared.End.{End}
 use Rattle.sections.specs.Outcome.{Buffers, lends, samplesIn, roomIn, Lent, before, onward, Outcome, leaves}
 use Rattle.sections.specs.Summary.{largest, firstNumber, saidFrom}
-use Rattle.sections.specs.Sections.{madeBetween, playOnOf}
+use Rattle.sections.specs.Sections.{madeBetween, stopWhere, playOnOf}
 use Rattle.sections.proofs.Room.{in-room, earlier, later-words}
 use Rattle.sections.proofs.Made.{Stop, stop-is, made-samples, made-words, made-lent, made-before, made-after, made-between}
 use Rattle.sections.proofs.Agrees.{Made}
@@ -249,6 +250,21 @@ module _ (g : Settings) (old new : List ℕ) (m : ℕ) (b : Buffers) where
     left-entry j h u =
         renewed-entry new k made (made-fits .fits) stop-within j h (rw made-long u)
         ∙ ap (λ (ws : List ℕ). withCount (take entryWords ws) (countBelow new (j * sectionSize))) (later-words k j made b h came-after)
+
+-- ---- what the stop depends on
+-- words that are the same from entry m on hold the same later entries
+pub later-entry : (m k : ℕ) (xs ys : List ℕ) → m ≤ k → drop (m * entryWords) xs ≡ drop (m * entryWords) ys → entryAt xs k ≡ entryAt ys k
+later-entry m k xs ys l h =
+    let d : k * entryWords ≡ m * entryWords + (k - m) * entryWords = omega arith in
+    rw (d, ← drop-drop ((k - m) * entryWords) (m * entryWords) xs, ← drop-drop ((k - m) * entryWords) (m * entryWords) ys, h) refl
+
+-- the number of samples and the entries from section m on, beside settings and scores
+pub stop-alone : (g : Settings) (old new : List ℕ) (m : ℕ) (b c : Buffers) → samplesIn b ≡ samplesIn c → drop (m * entryWords) (b .stored) ≡ drop (m * entryWords) (c .stored) → stopOf g old new m b ≡ stopOf g old new m c
+unfolding stopOf
+stop-alone g old new m b c long same =
+    ap (stopWhere (isSettled g old new m (b .stored)) m) long
+    ∙ ap (λ (k : ℕ). min (k * sectionSize) (samplesIn c)) (first-same (isSettled g old new m (b .stored)) (isSettled g old new m (c .stored)) (entriesFor (samplesIn c) - suc m) (suc m)
+    (λ k l u. rw (later-entry m m (b .stored) (c .stored) (omega arith) same, later-entry m k (b .stored) (c .stored) (omega arith) same) refl))
 
 -- ---- the call
 -- what is refused before the plan is made, and what the code answers then
