@@ -4,12 +4,14 @@ use mathlib.Core.Path.{_≡_, refl, sym, ap, _∙_}
 use mathlib.Core.List.{List, _++_}
 use Prim.Native.Nat.{ℕ, _+_, _-_, _*_, _≤_, _<_}
 use native.Mathlib.Omega.{arith}
-use lib.ListN.{length, take, drop, take-append-drop}
+use lib.ListN.{length, take, drop, take-append-drop, drop-of-length-le}
 use lib.Seq.{take-at, drop-at, take-add, take-take, drop-drop, take-append-le, drop-append-le, length-take-le, length-front}
+use lib.Ieee.{Float}
 use Rattle.shelf.specs.Shelf.{sectionSize, entryWords, entriesFor, wordsFor}
 use Rattle.judging.specs.Judging.{mostSamples}
 use Rattle.sections.specs.Outcome.{Buffers, lends, samplesIn, Lent, before, onward}
 use Rattle.sections.proofs.Room.{same-buffers}
+use Rattle.sections.proofs.Between.{in-parts}
 
 module _ {A : Type 0} where
   -- the first k items of xs, then ys
@@ -43,11 +45,22 @@ module _ {A : Type 0} where
       ∙ sym (drop-append-le k (take j ys) (drop j ys) (omega (arith, length-take-le j ys ly)))
       ∙ ap (drop k) (take-append-drop j ys)
 
+  -- lists that are the same from index k up to index j and from j on are the same from k on
+  pub rejoin : (k j : ℕ) (xs ys : List A) → k ≤ j → drop k (take j xs) ≡ drop k (take j ys) → drop j xs ≡ drop j ys → drop k xs ≡ drop k ys
+  rejoin k j xs ys h e f = parts xs ∙ rw (e, f) (sym (parts ys))
+    where
+      parts : (zs : List A) → drop k zs ≡ drop k (take j zs) ++ drop j zs
+      parts zs = let d : k + (j - k) ≡ j = omega arith in rw d at (in-parts k (j - k) zs)
+
   -- lists that are the same from index k on are the same from any later index on
-  later : (k j : ℕ) (xs zs : List A) → k ≤ j → drop k xs ≡ drop k zs → drop j xs ≡ drop j zs
+  pub later : (k j : ℕ) (xs zs : List A) → k ≤ j → drop k xs ≡ drop k zs → drop j xs ≡ drop j zs
   later k j xs zs h e =
       let d : j ≡ k + (j - k) = omega arith in
       ap (λ (i : ℕ). drop i xs) d ∙ sym (drop-drop (j - k) k xs) ∙ ap (drop (j - k)) e ∙ drop-drop (j - k) k zs ∙ ap (λ (i : ℕ). drop i zs) (sym d)
+
+-- buffers of the same parts
+pub same-lends : {xs ys : List Float} {us vs : List ℕ} {ms ns : List Float} {is js : List ℕ} → xs ≡ ys → us ≡ vs → ms ≡ ns → is ≡ js → lends xs us ms is ≡ lends ys vs ns js
+same-lends a b c d = rw (a, b, c, d) refl
 
 -- ---- buffers of n samples
 pub record Sized (n : ℕ) (b : Buffers) : Type 0 where
@@ -63,6 +76,20 @@ pub sized-lent : (n : ℕ) (b : Buffers) → n ≤ mostSamples → Sized n b →
 sized-lent n b h z =
     let e : n ≡ samplesIn b = sym (z .long) in
     record { short = omega (arith, h, e); fits = z .fits ∙ ap wordsFor e; magnitudes-fit = z .magnitudes-fit ∙ ap entriesFor e; numbers-fit = z .numbers-fit ∙ ap entriesFor e }
+
+-- past the last section there is nothing
+pub cut-none : (n : ℕ) (b c : Buffers) → Sized n b → Sized n c → onward (entriesFor n) b ≡ onward (entriesFor n) c
+cut-none n b c x y =
+    rw (
+      none (entriesFor n * sectionSize) (b .heard) (c .heard) (omega (arith, x .long)) (omega (arith, y .long)),
+      none (entriesFor n * entryWords) (b .stored) (c .stored) (omega (arith, x .fits)) (omega (arith, y .fits)),
+      none (entriesFor n) (b .summary .magnitudes) (c .summary .magnitudes) (omega (arith, x .magnitudes-fit)) (omega (arith, y .magnitudes-fit)),
+      none (entriesFor n) (b .summary .numbers) (c .summary .numbers) (omega (arith, x .numbers-fit)) (omega (arith, y .numbers-fit)),
+    )
+    refl
+  where
+    none : {A : Type 0} (k : ℕ) (xs ys : List A) → length xs ≤ k → length ys ≤ k → drop k xs ≡ drop k ys
+    none k xs ys h l = drop-of-length-le xs {i = k} h ∙ sym (drop-of-length-le ys {i = k} l)
 
 -- what lies before section m of b, then what lies from section m on of c
 abbrev pub overAt : ℕ → Buffers → Buffers → Buffers
@@ -124,9 +151,23 @@ module _ (n m : ℕ) (there : m < entriesFor n) (b c : Buffers) (x : Sized n b) 
         )
         refl
 
--- words that are the same from section k on are the same from any later section on
-pub cut-later : (k m : ℕ) (b z : Buffers) → k ≤ m → onward k b ≡ onward k z → drop (m * entryWords) (b .stored) ≡ drop (m * entryWords) (z .stored)
-cut-later k m b z h e = later (k * entryWords) (m * entryWords) (b .stored) (z .stored) (omega arith) (ap (λ (d : Buffers). d .stored) e)
+-- buffers that are the same from section k on are the same from any later section on
+pub cut-later : (k m : ℕ) (b z : Buffers) → k ≤ m → onward k b ≡ onward k z → onward m b ≡ onward m z
+cut-later k m b z h e =
+    same-lends
+    (later (k * sectionSize) (m * sectionSize) (b .heard) (z .heard) (omega arith) (ap (λ (d : Buffers). d .heard) e))
+    (later (k * entryWords) (m * entryWords) (b .stored) (z .stored) (omega arith) (ap (λ (d : Buffers). d .stored) e))
+    (later k m (b .summary .magnitudes) (z .summary .magnitudes) h (ap (λ (d : Buffers). d .summary .magnitudes) e))
+    (later k m (b .summary .numbers) (z .summary .numbers) h (ap (λ (d : Buffers). d .summary .numbers) e))
+
+-- what lies from section m up to section k and what lies from section k on are all from section m on
+pub cut-onward : (m k : ℕ) (b c : Buffers) → m ≤ k → onward m (before k b) ≡ onward m (before k c) → onward k b ≡ onward k c → onward m b ≡ onward m c
+cut-onward m k b c h e f =
+    same-lends
+    (rejoin (m * sectionSize) (k * sectionSize) (b .heard) (c .heard) (omega arith) (ap (λ (d : Buffers). d .heard) e) (ap (λ (d : Buffers). d .heard) f))
+    (rejoin (m * entryWords) (k * entryWords) (b .stored) (c .stored) (omega arith) (ap (λ (d : Buffers). d .stored) e) (ap (λ (d : Buffers). d .stored) f))
+    (rejoin m k (b .summary .magnitudes) (c .summary .magnitudes) h (ap (λ (d : Buffers). d .summary .magnitudes) e) (ap (λ (d : Buffers). d .summary .magnitudes) f))
+    (rejoin m k (b .summary .numbers) (c .summary .numbers) h (ap (λ (d : Buffers). d .summary .numbers) e) (ap (λ (d : Buffers). d .summary .numbers) f))
 
 -- what lies before section m and what lies from it on are all that there is
 pub cut-whole : (m : ℕ) (b c : Buffers) → before m b ≡ before m c → onward m b ≡ onward m c → b ≡ c

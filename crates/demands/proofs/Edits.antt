@@ -36,60 +36,13 @@ use Rattle.state.proofs.Entries.{entries-on, entries-length}
 use Rattle.state.proofs.Depends.{Shared, samples-shared, entries-shared, differing-shared}
 use Rattle.judging.specs.Judging.{mostSamples}
 use Rattle.rerender.specs.declared.Plan.the-variants.{Nothing}
-use Rattle.rerender.specs.Rerender.{planOf, entryAt, countFor, rerenderOf}
-use Rattle.rerender.proofs.Cases.{plan-equal, plan-late, plan-from, checks-pass}
+use Rattle.rerender.specs.Rerender.{planOf, stopOf, countFor, rerenderOf}
+use Rattle.rerender.proofs.Cases.{plan-equal, plan-late, plan-from, checks-pass, stop-alone}
 use Rattle.demands.specs.Demand3.{Taken, Edit, BuffersOf, leftIn}
 use Rattle.demands.specs.Edits.{editsFrom, lastScore, allCounted, AllTaken, NoneBefore, Editing, Edited, EditedWhole, AnyEdits}
-use Rattle.demands.proofs.Demand3.{soundOf, shelvedOf, wholeOf, atSection, entry-left, checked, demand-3, left-is, from-section}
+use Rattle.demands.proofs.Demand3.{checked, demand-3, from-section}
 use Rattle.demands.proofs.Cut.{Sized, lent-sized, sized-lent, overAt, cut-front, cut-sized, cut-back, cut-later}
-
--- ---- the first samples and entries of a render
-module _ (g : Settings) (s : List ℕ) (n : ℕ) where
-  -- the first k samples of a render of n are a render of k
-  pub sound-front : (k : ℕ) → k ≤ n → take k (soundOf g s n) ≡ soundOf g s k
-  sound-front k h =
-      let d : n ≡ k + (n - k) = omega arith in
-      ap (λ (i : ℕ). take k (soundOf g s i)) d ∙ ap (take k) (samples-on g s 0 (freshOf 0) k (n - k))
-      ∙ take-at (soundOf g s k) (samplesFrom g s (0 + k) (stateFrom g s 0 (freshOf 0) k) (n - k)) k (samples-length g s 0 (freshOf 0) k)
-
-  -- the first m entries of a render are the entries of sections 0 to m - 1
-  pub shelf-front : (m : ℕ) → m ≤ entriesFor n → take (m * entryWords) (shelvedOf g s n) ≡ shelfOf (entriesFrom g s 0 (freshOf 0) m)
-  shelf-front m h =
-      let k = entriesFor n - m in
-      let d : entriesFor n ≡ m + k = omega arith in
-      let front = entriesFrom g s 0 (freshOf 0) m in
-      let back = entriesFrom g s (0 + m) (atSection g s m) k in
-      ap (λ (i : ℕ). take (m * entryWords) (shelfOf (entriesFrom g s 0 (freshOf 0) i))) d
-      ∙ ap (λ (vs : List State). take (m * entryWords) (shelfOf vs)) (entries-on g s 0 (freshOf 0) m k)
-      ∙ ap (take (m * entryWords)) (shelf-append front back)
-      ∙ take-at (shelfOf front) (shelfOf back) (m * entryWords) (shelf-length front ∙ ap (λ (i : ℕ). i * entryWords) (entries-length g s 0 (freshOf 0) m))
-
-  pub sound-length : length (soundOf g s n) ≡ n
-  sound-length = samples-length g s 0 (freshOf 0) n
-
-  pub shelved-length : length (shelvedOf g s n) ≡ wordsFor n
-  shelved-length = shelf-length (entriesFrom g s 0 (freshOf 0) (entriesFor n)) ∙ ap (λ (i : ℕ). i * entryWords) (entries-length g s 0 (freshOf 0) (entriesFor n))
-
-  -- what is said of the sections before section m is what is said of a render of those alone
-  said-front : {A : Type 0} (f : ℕ → Peak → A) (m : ℕ) → m * sectionSize ≤ n → take m (saidFrom f (soundOf g s n) 0 (entriesFor (length (soundOf g s n)))) ≡ saidFrom f (soundOf g s (m * sectionSize)) 0 m
-  said-front f m h =
-      said-first f (soundOf g s n) m (entriesFor (length (soundOf g s n))) (omega (arith, h, sound-length))
-      ∙ said-shared f (soundOf g s n) (soundOf g s (m * sectionSize)) m (omega (arith, h, sound-length)) (omega (arith, samples-length g s 0 (freshOf 0) (m * sectionSize)))
-      (sound-front (m * sectionSize) h ∙ sym (take-all (m * sectionSize) (soundOf g s (m * sectionSize)) (omega (arith, samples-length g s 0 (freshOf 0) (m * sectionSize)))))
-
-  -- before section m, what a render leaves hangs on the samples and entries before it
-  pub front-is : (m : ℕ) → m * sectionSize ≤ n → m ≤ entriesFor n
-      → before m (wholeOf g s n) ≡ lends (soundOf g s (m * sectionSize)) (shelfOf (entriesFrom g s 0 (freshOf 0) m)) (saidFrom largest (soundOf g s (m * sectionSize)) 0 m) (saidFrom firstNumber (soundOf g s (m * sectionSize)) 0 m)
-  front-is m h l = rw (said-front largest m h, said-front firstNumber m h, sound-front (m * sectionSize) h, shelf-front m l) refl
-
-  pub whole-sized : Sized n (wholeOf g s n)
-  whole-sized =
-      record {
-        long = sound-length;
-        fits = shelved-length;
-        magnitudes-fit = said-length largest (soundOf g s n) 0 (entriesFor (length (soundOf g s n))) ∙ ap entriesFor sound-length;
-        numbers-fit = said-length firstNumber (soundOf g s n) 0 (entriesFor (length (soundOf g s n))) ∙ ap entriesFor sound-length;
-      }
+use Rattle.demands.proofs.Whole.{soundOf, shelvedOf, wholeOf, whole-sized, sound-length, left-is, front-is}
 
 -- ---- one edit
 -- from section k on, the buffers hold what a render of s leaves, in n samples
@@ -107,10 +60,10 @@ module _ (g : Settings) (old new : List ℕ) (x : Edit g old new) (n : ℕ) (sho
   lent : Lent b
   lent = sized-lent n b short (h .sized)
 
-  -- the call is done with the count of its plan, leaves from section k on what a render of the new score leaves, and
+  -- the call is done with the count that its plan has after a render of the old score, leaves from section k on what a render of the new score leaves, and
   -- before section k what came
   pub record OneEdit (o : Outcome Answer) : Type 0 where
-    pub counted : o .result ≡ Done (countFor g old new (planOf old new n) n)
+    pub counted : o .result ≡ Done (countFor g old new (planOf old new n) (wholeOf g old n))
     pub holds : Holds g new n k (o .left)
     pub stays : before k (o .left) ≡ before k b
 
@@ -140,11 +93,13 @@ module _ (g : Settings) (old new : List ℕ) (x : Edit g old new) (n : ℕ) (sho
       let alike : soundOf g old (m * sectionSize) ≡ soundOf g new (m * sectionSize) = samples-shared old new (m * sectionSize) (countBelow old (m * sectionSize)) s g 0 (freshOf 0) (m * sectionSize) (omega arith) in
       let entries : entriesFrom g old 0 (freshOf 0) m ≡ entriesFrom g new 0 (freshOf 0) m = entries-shared old new (m * sectionSize) (countBelow old (m * sectionSize)) s g 0 (freshOf 0) m (λ i l. omega arith) in
       let same : before m (wholeOf g old n) ≡ before m (wholeOf g new n) = front-is g old n m (omega arith) (omega arith) ∙ rw (alike, entries) refl ∙ sym (front-is g new n m (omega arith) (omega arith)) in
-      let honestly : entryAt (b .stored) m ≡ entryOf (atSection g old m) = ap (take entryWords) (cut-later k m b (wholeOf g old n) (omega arith) (h .holds)) ∙ entry-left g old n m there in
-      let d : call ≡ leaves (Done (n - m * sectionSize)) (overAt m b (wholeOf g new n)) = rw long at (demand-3 g old new x p e b lent (omega (arith, long)) honestly) in
+      -- from section m on the buffers hold what the old render left, so the call stops where it would stop in those
+      let onwards : onward m b ≡ onward m (wholeOf g old n) = cut-later k m b (wholeOf g old n) (omega arith) (h .holds) in
+      let stops : stopOf g old new m b ≡ stopOf g old new m (wholeOf g old n) = stop-alone g old new m b (wholeOf g old n) (long ∙ sym (sound-length g old n)) (ap (λ (c : Buffers). c .stored) onwards) in
+      let d : call ≡ leaves (Done (stopOf g old new m b - m * sectionSize)) (overAt m b (wholeOf g new n)) = rw long at (demand-3 g old new x p e b lent (omega (arith, long)) (rw long onwards)) in
       rw d
       (record {
-        counted = rw (← plan-from old new n p e l) refl;
+        counted = rw (← plan-from old new n p e l, stops) refl;
         holds = record {
           sized = cut-sized n m there b (wholeOf g new n) (h .sized) (whole-sized g new n);
           holds = cut-back n m there b (wholeOf g new n) (h .sized) (whole-sized g new n) (wholeOf g old n) (whole-sized g old n) k (omega arith) (h .holds) same;
@@ -182,7 +137,7 @@ module _ (g : Settings) (ok : settingsOk g ≡ true) (w : T (fits binary64 (g .a
       let r = rerenderOf g old new b in
       let more = all-edits new rest (c .0) (c .1) (f .1) (r .left) (one .holds) in
       record {
-        answered = ap (λ (q : Answer). q ∷ editsFrom g new rest (r .left) .result) (one .counted) ∙ ap (λ (l : List Answer). Done (countFor g old new (planOf old new n) n) ∷ l) (more .answered);
+        answered = ap (λ (q : Answer). q ∷ editsFrom g new rest (r .left) .result) (one .counted) ∙ ap (λ (l : List Answer). Done (countFor g old new (planOf old new n) (wholeOf g old n)) ∷ l) (more .answered);
         holds = more .holds;
         stays = more .stays ∙ one .stays;
       }

@@ -5,8 +5,12 @@ pub mod Faults
 pub mod Demand1
 -- buffers cut at a section
 pub mod Cut
+-- what a render leaves, before a section, from one on, and between two
+pub mod Whole
 -- a shelf that a render left is never refused
 pub mod Honest
+-- where a re-render stops, and that both scores sound the same from there on
+pub mod Stops
 -- a continuing call, and the rest of a chain after it
 pub mod Link
 -- parts continued one after the other from the fresh state at 0 are one render

@@ -103,6 +103,6 @@ pub record ContinueExactly (g : Settings) (s : List ℕ) (v : State) (p : ℕ) (
 pub record RerenderExactly (g : Settings) (old new : List ℕ) (b : Buffers) : Type 0 where
   pub refused : (why : Refusal) → Exactly (rerenderOf g old new b .result ≡ Refused why) (RerenderWhen g (roomIn b) old new (samplesIn b) (b .stored) why)
   pub done : Exactly
-      (rerenderOf g old new b .result ≡ Done (countFor g old new (planOf old new (samplesIn b)) (samplesIn b)))
+      (rerenderOf g old new b .result ≡ Done (countFor g old new (planOf old new (samplesIn b)) b))
       (Passed g (roomIn b) old × (verdictOf new ≡ Accepted (countOf new)) × ((m : ℕ) → planOf old new (samplesIn b) ≡ From m → isStart new m (b .stored) ≡ true))
   pub as-it-came : (why : Refusal) → rerenderOf g old new b .result ≡ Refused why → rerenderOf g old new b ≡ leaves (Refused why) b

@@ -10,7 +10,7 @@ use native.Mathlib.Omega.{arith}
 use borrow.Author.Tests.{le-leb}
 use lib.Dec.{T, lit<}
 use lib.ListN.{length, length-set}
-use lib.Seq.{set-getD, getD-set-other}
+use lib.Seq.{set-getD, getD-set-same, getD-set-other}
 use lib.Ieee.Fits.{and-l, and-r}
 use lib.Ieee.Bits.{is-true}
 use Rattle.words.specs.Words.{same}
@@ -64,6 +64,27 @@ own-again p h =
 -- ---- words with another number
 pub recount-length : (ws : List ℕ) (n : ℕ) → length (withCount ws n) ≡ length ws
 recount-length ws n = length-set ws 5 _
+
+-- word by word: the other words stay, and so do the low 16 bits of word 5, above which the number stands
+module _ (ws : List ℕ) (n : ℕ) where
+  pub with-other : (i : ℕ) → (i ≡ 5 → ⊥) → word (withCount ws n) i ≡ word ws i
+  with-other i h = getD-set-other ws 5 i (word ws 5 % 65536 + 65536 * (n % 281474976710656)) 0 h
+
+  module _ (long : 5 < length ws) where
+    fifth : word (withCount ws n) 5 ≡ word ws 5 % 65536 + 65536 * (n % 281474976710656)
+    fifth = getD-set-same ws 5 (word ws 5 % 65536 + 65536 * (n % 281474976710656)) 0 long
+
+    pub with-low : word (withCount ws n) 5 % 65536 ≡ word ws 5 % 65536
+    with-low = ap (λ (w : ℕ). w % 65536) fifth ∙ low (word ws 5) (n % 281474976710656)
+      where
+        low : (w c : ℕ) → (w % 65536 + 65536 * c) % 65536 ≡ w % 65536
+        low w c = omega arith
+
+    pub with-number : n < 281474976710656 → word (withCount ws n) 5 / 65536 ≡ n
+    with-number h = ap (λ (w : ℕ). w / 65536) fifth ∙ high (word ws 5) n h
+      where
+        high : (w c : ℕ) → c < 281474976710656 → (w % 65536 + 65536 * (c % 281474976710656)) / 65536 ≡ c
+        high w c h = omega arith
 
 -- the last number stays
 pub with-with : (ws : List ℕ) (a b : ℕ) → withCount (withCount ws a) b ≡ withCount ws b
