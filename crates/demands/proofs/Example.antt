@@ -184,6 +184,10 @@ settled =
 stops-at-1 : (n : ℕ) → n ≡ 8192 → StopsAt trembling [] stray 0 n 1
 stops-at-1 n e = record { past = omega arith; within = omega arith; settled = λ l. settled; first = λ j l u s. omega arith }
 
+below-entry-1 : countBelow stray (1 * 4096) ≡ 1
+unfolding positionAt below
+below-entry-1 = refl
+
 -- in whatever a render of the empty score left: 4,096 samples are made, entry 1 gets its number, and all is a render of
 -- the off from sample zero
 pub an-edit-that-stops : (b : Buffers) → Lent b → samplesIn b ≡ 8192 → (r : BuffersOf (samplesIn b)) → onward 0 b ≡ onward 0 (leftIn trembling [] r .left)
@@ -193,8 +197,4 @@ an-edit-that-stops b z e r same =
     let one : made .stop-section ≡ 1 = one-stop trembling [] stray 0 (samplesIn b) (made .stop-section) 1 (made .stops) (stops-at-1 (samplesIn b) e) in
     let to = made .to-the-stop in
     let count : min (made .stop-section * 4096) (samplesIn b) - 0 * 4096 ≡ 4096 = omega (arith, one, e) in
-    (to .counted ∙ ap Done count, to .recounted .numbers 1 (omega (arith, one)) (omega (arith, e)) ∙ counts, made .left)
-  where
-    counts : countBelow stray (1 * 4096) ≡ 1
-    unfolding positionAt below
-    counts = refl
+    (to .counted ∙ ap Done count, to .recounted .numbers 1 (omega (arith, one)) (omega (arith, e)) ∙ below-entry-1, made .left)

@@ -6,8 +6,8 @@ use mathlib.Core.Logic.{⊎-elim}
 use Prim.Native.Nat.{ℕ, suc, _+_, _-_, _*_, _/_, min, _≤_, _<_}
 use native.Mathlib.Omega.{arith}
 use lib.Dec.{ltb, leb, eqb}
-use lib.ListN.{length, take, drop}
-use lib.Seq.{drop-drop}
+use lib.ListN.{length, take, drop, take-append-drop}
+use lib.Seq.{drop-drop, drop-append-le, length-take-le}
 use lib.Ieee.{Float}
 use borrow.Author.Tests.{lt-ltb, le-ltb, ltb-true, le-leb, lt-leb, eqb-true}
 use Rattle.runs.proofs.First.{first-same}
@@ -250,6 +250,14 @@ module _ (g : Settings) (old new : List ℕ) (m : ℕ) (b : Buffers) where
     left-entry j h u =
         renewed-entry new k made (made-fits .fits) stop-within j h (rw made-long u)
         ∙ ap (λ (ws : List ℕ). withCount (take entryWords ws) (countBelow new (j * sectionSize))) (later-words k j made b h came-after)
+
+    -- the entries from section m on: those made, and behind them those that came, their numbers renewed
+    pub left-stored-onward : onward m left .stored ≡ words ++ recounted new k (entriesFor n - k) (onward k b .stored)
+    left-stored-onward =
+        let inside : k * entryWords ≤ length (left .stored) = omega (arith, left-words, in-room b f .fits, stop-at .within) in
+        ap (drop (m * entryWords)) (sym (take-append-drop (k * entryWords) (left .stored)))
+        ∙ drop-append-le (m * entryWords) (take (k * entryWords) (left .stored)) (onward k left .stored) (omega (arith, stop-at .later, length-take-le (k * entryWords) (left .stored) inside))
+        ∙ rw (left-stored-after, ap (λ (d : Buffers). d .stored) left-between) refl
 
 -- ---- what the stop depends on
 -- words that are the same from entry m on hold the same later entries
