@@ -7,7 +7,7 @@ use Prim.Native.Nat.{ℕ, suc, _+_, _-_, _*_, _/_, min, _≤_, _<_}
 use native.Mathlib.Omega.{arith}
 use lib.Dec.{ltb, leb, eqb}
 use lib.ListN.{length, take, drop, take-append-drop}
-use lib.Seq.{drop-drop, drop-append-le, length-take-le}
+use lib.Seq.{drop-append-le, length-take-le}
 use lib.Ieee.{Float}
 use borrow.Author.Tests.{lt-ltb, le-ltb, ltb-true, le-leb, lt-leb, eqb-true}
 use Rattle.runs.proofs.First.{first-same}
@@ -15,7 +15,7 @@ use Rattle.sections.specs.declared.End.{End}
 use Rattle.sections.specs.Outcome.{Buffers, lends, samplesIn, roomIn, Lent, before, onward, Outcome, leaves}
 use Rattle.sections.specs.Summary.{largest, firstNumber, saidFrom}
 use Rattle.sections.specs.Sections.{madeBetween, stopWhere, playOnOf}
-use Rattle.sections.proofs.Room.{in-room, earlier, later-words}
+use Rattle.sections.proofs.Room.{in-room, earlier, later-words, later-drop}
 use Rattle.sections.proofs.Made.{Stop, stop-is, made-samples, made-words, made-lent, made-before, made-after, made-between}
 use Rattle.sections.proofs.Agrees.{Made}
 use Rattle.sections.proofs.Agrees as agrees
@@ -262,9 +262,7 @@ module _ (g : Settings) (old new : List ℕ) (m : ℕ) (b : Buffers) where
 -- ---- what the stop depends on
 -- words that are the same from entry m on hold the same later entries
 pub later-entry : (m k : ℕ) (xs ys : List ℕ) → m ≤ k → drop (m * entryWords) xs ≡ drop (m * entryWords) ys → entryAt xs k ≡ entryAt ys k
-later-entry m k xs ys l h =
-    let d : k * entryWords ≡ m * entryWords + (k - m) * entryWords = omega arith in
-    rw (d, ← drop-drop ((k - m) * entryWords) (m * entryWords) xs, ← drop-drop ((k - m) * entryWords) (m * entryWords) ys, h) refl
+later-entry m k xs ys l h = ap (take entryWords) (later-drop (m * entryWords) (k * entryWords) xs ys (omega arith) h)
 
 -- the number of samples and the entries from section m on, beside settings and scores
 pub stop-alone : (g : Settings) (old new : List ℕ) (m : ℕ) (b c : Buffers) → samplesIn b ≡ samplesIn c → drop (m * entryWords) (b .stored) ≡ drop (m * entryWords) (c .stored) → stopOf g old new m b ≡ stopOf g old new m c

@@ -40,3 +40,9 @@ pub later-words : (e k : ℕ) (b c : Buffers) → e ≤ k → onward e b ≡ onw
 later-words e k b c l h =
     let d : e * entryWords + (k - e) * entryWords ≡ k * entryWords = omega arith in
     rw (← d, ← drop-drop ((k - e) * entryWords) (e * entryWords) (b .stored), ← drop-drop ((k - e) * entryWords) (e * entryWords) (c .stored)) (ap (λ (u : Buffers). drop ((k - e) * entryWords) (u .stored)) h)
+
+-- so of any list
+pub later-drop : {A : Type 0} (k j : ℕ) (xs ys : List A) → k ≤ j → drop k xs ≡ drop k ys → drop j xs ≡ drop j ys
+later-drop k j xs ys l h =
+    let d : k + (j - k) ≡ j = omega arith in
+    rw (← d, ← drop-drop (j - k) k xs, ← drop-drop (j - k) k ys, h) refl
