@@ -3,7 +3,8 @@
 use mathlib.Core.Path.{_≡_, refl, sym, ap, subst, _∙_}
 use mathlib.Core.Bool.{true, false, true≢false}
 use mathlib.Core.List.{List}
-use Prim.Native.Nat.{ℕ, _-_, _*_}
+use Prim.Native.Nat.{ℕ, _+_, _-_, _*_, _<_}
+use native.Mathlib.Omega.{arith}
 use lib.Dec.{T, eqb}
 use lib.ListN.{length}
 use lib.Ieee.{Float, binary64, ofBits, round, sum, add, rem, lt, fits}
@@ -12,7 +13,8 @@ use Rattle.floats.specs.Double.{zero64}
 use Rattle.floats.proofs.Literals.{zeroOf-is}
 use Rattle.floats.proofs.Order.{ge0→le, nonneg→ge0}
 use Rattle.sections.specs.Outcome.{Buffers, samplesIn, roomIn, leaves}
-use Rattle.sections.specs.Summary.{summaryFrom, summaryOf}
+use Rattle.sections.specs.Summary.{summaryOf}
+use Rattle.sections.specs.Sections.{madeBetween}
 use Rattle.answers.specs.Order.{unless}
 use Rattle.answers.specs.declared.Answer.the-variants.{Done}
 use Rattle.answers.specs.declared.Refusal.the-variants.{GivenState, StartEntry}
@@ -23,7 +25,7 @@ use Rattle.score.specs.Record.{countOf}
 use Rattle.score.specs.Score.{verdictOf}
 use Rattle.score.specs.Below.{countBelow}
 use Rattle.score.proofs.Codec.{both}
-use Rattle.shelf.specs.Shelf.{sectionSize, entryWords, entriesFor, isEntry, shelfOf}
+use Rattle.shelf.specs.Shelf.{sectionSize, entriesFor, isEntry, shelfOf, entryAt}
 use Rattle.shelf.proofs.Back.{entry-is-state}
 use Rattle.state.specs.declared.Settings.{Settings}
 use Rattle.state.specs.declared.State.{State}
@@ -39,8 +41,8 @@ use Rattle.judging.proofs.Refusals.{all-passed}
 use Rattle.render.specs.Calls.{says, leavesPart, isGiven, renderOf, continueOf}
 use Rattle.render.proofs.Outcomes.{render-decided, continue-decided}
 use Rattle.rerender.specs.declared.Plan.the-variants.{From}
-use Rattle.rerender.specs.Rerender.{planOf, entryAt, startOf, stopOf, isStart, between, summedBetween, startRefusals, rerenderOf}
-use Rattle.rerender.proofs.Cases.{checks, all-checked, rerender-decided}
+use Rattle.rerender.specs.Rerender.{planOf, startOf, isStart, stopOf, recountedFrom, startRefusals, rerenderOf}
+use Rattle.rerender.proofs.Cases.{plan-there, stop-at, checks, all-checked, rerender-decided}
 use Rattle.demands.specs.NeverNegative.{minusOne, NotNegative, SameSteps, NeverNegative}
 
 -- ---- the steps
@@ -81,17 +83,10 @@ continued g w s v p part k e =
     d .makes k e ∙ rw (d .counts k e, branch-states g ok w s (countOf s) t p v i k, branch-samples g ok w s (countOf s) t p v i k) refl
 
 re-rendered : (g : Settings) → T (fits binary64 (g .adsr .sustain)) → (old new : List ℕ) (b : Buffers) (m : ℕ) → planOf old new (samplesIn b) ≡ From m → (k : ℕ) → rerenderOf g old new b .result ≡ Done k
-    → let stop = stopOf g old new m (samplesIn b) in
+    → let stop = m * sectionSize + k in
     let v = startOf (b .stored) m in
-    let heard = between (m * sectionSize) stop (b .heard) (samplesBranching g new (m * sectionSize) v k) in
     rerenderOf g old new b
-    ≡ leaves
-    (Done k)
-    (record {
-      heard = heard;
-      stored = between (m * entryWords) (entriesFor stop * entryWords) (b .stored) (shelfOf (entriesBranching g new m v (entriesFor stop - m)));
-      summary = summedBetween m (entriesFor stop) (b .summary) (summaryFrom heard m (entriesFor stop - m));
-    })
+    ≡ leaves (Done k) (recountedFrom new (entriesFor stop) (madeBetween m stop (samplesBranching g new (m * sectionSize) v k) (shelfOf (entriesBranching g new m v (entriesFor stop - m))) b))
 re-rendered g w old new b m q k e =
     let d = rerender-decided g old new b in
     let shelf = b .stored in
@@ -100,10 +95,11 @@ re-rendered g w old new b m q k e =
     let c = all-checked g old new (roomIn b) (n .0) in
     let x = passed (isStart new m shelf) StartEntry (rw q at (n .1)) in
     let i = state-in v (entry-is-state (entryAt shelf m) (both (isEntry (entryAt shelf m)) (eqb (v .acted) (countBelow new (m * sectionSize))) x .0)) in
-    let stop = stopOf g old new m (samplesIn b) in
-    let many : stop - m * sectionSize ≡ k = rw q at (d .counts k e) in
+    let many : stopOf g old new m b - m * sectionSize ≡ k = rw q at (d .counts k e) in
+    let there : m < entriesFor (samplesIn b) = plan-there old new (samplesIn b) m q in
+    let stop : stopOf g old new m b ≡ m * sectionSize + k = omega (arith, many, stop-at g old new m b there (c .fits) .after) in
     d .makes k e
-    ∙ rw (q, many, branch-samples g (c .settings) w new (countOf new) (c .new-accepted) (m * sectionSize) v i k, branch-entries g (c .settings) w new (countOf new) (c .new-accepted) m v i (entriesFor stop - m)) refl
+    ∙ rw (q, many, stop, branch-samples g (c .settings) w new (countOf new) (c .new-accepted) (m * sectionSize) v i k, branch-entries g (c .settings) w new (countOf new) (c .new-accepted) m v i (entriesFor (m * sectionSize + k) - m)) refl
 
 -- ---- the premise: what is left of -1 is below 0, but not with the branch
 left-below : lt (remainderOf minusOne) zero64 ≡ true

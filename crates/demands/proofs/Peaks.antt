@@ -3,14 +3,14 @@
 -- finite. Assumes nothing.
 use mathlib.Core.Path.{_≡_, refl, sym, ap, subst, _∙_}
 use mathlib.Core.Bool.{true}
-use mathlib.Core.List.{List, []}
+use mathlib.Core.List.{List, [], _++_}
 use mathlib.Core.Logic.{⊎-elim}
-use Prim.Native.Nat.{ℕ, _+_, _-_, _*_, _≤_, _<_}
+use Prim.Native.Nat.{ℕ, _+_, _-_, _*_, min, _<_}
 use native.Mathlib.Nat.{zero-add, eq-or-lt-of-le}
 use native.Mathlib.Omega.{arith}
 use lib.Dec.{T, eqb}
-use lib.ListN.{length, getD, take, drop, length-append, length-drop, List·getD-append}
-use lib.Seq.{take-all, length-take-le, getD-take, getD-drop, getD-append-add, ext-getD}
+use lib.ListN.{length, getD, take, drop, length-append, length-take, length-drop, List·getD-append}
+use lib.Seq.{take-all, take-at, drop-at, length-take-le, getD-take, getD-drop, getD-append-add, ext-getD}
 use lib.Ieee.{Float, nan, binary64, ofBits, fits, lt, le, eq}
 use lib.Ieee.Bits.{ofBits-fits}
 use lib.Ieee.Scale.{finite}
@@ -32,19 +32,18 @@ use Rattle.score.specs.Score.{verdictOf}
 use Rattle.score.specs.Below.{countBelow}
 use Rattle.score.proofs.Codec.{both}
 use Rattle.score.proofs.Cuts.{lt-or-ge}
-use Rattle.shelf.specs.Shelf.{sectionSize, entryWords, entriesFor, stateOf, isEntry, shelfOf}
+use Rattle.shelf.specs.Shelf.{sectionSize, entriesFor, stateOf, isEntry, entryAt}
 use Rattle.shelf.proofs.Back.{entry-is-state}
 use Rattle.sections.specs.Outcome.{Summary, Buffers, samplesIn, roomIn, onward, Outcome}
 use Rattle.sections.specs.Summary.{sectionOf, largest, firstNumber, saidFrom, summaryFrom, summaryOf}
-use Rattle.sections.specs.Sections.{upTo, summedUpTo}
-use Rattle.sections.proofs.Room.{in-room}
-use Rattle.sections.proofs.Summed.{said-length, said-rest, summed-right}
+use Rattle.sections.specs.Sections.{summedBetween}
+use Rattle.sections.proofs.Summed.{said-length, said-first, said-rest, summed-right}
 use Rattle.state.specs.declared.Settings.{Settings}
 use Rattle.state.specs.declared.State.{State}
 use Rattle.state.specs.Settings.{settingsOk}
 use Rattle.state.specs.State.{freshOf, sampleOf}
 use Rattle.state.specs.Limits.{inLimits}
-use Rattle.state.specs.Heart.{begun, stateFrom, samplesFrom, entriesFrom}
+use Rattle.state.specs.Heart.{begun, stateFrom, samplesFrom}
 use Rattle.state.proofs.Fits.{Fitting, fresh-fits}
 use Rattle.state.proofs.Limits.{fresh-in, state-in}
 use Rattle.state.proofs.RunsOn.{samples-length}
@@ -55,11 +54,11 @@ use Rattle.render.specs.declared.Rendered.{Rendered}
 use Rattle.render.proofs.Outcomes.{render-decided}
 use Rattle.rerender.specs.declared.Plan.{Plan}
 use Rattle.rerender.specs.declared.Plan.the-variants.{Nothing, From}
-use Rattle.rerender.specs.Rerender.{planOf, entryAt, startOf, isStart, madeFrom, outcomeOf, startRefusals, rerenderRefusals, keptOf, rerenderOf}
-use Rattle.rerender.proofs.Cases.{plan-there, heard, made-is, checks, Checked, all-checked, rerender-decided}
-use Rattle.demands.specs.Peaks.{AllFinite, InSection, TellsOf, Tells, IsRight, IsRightFrom, PeaksBesideTheSound}
-use Rattle.demands.proofs.Cut.{back, cut-whole}
-use Rattle.demands.proofs.Alone.{either-way, stays}
+use Rattle.rerender.specs.Rerender.{planOf, startOf, isStart, stopOf, madeFrom, outcomeOf, startRefusals, rerenderRefusals, keptOf, rerenderOf}
+use Rattle.rerender.proofs.Cases.{plan-there, samples, made, samples-long, stop-at, left-long, left-before, left-between, left-heard-after, checks, Checked, all-checked, rerender-decided}
+use Rattle.demands.specs.Peaks.{AllFinite, InSection, TellsOf, Tells, IsRight, IsRightBetween, SameAfter, PeaksBesideTheSound}
+use Rattle.demands.proofs.Cut.{cut-whole}
+use Rattle.demands.proofs.Alone.{either-way, stays, after-stays}
 
 -- ---- a section in the samples' own numbers
 module _ (xs : List Float) (j : ℕ) where
@@ -188,21 +187,20 @@ module _ (g : Settings) (old new : List ℕ) (b : Buffers) (P : Buffers → Type
       go Nothing e = subst P (sym (untouched-whole g old new b e)) came
       go (From m) e = either-way g old new b m e (λ (o : Outcome Answer). P (o .left)) (λ why. came) (made m (plan-there old new (samplesIn b) m e))
 
-heard-long : (g : Settings) (old new : List ℕ) (m : ℕ) (b : Buffers) → m < entriesFor (samplesIn b) → length (heard g old new m b) ≡ samplesIn b
-heard-long g old new m b h =
-    let n = samplesIn b in
-    length-append (take (m * sectionSize) (b .heard)) (samplesFrom g new (m * sectionSize) (startOf (b .stored) m) (n - m * sectionSize))
-    ∙ omega (arith, h, length-take-le (m * sectionSize) (b .heard) (omega (arith, h)), samples-length g new (m * sectionSize) (startOf (b .stored) m) (n - m * sectionSize))
-
+-- the sections from section m up to the stop are worked out anew, the others stay, and their samples, too
 stays-right : (g : Settings) (old new : List ℕ) (b : Buffers) → IsRight b → IsRight (rerenderOf g old new b .left)
-stays-right g old new b right = left-holds g old new b IsRight right made
+stays-right g old new b right = left-holds g old new b IsRight right right-made
   where
-    made : (m : ℕ) → m < entriesFor (samplesIn b) → isStart new m (b .stored) ≡ true → Checked g old new (roomIn b) → IsRight (madeFrom g old new m b .left)
-    made m h i c =
+    right-made : (m : ℕ) → m < entriesFor (samplesIn b) → isStart new m (b .stored) ≡ true → Checked g old new (roomIn b) → IsRight (madeFrom g old new m b .left)
+    right-made m h i c =
         let n = samplesIn b in
-        let xs = samplesFrom g new (m * sectionSize) (startOf (b .stored) m) (n - m * sectionSize) in
-        subst (λ (o : Outcome Answer). IsRight (o .left)) (sym (made-is g old new m b (c .fits)))
-        (rw right (summed-right (b .heard) xs m (entriesFor n) (omega (arith, h)) (omega (arith, h))) ∙ ap (λ (k : ℕ). summaryFrom (heard g old new m b) 0 (entriesFor k)) (sym (heard-long g old new m b h)))
+        let xs = made g old new m b .heard in
+        let long : length xs ≡ n = left-long g old new m b h (c .fits) in
+        let s = stop-at g old new m b h (c .fits) in
+        let e = entriesFor (stopOf g old new m b) in
+        ap (λ (sum : Summary). summedBetween m e sum (summaryFrom xs m (e - m))) right
+        ∙ summed-right (b .heard) xs m e (entriesFor n) (omega (arith, s .later)) (omega (arith, s .within)) (omega (arith, h)) (omega (arith, h, long)) (sym (ap (λ (d : Buffers). d .heard) (left-before g old new m b h (c .fits)))) (sym (left-heard-after g old new m b h (c .fits)))
+        ∙ ap (λ (k : ℕ). summaryFrom xs 0 (entriesFor k)) (sym long)
 
 -- ---- every sample made is finite
 sample-from : (g : Settings) (s : List ℕ) (n : ℕ) (v : State) (k i : ℕ) → i < k → sampleAt (samplesFrom g s n v k) i ≡ sampleOf g (begun g s (n + i) (stateFrom g s n v i))
@@ -227,15 +225,21 @@ read-fits ws =
     let f : (b : ℕ) → T (fits binary64 _) = ofBits-fits binary64 in
     record { phase-fits = f _; frequency-fits = f _; velocity-fits = f _; envelope-held = record { level-fits = f _; release-fits = f _; time-fits = f _ }; lfo-fits = f _ }
 
--- samples before an index, and others after them
-upTo-finite : (k : ℕ) (xs ys : List Float) → k ≤ length xs → AllFinite xs → AllFinite ys → AllFinite (upTo k xs ys)
-upTo-finite k xs ys h a b i l =
-    let e : length (take k xs) ≡ k = length-take-le k xs h in
-    ⊎-elim
-    (λ u. subst (λ (x : Float). T (finite x)) (sym (List·getD-append (take k xs) ys nan i (omega (arith, e)) ∙ getD-take k xs i nan u)) (a i (omega arith)))
-    (λ u. let d : length (take k xs) + (i - k) ≡ i = omega (arith, e) in
-    subst (λ (x : Float). T (finite x)) (sym (ap (sampleAt (upTo k xs ys)) (sym d) ∙ getD-append-add (take k xs) ys (i - k) nan)) (b (i - k) (omega (arith, e, l, length-append (take k xs) ys))))
-    (lt-or-ge i k)
+-- samples before an index, those from an index on, and samples one after the other
+take-finite : (k : ℕ) (xs : List Float) → AllFinite xs → AllFinite (take k xs)
+take-finite k xs all i l =
+    let e : length (take k xs) ≡ min k (length xs) = length-take k xs in
+    subst (λ (x : Float). T (finite x)) (sym (getD-take k xs i nan (omega (arith, l, e)))) (all i (omega (arith, l, e)))
+
+drop-finite : (k : ℕ) (xs : List Float) → AllFinite xs → AllFinite (drop k xs)
+drop-finite k xs all i l = subst (λ (x : Float). T (finite x)) (sym (getD-drop k xs i nan)) (all (k + i) (omega (arith, l, length-drop k xs)))
+
+append-finite : (xs ys : List Float) → AllFinite xs → AllFinite ys → AllFinite (xs ++ ys)
+append-finite xs ys a b i l =
+    ⊎-elim (λ u. subst (λ (x : Float). T (finite x)) (sym (List·getD-append xs ys nan i u)) (a i u))
+    (λ u. let d : length xs + (i - length xs) ≡ i = omega arith in
+    subst (λ (x : Float). T (finite x)) (sym (ap (sampleAt (xs ++ ys)) (sym d) ∙ getD-append-add xs ys (i - length xs) nan)) (b (i - length xs) (omega (arith, l, length-append xs ys))))
+    (lt-or-ge i (length xs))
 
 -- the state of a start entry is within the limits
 start-in : (new : List ℕ) (m : ℕ) (b : Buffers) → isStart new m (b .stored) ≡ true → inLimits (startOf (b .stored) m) ≡ true
@@ -243,16 +247,17 @@ start-in new m b i =
     let v = startOf (b .stored) m in
     state-in v (entry-is-state (entryAt (b .stored) m) (both (isEntry (entryAt (b .stored) m)) (eqb (v .acted) (countBelow new (m * sectionSize))) i .0))
 
+-- the samples that are made from it are finite
+made-finite : (g : Settings) → T (fits binary64 (g .adsr .sustain)) → (old new : List ℕ) (b : Buffers) (m : ℕ) → isStart new m (b .stored) ≡ true → Checked g old new (roomIn b) → AllFinite (samples g old new m b)
+made-finite g w old new b m i c =
+    samples-finite g (c .settings) w new (countOf new) (c .new-accepted) (m * sectionSize) (startOf (b .stored) m) (read-fits (entryAt (b .stored) m)) (start-in new m b i) (stopOf g old new m b - m * sectionSize)
+
 stays-finite : (g : Settings) → T (fits binary64 (g .adsr .sustain)) → (old new : List ℕ) (b : Buffers) → AllFinite (b .heard) → AllFinite (rerenderOf g old new b .left .heard)
-stays-finite g w old new b all = left-holds g old new b (λ (c : Buffers). AllFinite (c .heard)) all made
-  where
-    made : (m : ℕ) → m < entriesFor (samplesIn b) → isStart new m (b .stored) ≡ true → Checked g old new (roomIn b) → AllFinite (madeFrom g old new m b .left .heard)
-    made m h i c =
-        let n = samplesIn b in
-        let v = startOf (b .stored) m in
-        subst (λ (o : Outcome Answer). AllFinite (o .left .heard)) (sym (made-is g old new m b (c .fits)))
-        (upTo-finite (m * sectionSize) (b .heard) (samplesFrom g new (m * sectionSize) v (n - m * sectionSize)) (omega (arith, h)) all
-        (samples-finite g (c .settings) w new (countOf new) (c .new-accepted) (m * sectionSize) v (read-fits (entryAt (b .stored) m)) (start-in new m b i) (n - m * sectionSize)))
+stays-finite g w old new b all =
+    left-holds g old new b (λ (c : Buffers). AllFinite (c .heard)) all
+    (λ m h i c. let stop = stopOf g old new m b in
+    append-finite (take (m * sectionSize) (b .heard)) (samples g old new m b ++ drop stop (b .heard)) (take-finite (m * sectionSize) (b .heard) all)
+    (append-finite (samples g old new m b) (drop stop (b .heard)) (made-finite g w old new b m i c) (drop-finite stop (b .heard) all)))
 
 render-told : (g : Settings) → T (fits binary64 (g .adsr .sustain)) → (s : List ℕ) (b : Buffers) (k : ℕ) → renderOf g s b .result .answer ≡ Done k → Tells (renderOf g s b .left .heard) (renderOf g s b .left .summary)
 render-told g w s b k e = rw (render-right g s b k e) (tells (renderOf g s b .left .heard) (render-finite g w s b k e))
@@ -261,9 +266,6 @@ render-told g w s b k e = rw (render-right g s b k e) (tells (renderOf g s b .le
 module _ (g : Settings) (old new : List ℕ) (b : Buffers) (m : ℕ) (planned : planOf old new (samplesIn b) ≡ From m) (k : ℕ) (done : rerenderOf g old new b .result ≡ Done k) where
   abbrev n : ℕ
   n = samplesIn b
-
-  abbrev xs : List Float
-  xs = samplesFrom g new (m * sectionSize) (startOf (b .stored) m) (n - m * sectionSize)
 
   there : m < entriesFor n
   there = plan-there old new n m planned
@@ -278,31 +280,41 @@ module _ (g : Settings) (old new : List ℕ) (b : Buffers) (m : ℕ) (planned : 
   is-start : isStart new m (b .stored) ≡ true
   is-start = passed (isStart new m (b .stored)) StartEntry (rw planned at (none-both (checks g old new (roomIn b)) (startRefusals new (planOf old new n) (b .stored)) none-refused .1))
 
+  -- it made k samples, and stopped after them
+  counted : stopOf g old new m b - m * sectionSize ≡ k
+  counted = rw planned at (rerender-decided g old new b .counts k done)
+
+  stopped : stopOf g old new m b ≡ m * sectionSize + k
+  stopped = omega (arith, counted, stop-at g old new m b there (is-checked .fits) .after)
+
   -- what is left
-  abbrev made : Buffers
-  made = record { heard = heard g old new m b; stored = upTo (m * entryWords) (b .stored) (shelfOf (entriesFrom g new m (startOf (b .stored) m) (entriesFor n - m))); summary = summedUpTo m (b .summary) (summaryFrom (heard g old new m b) m (entriesFor n - m)) }
+  left-is : rerenderOf g old new b .left ≡ madeFrom g old new m b .left
+  left-is = ap (λ (o : Outcome Answer). o .left) (rerender-decided g old new b .makes k done) ∙ ap (λ (q : Plan). outcomeOf g old new q b .left) planned
 
-  left-is : rerenderOf g old new b .left ≡ made
-  left-is =
-      ap (λ (o : Outcome Answer). o .left) (rerender-decided g old new b .makes k done) ∙ ap (λ (q : Plan). outcomeOf g old new q b .left) planned
-      ∙ ap (λ (o : Outcome Answer). o .left) (made-is g old new m b (is-checked .fits))
+  heard-is : take k (onward m (madeFrom g old new m b .left) .heard) ≡ samples g old new m b
+  heard-is =
+      ap (take k) (drop-at (take (m * sectionSize) (b .heard)) (samples g old new m b ++ drop (stopOf g old new m b) (b .heard)) (m * sectionSize) (length-take-le (m * sectionSize) (b .heard) (omega (arith, there))))
+      ∙ take-at (samples g old new m b) (drop (stopOf g old new m b) (b .heard)) k (samples-long g old new m b ∙ counted)
 
-  rerender-finite : T (fits binary64 (g .adsr .sustain)) → AllFinite (onward m (rerenderOf g old new b .left) .heard)
-  rerender-finite w =
-      rw (ap (λ (c : Buffers). c .heard) left-is, back (m * sectionSize) (b .heard) xs (omega (arith, there)))
-      (samples-finite g (is-checked .settings) w new (countOf new) (is-checked .new-accepted) (m * sectionSize) (startOf (b .stored) m) (read-fits (entryAt (b .stored) m)) (start-in new m b is-start) (n - m * sectionSize))
+  rerender-finite : T (fits binary64 (g .adsr .sustain)) → AllFinite (take k (onward m (rerenderOf g old new b .left) .heard))
+  rerender-finite w = rw (left-is, heard-is) (made-finite g w old new b m is-start is-checked)
 
-  -- what is said of the sections from section m on
-  said-is : {A : Type 0} (f : ℕ → Peak → A) (came : List A) → length came ≡ entriesFor n → drop m (upTo m came (saidFrom f (heard g old new m b) m (entriesFor n - m))) ≡ drop m (saidFrom f (heard g old new m b) 0 (entriesFor (length (heard g old new m b))))
-  said-is f came e =
-      back m came (saidFrom f (heard g old new m b) m (entriesFor n - m)) (omega (arith, e, there))
-      ∙ sym (said-rest f (heard g old new m b) m (entriesFor n) (omega (arith, there)))
-      ∙ ap (λ (i : ℕ). drop m (saidFrom f (heard g old new m b) 0 (entriesFor i))) (sym (heard-long g old new m b there))
+  -- what is said of the sections from section m up to the stop
+  said-is : {A : Type 0} (f : ℕ → Peak → A) (xs : List Float) → length xs ≡ n → let e = entriesFor (stopOf g old new m b) in saidFrom f xs m (e - m) ≡ drop m (take e (saidFrom f xs 0 (entriesFor (length xs))))
+  said-is f xs long =
+      let e = entriesFor (stopOf g old new m b) in
+      let s = stop-at g old new m b there (is-checked .fits) in
+      sym (ap (drop m) (said-first f xs e (entriesFor (length xs)) (omega (arith, s .within, long))) ∙ said-rest f xs m e (omega (arith, s .later)))
 
-  rerender-right : IsRightFrom m (rerenderOf g old new b .left)
+  rerender-right : IsRightBetween m (entriesFor (m * sectionSize + k)) (rerenderOf g old new b .left)
   rerender-right =
-      let z = in-room b (is-checked .fits) in
-      rw left-is (record { magnitudes = said-is largest (b .summary .magnitudes) (z .magnitudes-fit); numbers = said-is firstNumber (b .summary .numbers) (z .numbers-fit) })
+      let z = left-between g old new m b there (is-checked .fits) in
+      let long = left-long g old new m b there (is-checked .fits) in
+      rw (← stopped, left-is)
+      (record { magnitudes = ap (λ (d : Buffers). d .summary .magnitudes) z ∙ said-is largest (made g old new m b .heard) long; numbers = ap (λ (d : Buffers). d .summary .numbers) z ∙ said-is firstNumber (made g old new m b .heard) long })
+
+  rerender-stops : SameAfter (entriesFor (m * sectionSize + k)) (rerenderOf g old new b .left) b
+  rerender-stops = rw (← stopped) (after-stays g old new b m planned)
 
 -- ---- so what was told of finite samples is told of the finished output
 stays-told : (g : Settings) → T (fits binary64 (g .adsr .sustain)) → (old new : List ℕ) (b : Buffers) → AllFinite (b .heard) → Tells (b .heard) (b .summary) → Tells (rerenderOf g old new b .left .heard) (rerenderOf g old new b .left .summary)
@@ -320,6 +332,7 @@ peaks-beside-the-sound =
       render-told = render-told;
       rerender-finite = λ g w old new b m q k e. rerender-finite g old new b m q k e w;
       rerender-right = rerender-right;
+      rerender-stops = rerender-stops;
       stays-right = stays-right;
       stays-finite = stays-finite;
       stays-told = stays-told;
