@@ -15,7 +15,7 @@ use Rattle.peaks.specs.declared.Peak.{Peak}
 use Rattle.sections.specs.Outcome.{Buffers, lends, samplesIn, roomIn, Lent, before, onward, Outcome}
 use Rattle.sections.specs.Summary.{largest, firstNumber, saidFrom}
 use Rattle.sections.proofs.Room.{room-in, later-drop}
-use Rattle.sections.proofs.Summed.{said-between}
+use Rattle.sections.proofs.Summed.{said-part}
 use Rattle.answers.specs.Order.{unless, firstOf}
 use Rattle.answers.specs.declared.Answer.{Answer}
 use Rattle.answers.specs.declared.Answer.the-variants.{Done, Refused}
@@ -158,7 +158,7 @@ module _ (g : Settings) (old new : List ℕ) (b c : Buffers) (fit : Lent b) (fit
 
     said-alone : {A : Type 0} (f : ℕ → Peak → A) → saidFrom f (made g old new m b .heard) m (k - m) ≡ saidFrom f (made g old new m c .heard) m (k - m)
     said-alone f =
-        said-between f (made g old new m b .heard) (made g old new m c .heard) m (k - m) k (omega (arith, stop-at g old new m b there-too (room-in b fit) .later))
+        said-part f (made g old new m b .heard) (made g old new m c .heard) m (k - m) k (omega (arith, stop-at g old new m b there-too (room-in b fit) .later))
         (ap (λ (d : Buffers). d .heard) made-in ∙ samples-alone ∙ sym (ap (λ (d : Buffers). d .heard) made-in′))
 
     -- from section m up to the stop everything is the same

@@ -4,15 +4,14 @@
 -- of records acted, which the call renews. Assumes nothing.
 use mathlib.Core.Path.{_≡_, refl, sym, subst, ap, _∙_}
 use mathlib.Core.Bool.{true}
-use mathlib.Core.List.{List, [], _++_}
+use mathlib.Core.List.{List, []}
 use Prim.Native.Nat.{ℕ, _-_, _*_, _/_, _%_, min, _≤_, _<_}
 use native.Mathlib.Omega.{arith}
 use borrow.Author.Tests.{eq-eqb}
 use lib.ListN.{length, take, drop, length-drop}
 use lib.Seq.{length-take-le}
-use lib.Ieee.{Float}
 use Rattle.peaks.specs.declared.Peak.{Peak}
-use Rattle.sections.specs.Outcome.{Summary, Buffers, lends, samplesIn, roomIn, Lent, before, onward, Outcome, leaves}
+use Rattle.sections.specs.Outcome.{Summary, Buffers, samplesIn, roomIn, Lent, before, onward, Outcome, leaves}
 use Rattle.sections.specs.Summary.{largest, firstNumber, saidFrom}
 use Rattle.sections.proofs.Room.{room-in, same-buffers}
 use Rattle.sections.proofs.Summed.{said-alike, said-part}
@@ -26,7 +25,7 @@ use Rattle.score.proofs.Agree.{equal-exactly}
 use Rattle.score.proofs.Cuts.{accepted-few, accepted-sorted, count-cut}
 use Rattle.score.proofs.Parted.{clash}
 use Rattle.shelf.specs.declared.Entry.{Entry}
-use Rattle.shelf.specs.Shelf.{sectionSize, entryWords, entriesFor, entryOf, decodedOf, shelfOf, word, entryAt, withCount}
+use Rattle.shelf.specs.Shelf.{sectionSize, entryWords, entriesFor, entryOf, decodedOf, shelfOf, word, entryAt}
 use Rattle.shelf.proofs.Count.{start-there, words-there}
 use Rattle.shelf.proofs.Counted.{with-other, with-low, with-number}
 use Rattle.state.specs.declared.Settings.{Settings}

@@ -5,16 +5,11 @@ use mathlib.Core.Path.{_≡_, refl, sym, ap, _∙_}
 use mathlib.Core.List.{List, [], _∷_}
 use mathlib.Core.Bool.{true}
 use mathlib.Core.Logic.{⊎-elim}
-use Prim.Native.Nat.{ℕ, _+_, _-_, _*_, _/_, _≤_, _<_}
+use Prim.Native.Nat.{ℕ, _-_, _*_, _/_, _≤_, _<_}
 use native.Mathlib.Omega.{arith}
 use lib.Dec.{T}
-use lib.ListN.{length, take}
-use lib.Seq.{take-at, take-all}
 use lib.Ieee.{binary64, fits}
-use Rattle.peaks.specs.declared.Peak.{Peak}
-use Rattle.sections.specs.Outcome.{Buffers, lends, samplesIn, Lent, before, onward, Outcome, leaves}
-use Rattle.sections.specs.Summary.{largest, firstNumber, saidFrom}
-use Rattle.sections.proofs.Summed.{said-length, said-first, said-shared}
+use Rattle.sections.specs.Outcome.{Buffers, samplesIn, Lent, before, onward, Outcome, leaves}
 use Rattle.answers.specs.declared.Answer.{Answer}
 use Rattle.answers.specs.declared.Answer.the-variants.{Done}
 use Rattle.score.specs.declared.Difference.{Difference}
@@ -23,16 +18,12 @@ use Rattle.score.specs.Below.{countBelow}
 use Rattle.score.specs.Apart.{differenceOf}
 use Rattle.score.proofs.Agree.{equal-exactly}
 use Rattle.score.proofs.Cuts.{lt-or-ge}
-use Rattle.shelf.specs.Shelf.{sectionSize, entryWords, entriesFor, wordsFor, entryOf, shelfOf}
+use Rattle.shelf.specs.Shelf.{sectionSize, entriesFor, shelfOf}
 use Rattle.shelf.proofs.Count.{start-there}
-use Rattle.shelf.proofs.Whole.{shelf-append, shelf-length}
 use Rattle.state.specs.declared.Settings.{Settings}
-use Rattle.state.specs.declared.State.{State}
 use Rattle.state.specs.Settings.{settingsOk}
 use Rattle.state.specs.State.{freshOf}
-use Rattle.state.specs.Heart.{stateFrom, samplesFrom, entriesFrom}
-use Rattle.state.proofs.RunsOn.{samples-on, samples-length}
-use Rattle.state.proofs.Entries.{entries-on, entries-length}
+use Rattle.state.specs.Heart.{entriesFrom}
 use Rattle.state.proofs.Depends.{Shared, samples-shared, entries-shared, differing-shared}
 use Rattle.judging.specs.Judging.{mostSamples}
 use Rattle.rerender.specs.declared.Plan.the-variants.{Nothing}

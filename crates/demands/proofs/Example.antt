@@ -22,7 +22,7 @@ use Rattle.score.specs.Below.{below, countBelow}
 use Rattle.score.specs.Apart.{sameTo, differenceOf, recordsFrom}
 use Rattle.score.proofs.Cuts.{accepted-length, accepted-sorted}
 use Rattle.runs.specs.Runs.{run}
-use Rattle.voice.specs.Keys.{liftedOf}
+use Rattle.voice.specs.Keys.{pairs, others, withoutOf, liftedOf}
 use Rattle.state.specs.State.{freshOf, actOf}
 use Rattle.state.specs.ButActed.{withActed, SameButActed}
 use Rattle.state.specs.Heart.{hasAt, actTo, begun, stateFrom}
@@ -166,7 +166,7 @@ none-from q h = rw (lt-ltb 0 q h) refl
 
 -- it is counted, and does nothing else
 begun-stray : begun trembling stray 0 (freshOf 0) ≡ withActed (begun trembling [] 0 (freshOf 0)) 1
-unfolding positionAt begun hasAt actTo actOf liftedOf
+unfolding positionAt begun hasAt actTo actOf pairs others withoutOf liftedOf
 begun-stray = refl
 
 one-sample : SameButActed (stateFrom trembling [] 0 (freshOf 0) 1) (stateFrom trembling stray 0 (freshOf 0) 1)

@@ -199,7 +199,7 @@ stays-right g old new b right = left-holds g old new b IsRight right right-made
         let s = stop-at g old new m b h (c .fits) in
         let e = entriesFor (stopOf g old new m b) in
         ap (λ (sum : Summary). summedBetween m e sum (summaryFrom xs m (e - m))) right
-        ∙ summed-right (b .heard) xs m e (entriesFor n) (omega (arith, s .later)) (omega (arith, s .within)) (omega (arith, h)) (omega (arith, h, long)) (sym (ap (λ (d : Buffers). d .heard) (left-before g old new m b h (c .fits)))) (sym (left-heard-after g old new m b h (c .fits)))
+        ∙ summed-right (b .heard) xs m e (entriesFor n) (omega (arith, s .later)) (omega (arith, s .within)) (sym (ap (λ (d : Buffers). d .heard) (left-before g old new m b h (c .fits)))) (sym (left-heard-after g old new m b h (c .fits)))
         ∙ ap (λ (k : ℕ). summaryFrom xs 0 (entriesFor k)) (sym long)
 
 -- ---- every sample made is finite

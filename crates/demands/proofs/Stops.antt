@@ -2,29 +2,26 @@
 -- the old score left, at the first section at which renders of both scores from sample zero have one state but for the
 -- number of records acted. From there on both scores make the same samples, and the same entries but for that number.
 -- Assumes nothing.
-use mathlib.Core.Path.{_≡_, refl, sym, ap, _∙_}
+use mathlib.Core.Path.{_≡_, refl, sym, _∙_}
 use mathlib.Core.Bool.{true, false, true≢false}
 use mathlib.Core.List.{List}
 use mathlib.Core.Logic.{⊎-elim}
 use Prim.Native.Nat.{ℕ, suc, _+_, _-_, _*_, min, _≤_, _<_}
-use native.Mathlib.Nat.{zero-add}
 use native.Mathlib.Omega.{arith}
 use lib.ListN.{length, drop, drop-of-length-le}
-use lib.Ieee.{Float}
 use Rattle.runs.specs.Runs.{firstPassing}
 use Rattle.runs.proofs.First.{First, first-passing}
 use Rattle.answers.specs.declared.Answer.the-variants.{Done}
 use Rattle.score.specs.Record.{countOf}
 use Rattle.score.specs.Below.{countBelow, Sorted}
-use Rattle.score.specs.Apart.{recordsFrom, sameFrom}
+use Rattle.score.specs.Apart.{sameFrom}
 use Rattle.score.proofs.Codec.{both}
 use Rattle.score.proofs.Cuts.{lt-or-ge, accepted-length, accepted-few, accepted-sorted}
 use Rattle.score.proofs.Ends.{same-records, records-same}
-use Rattle.shelf.specs.Shelf.{sectionSize, entryWords, entriesFor, entryOf, shelfOf, entryAt, meets}
+use Rattle.shelf.specs.Shelf.{sectionSize, entriesFor, entryOf, shelfOf, entryAt, meets}
 use Rattle.shelf.proofs.There.{Fitting}
 use Rattle.shelf.proofs.Counted.{meets-same, same-meets}
 use Rattle.state.specs.declared.Settings.{Settings}
-use Rattle.state.specs.declared.State.{State}
 use Rattle.state.specs.Limits.{isState}
 use Rattle.state.specs.State.{freshOf}
 use Rattle.state.specs.ButActed.{SameButActed}

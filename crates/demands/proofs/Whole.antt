@@ -19,7 +19,6 @@ use Rattle.score.proofs.Cuts.{lt-or-ge}
 use Rattle.shelf.specs.Shelf.{sectionSize, entryWords, entriesFor, wordsFor, entryOf, shelfOf, entryAt}
 use Rattle.shelf.proofs.Whole.{shelf-append, shelf-length, entry-words}
 use Rattle.state.specs.declared.Settings.{Settings}
-use Rattle.state.specs.declared.State.{State}
 use Rattle.state.specs.Settings.{settingsOk}
 use Rattle.state.specs.State.{freshOf}
 use Rattle.state.specs.Heart.{stateFrom, samplesFrom, entriesFrom}
