@@ -8,6 +8,7 @@
 #include <stdbool.h>
 #include <stdio.h>
 #include <sys/types.h>
+#include <time.h>
 
 /* A score's sizes, for buffers and for words; what is refused, the library decides. */
 #define RECORD_BYTES 10u
@@ -65,7 +66,22 @@ bool read_into(const char *path, uint8_t *at, size_t room, size_t *len, struct w
 /* The whole file, to be freed; of a file longer than `most` bytes the first most + 1, so that a message can say what it
    is. */
 bool read_file(const char *path, size_t most, struct bytes *file, struct why *why);
+/* A file that was read and is still open, to be copied from; and when it was last written to before it was read. */
+struct source {
+    int fd;
+    struct timespec written;
+};
+
+#define NO_SOURCE ((struct source){.fd = -1})
+
+/* As read_file; leaves the file open. */
+bool source_read(struct source *source, const char *path, size_t most, struct bytes *file, struct why *why);
+/* Whether nobody has written to the file since. */
+bool source_is_kept(const struct source *source);
+void source_close(struct source *source);
 bool write_all(int fd, const void *at, size_t len);
+/* Appends bytes of one file to another inside the file system, as many as it can: answers how many. */
+size_t copy_inside(int from, size_t at, int to, size_t len);
 /* How many bytes of a path are its folder, with the last slash. */
 size_t folder_of(const char *path);
 /* What a temporary name begins with; 16 hex digits follow. */
@@ -114,9 +130,17 @@ struct pair {
 
 #define NO_PAIR ((struct pair){.wav = NO_DRAFT, .shelf = NO_DRAFT})
 
+/* What a file will hold. A file without bytes (at is NULL) stays as it is. Where there is a source (else NULL), it has
+   the same bytes in the same places, but for those from byte `first` to before byte `end`. */
+struct content {
+    struct bytes bytes;
+    const struct source *source;
+    size_t first, end;
+};
+
 bool pair_open(struct pair *pair, const char *wav_path, const char *shelf_path, struct why *why);
-/* Writes both files, then gives them their names, the WAV first. A file without bytes (at is NULL) stays as it is. */
-bool pair_write(struct pair *pair, const struct bytes *wav, const struct bytes *shelf, struct why *why);
+/* Writes both files, then gives them their names, the WAV first. */
+bool pair_write(struct pair *pair, const struct content *wav, const struct content *shelf, struct why *why);
 void pair_drop(struct pair *pair);
 
 /* score.c: a score as the desk holds it, and its records past the end. */
@@ -131,6 +155,11 @@ bool read_score(const char *path, struct score *score, struct why *why);
 void add_record(struct score *score, uint32_t position, unsigned kind, unsigned note, unsigned velocity);
 uint32_t position_of(const struct score *score, size_t record);
 bool same_score(const struct score *one, const struct score *other);
+/* The index of the first record in which two scores differ; of equal ones their number of records. */
+size_t first_apart(const struct score *one, const struct score *other);
+/* The position of the first change between two scores that are not equal: of the two records at that index the lower
+   one, or that of the one record where the other score has ended. */
+uint32_t first_change(const struct score *one, const struct score *other);
 /* How many records lie at or past the end of an output of so many samples: they are legal, and not heard. */
 size_t count_unheard(const struct score *score, size_t samples);
 /* Prints those records in words, with the line's end; tell_unheard only where there are any, after a path. */

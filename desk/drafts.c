@@ -11,6 +11,8 @@
 
 /* A lock is tried again where another desk has just renamed or removed the locked file. */
 #define MOST_TRIES 100u
+/* A multiple of the blocks of every file system: two files can share whole blocks, and then nothing is copied. */
+#define BLOCK 65536u
 
 enum lock { LOCKED, GONE, TAKEN };
 
@@ -243,8 +245,31 @@ bool pair_open(struct pair *pair, const char *wav_path, const char *shelf_path, 
     return draft_open(&pair->wav, wav_path, why) && (!shelf_path || draft_open(&pair->shelf, shelf_path, why));
 }
 
-static bool write_one(struct draft *draft, const struct bytes *bytes, struct why *why) {
-    return !bytes->at || (draft_write(draft, bytes->at, bytes->len, why) && draft_seal(draft, why));
+/* Appends bytes that the source has in the same place: by a copy of the file system's, as far as it makes one. */
+static bool write_kept(struct draft *draft, const struct content *content, size_t first, size_t end, struct why *why) {
+    first += copy_inside(content->source->fd, first, draft->fd, end - first);
+    return draft_write(draft, content->bytes.at + first, end - first, why);
+}
+
+/* The blocks that have a new byte are written, and those before and after them copied. A source that has changed since
+   it was read has other bytes than those that were looked at. */
+static bool write_over(struct draft *draft, const struct content *content, struct why *why) {
+    size_t len = content->bytes.len, first = content->first / BLOCK * BLOCK, after = content->end + BLOCK - 1;
+    size_t end = after < len ? after / BLOCK * BLOCK : len;
+    if (!write_kept(draft, content, 0, first, why) ||
+        !draft_write(draft, content->bytes.at + first, end - first, why) ||
+        !write_kept(draft, content, end, len, why)) {
+        return false;
+    }
+    if (source_is_kept(content->source)) return true;
+    return refuse(why, "%s: another program wrote to it meanwhile; nothing is written", draft->path);
+}
+
+static bool write_one(struct draft *draft, const struct content *content, struct why *why) {
+    const struct bytes *bytes = &content->bytes;
+    if (!bytes->at) return true;
+    return (content->source ? write_over(draft, content, why) : draft_write(draft, bytes->at, bytes->len, why)) &&
+           draft_seal(draft, why);
 }
 
 /* Neither file takes its name where the draft of one was removed or replaced. */
@@ -262,11 +287,11 @@ static bool publish_both(struct pair *pair, const struct bytes *wav, const struc
                    pair->shelf.path);
 }
 
-bool pair_write(struct pair *pair, const struct bytes *wav, const struct bytes *shelf, struct why *why) {
+bool pair_write(struct pair *pair, const struct content *wav, const struct content *shelf, struct why *why) {
     /* A signal that came while the sound was made ends the program after the drop. */
     if (told_to_end()) return refuse(why, "told to end; nothing is written");
-    return write_one(&pair->wav, wav, why) && write_one(&pair->shelf, shelf, why) && both_kept(pair, wav, shelf, why) &&
-           publish_both(pair, wav, shelf, why);
+    return write_one(&pair->wav, wav, why) && write_one(&pair->shelf, shelf, why) &&
+           both_kept(pair, &wav->bytes, &shelf->bytes, why) && publish_both(pair, &wav->bytes, &shelf->bytes, why);
 }
 
 void pair_drop(struct pair *pair) {

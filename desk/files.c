@@ -1,4 +1,6 @@
-/* Reading whole files, writing all of something, and which names are of one file. */
+/* Reading whole files, writing and copying all of something, and which names are of one file. */
+/* For copy_file_range. */
+#define _GNU_SOURCE
 #include "desk.h"
 
 #include <errno.h>
@@ -80,18 +82,43 @@ static bool read_growing(int fd, size_t most, struct bytes *file) {
     return true;
 }
 
+/* The whole of an open file. */
+static bool read_whole_file(int fd, const char *path, size_t most, struct bytes *file, struct why *why) {
+    *file = (struct bytes){.at = NULL};
+    if (read_growing(fd, most, file)) return true;
+    refuse(why, "%s: cannot be read: %s", shown_path(path), strerror(errno));
+    free(file->at);
+    *file = (struct bytes){.at = NULL};
+    return false;
+}
+
 bool read_file(const char *path, size_t most, struct bytes *file, struct why *why) {
     *file = (struct bytes){.at = NULL};
     int fd = open_input(path, why);
     if (fd < 0) return false;
-    bool fine = read_growing(fd, most, file);
-    if (!fine) {
-        refuse(why, "%s: cannot be read: %s", shown_path(path), strerror(errno));
-        free(file->at);
-        *file = (struct bytes){.at = NULL};
-    }
+    bool fine = read_whole_file(fd, path, most, file, why);
     close_input(path, fd);
     return fine;
+}
+
+bool source_read(struct source *source, const char *path, size_t most, struct bytes *file, struct why *why) {
+    struct stat found;
+    *source = (struct source){.fd = open_input(path, why)};
+    if (source->fd < 0) return false;
+    if (fstat(source->fd, &found) != 0) return refuse(why, "%s: cannot be read: %s", path, strerror(errno));
+    source->written = found.st_mtim;
+    return read_whole_file(source->fd, path, most, file, why);
+}
+
+bool source_is_kept(const struct source *source) {
+    struct stat found;
+    return fstat(source->fd, &found) == 0 && found.st_mtim.tv_sec == source->written.tv_sec &&
+           found.st_mtim.tv_nsec == source->written.tv_nsec;
+}
+
+void source_close(struct source *source) {
+    if (source->fd >= 0) close(source->fd);
+    *source = NO_SOURCE;
 }
 
 /* Writes all, or answers false with errno set; waits while a pipe or a device is full. */
@@ -110,6 +137,20 @@ bool write_all(int fd, const void *at, size_t len) {
         }
     }
     return true;
+}
+
+size_t copy_inside(int from, size_t at, int to, size_t len) {
+    off_t next = (off_t)at;
+    size_t copied = 0;
+    while (copied < len) {
+        ssize_t put = copy_file_range(from, &next, to, NULL, len - copied, 0);
+        if (put > 0) {
+            copied += (size_t)put;
+        } else if (put == 0 || errno != EINTR) {
+            break;
+        }
+    }
+    return copied;
 }
 
 size_t folder_of(const char *path) {

@@ -12,7 +12,7 @@ struct render {
     struct shelf_file about;
     struct sound sound;
     struct pair pair;
-    struct bytes wav, shelf;
+    struct content wav, shelf;
 };
 
 static bool is_pipe(const struct render *r) { return strcmp(r->wav_path, "-") == 0; }
@@ -69,8 +69,8 @@ static bool make_files(struct render *r, struct why *why) {
     about->bits = r->export.bits;
     export_apply(&r->export, r->sound.at, about->samples);
     struct wav wav = export_wav(&r->export, about->settings.rate, about->samples);
-    return wav_bytes(&wav, r->sound.at, &r->wav, why) &&
-           (!r->shelf_path || shelf_bytes(about, &r->sound, &wav, r->wav.at, &r->shelf, why));
+    return wav_bytes(&wav, r->sound.at, &r->wav.bytes, why) &&
+           (!r->shelf_path || shelf_bytes(about, &r->sound, &wav, r->wav.bytes.at, &r->shelf.bytes, why));
 }
 
 static bool open_files(struct render *r, struct why *why) {
@@ -79,7 +79,7 @@ static bool open_files(struct render *r, struct why *why) {
 
 static bool write_files(struct render *r, struct why *why) {
     if (!is_pipe(r)) return pair_write(&r->pair, &r->wav, &r->shelf, why);
-    if (write_all(STDOUT_FILENO, r->wav.at, r->wav.len)) return true;
+    if (write_all(STDOUT_FILENO, r->wav.bytes.at, r->wav.bytes.len)) return true;
     return refuse(why, "standard output: cannot be written: %s", strerror(errno));
 }
 
@@ -116,8 +116,8 @@ static bool run_render(char **given, struct why *why) {
     if (done) tell(r);
     pair_drop(&r->pair);
     sound_free(&r->sound);
-    free(r->wav.at);
-    free(r->shelf.at);
+    free(r->wav.bytes.at);
+    free(r->shelf.bytes.at);
     free(r);
     return done;
 }

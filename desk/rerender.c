@@ -4,18 +4,20 @@
 #include <math.h>
 #include <stdlib.h>
 
-/* The files as they were read, and the shelf as it will be. foreign: how many of the sections rendered again were of
-   another sound, neither the old score's nor the new one's. */
+/* The files as they were read, and the shelf as it will be. Samples `from` to before `to` are rendered again; where
+   none are, both are the end. foreign: how many of the sections rendered again were of another sound, neither the old
+   score's nor the new one's. */
 struct rerender {
     const char *new_path, *wav_path, *shelf_path;
     struct score after;
     struct shelf_file about;
     struct wav wav;
     struct bytes wav_file, shelf_file, new_shelf;
+    struct source source;
     struct pair pair;
     struct sound sound;
     bool equal;
-    size_t count, foreign;
+    size_t from, to, foreign;
 };
 
 /* Whether the shelf can be this WAV's, by what its head says. */
@@ -30,15 +32,24 @@ static bool is_of_wav(const struct rerender *r, struct why *why) {
                   about->settings.rate, wav->samples, wav->bits, wav->rate);
 }
 
-/* Both files, and the memory of their sound. */
+/* Both files, and the memory of their sound, which is that of the WAV. */
 static bool load(struct rerender *r, struct why *why) {
     if (!read_file(r->shelf_path, SHELF_MOST, &r->shelf_file, why)) return false;
     if (!shelf_look(r->shelf_file.at, r->shelf_file.len, &r->about, why)) return preface(why, "%s: ", r->shelf_path);
-    if (!read_file(r->wav_path, WAV_MOST, &r->wav_file, why)) return false;
+    if (!source_read(&r->source, r->wav_path, WAV_MOST, &r->wav_file, why)) return false;
     if (!wav_look(r->wav_file.at, r->wav_file.len, &r->wav, why)) return preface(why, "%s: ", r->wav_path);
     if (!is_of_wav(r, why) || !sound_make(&r->sound, r->about.samples, why)) return false;
     shelf_words(r->shelf_file.at, &r->sound);
+    wav_values(&r->wav, r->wav_file.at, 0, r->wav.samples, r->sound.at);
     return true;
+}
+
+/* What the count says: the first sample that was rendered again is that of the section that holds the first change. */
+static void find_made(struct rerender *r, size_t count) {
+    r->from = r->to = r->about.samples;
+    if (count == 0) return;
+    r->from = first_change(&r->about.score, &r->after) / GAV_SECTION * GAV_SECTION;
+    r->to = r->from + count;
 }
 
 static bool rerender_sound(struct rerender *r, struct why *why) {
@@ -50,9 +61,14 @@ static bool rerender_sound(struct rerender *r, struct why *why) {
                           .settings = &r->about.settings,
                           .samples = r->about.samples};
     uint64_t said = voice_rerender(&r->about.settings, &r->about.score, &r->after, &r->sound);
-    r->count = gav_count(said);
     r->equal = same_score(&r->about.score, &r->after);
+    find_made(r, gav_count(said));
     return accepted(said, &asked, why);
+}
+
+/* Sections before the start and from the stop on are not rendered again. */
+static bool stays(const struct rerender *r, size_t section) {
+    return section * GAV_SECTION < r->from || section * GAV_SECTION >= r->to;
 }
 
 static bool has_sum(const struct rerender *r, size_t section) {
@@ -72,12 +88,14 @@ static bool has_peak(const struct rerender *r, size_t section) {
     return stands && (r->wav.bits == 32 || kept.at == first + found.at);
 }
 
-/* Refuses where a section that is not rendered again is not as it should be: those before the first that is, or all
-   where none is. The words, before and after the shelf's name, are about the samples of the first such section. */
+/* Refuses where a section that is not rendered again is not as it should be. The words, before and after the shelf's
+   name, are about the samples of the first such section. */
 static bool all_stay(const struct rerender *r, bool (*is_kept)(const struct rerender *, size_t), const char *before,
                      const char *after, struct why *why) {
-    size_t from = r->about.samples - r->count, stay = (from + GAV_SECTION - 1) / GAV_SECTION, differ = 0, first = 0;
-    for (size_t i = stay; i-- > 0;) {
+    size_t stay = 0, differ = 0, first = 0;
+    for (size_t i = r->sound.sections; i-- > 0;) {
+        if (!stays(r, i)) continue;
+        stay++;
         if (is_kept(r, i)) continue;
         differ++;
         first = i;
@@ -106,47 +124,67 @@ static bool replace_section(struct rerender *r, size_t section) {
     return before != shelf_sum(r->shelf_file.at, section) && before != section_sum(&r->wav, r->wav_file.at, section);
 }
 
-/* Sections before the first that is rendered again keep their bytes; the others get the new samples. */
+/* The sections that stay keep their bytes; the others get the new samples. */
 static bool make_wav(struct rerender *r, struct why *why) {
-    size_t first = (r->about.samples - r->count) / GAV_SECTION;
     r->wav_file.len = wav_without_peak(r->wav_file.at, r->wav_file.len);
     if (!wav_look(r->wav_file.at, r->wav_file.len, &r->wav, why)) return preface(why, "%s: ", r->wav_path);
-    for (size_t i = first; i < r->sound.sections; i++) r->foreign += replace_section(r, i);
+    for (size_t i = 0; i < r->sound.sections; i++) {
+        if (!stays(r, i)) r->foreign += replace_section(r, i);
+    }
+    return true;
+}
+
+/* The new WAV; without its PEAK the bytes behind that have other places than in the old one. */
+static bool wav_content(struct rerender *r, struct content *wav, struct why *why) {
+    size_t len = r->wav_file.len, frame = r->wav.bits / 8;
+    if (!make_wav(r, why)) return false;
+    *wav = (struct content){.bytes = r->wav_file,
+                            .source = r->wav_file.len == len ? &r->source : NULL,
+                            .first = r->wav.data + frame * r->from,
+                            .end = r->wav.data + frame * r->to};
     return true;
 }
 
 /* An edit past the end changes no sample and no entry, only the score in the shelf. */
 static bool write_files(struct rerender *r, struct why *why) {
-    struct bytes nothing = {.at = NULL};
+    struct content wav = {.source = NULL};
     if (r->equal) return true;
-    if (r->count > 0 && !make_wav(r, why)) return false;
+    if (r->from < r->to && !wav_content(r, &wav, why)) return false;
     r->about.score = r->after;
     return shelf_bytes(&r->about, &r->sound, &r->wav, r->wav_file.at, &r->new_shelf, why) &&
-           pair_write(&r->pair, r->count > 0 ? &r->wav_file : &nothing, &r->new_shelf, why);
+           pair_write(&r->pair, &wav, &(struct content){.bytes = r->new_shelf}, why);
 }
 
 static void tell_foreign(const struct rerender *r) {
-    size_t sections = r->sound.sections - (r->about.samples - r->count) / GAV_SECTION;
+    size_t sections = gav_sections(r->to) - gav_sections(r->from);
     if (r->foreign == 0) return;
     printf("%s: %zu of %zu %s rendered again %s of another sound; %s the new score's now\n", r->wav_path, r->foreign,
            sections, counted(sections, "section", "sections"), counted(r->foreign, "was", "were"),
            counted(r->foreign, "it is", "they are"));
 }
 
-/* The peak of the whole sound, of which the voice made only the end. */
+/* From which sample to which. */
+static void tell_made(const struct rerender *r) {
+    double rate = r->about.settings.rate;
+    size_t samples = r->about.samples;
+    printf("%s: %zu of %zu %s rendered again, samples %zu to %zu (%.3f s to %.3f s)%s\n", r->wav_path, r->to - r->from,
+           samples, counted(samples, "sample", "samples"), r->from, r->to - 1, (double)r->from / rate,
+           (double)r->to / rate, r->to < samples ? "; those after them do not change" : "");
+}
+
+/* The peak of the whole sound as the WAV has it. */
 static void tell(struct rerender *r) {
-    size_t samples = r->about.samples, from = samples - r->count;
+    size_t samples = r->about.samples;
     const char *of = counted(samples, "sample", "samples");
     if (r->equal) {
         printf("%s: 0 of %zu %s change: %s is of this score already\n", r->wav_path, samples, of, r->shelf_path);
-    } else if (r->count == 0) {
+    } else if (r->from == r->to) {
         printf("%s: 0 of %zu %s change; left as it is\n", r->wav_path, samples, of);
     } else {
-        printf("%s: %zu of %zu %s rendered again, from sample %zu (%.3f s) on\n", r->wav_path, r->count, samples, of,
-               from, (double)from / r->about.settings.rate);
+        tell_made(r);
     }
     tell_foreign(r);
-    wav_values(&r->wav, r->wav_file.at, 0, samples, r->sound.at);
+    wav_values(&r->wav, r->wav_file.at, r->from, r->to - r->from, r->sound.at + r->from);
     tell_peak(stdout, r->wav_path, peak_of(r->sound.at, samples), r->wav.rate);
     tell_unheard(stdout, r->new_path, &r->after, samples, r->wav.rate);
 }
@@ -169,10 +207,12 @@ static bool run_rerender(char **given, struct why *why) {
     struct rerender *r = calloc(1, sizeof *r);
     if (!r) return refuse(why, "no memory for %zu bytes", sizeof *r);
     r->pair = NO_PAIR;
+    r->source = NO_SOURCE;
     bool done = read_rerender(given, r, why) && pair_open(&r->pair, r->wav_path, r->shelf_path, why) && load(r, why) &&
                 rerender_sound(r, why) && rest_is_kept(r, why) && write_files(r, why);
     if (done) tell(r);
     pair_drop(&r->pair);
+    source_close(&r->source);
     sound_free(&r->sound);
     free(r->wav_file.at);
     free(r->shelf_file.at);
@@ -187,11 +227,15 @@ const struct verb rerender_verb = {
     .help =
         "desk rerender NEW OUT.wav --shelf FILE\n"
         "Brings OUT.wav and the shelf from the score that the shelf is of to the score NEW. A section is 4096\n"
-        "samples, counted from sample zero. Only the section that holds the first changed record and those after it\n"
-        "are rendered again; those before it stay as they came, and are compared with the shelf's sums and peaks of\n"
-        "them. So both files are then what a render of NEW from sample zero with the shelf's settings and length\n"
-        "gives. The length stays: records of NEW at or past the end are not heard, and are told. NEW may be - for\n"
-        "standard input.\n"
+        "samples, counted from sample zero. Rendered again are the section that holds the first changed record and\n"
+        "those after it, up to the first at whose start the old sound and the new one meet: the records from there on\n"
+        "are the same, and so is the state; or up to the end, where they never meet. From which sample to which is\n"
+        "told. The sections before and after those stay as they came, and are compared with the shelf's sums and\n"
+        "peaks of them. So both files are then what a render of NEW from sample zero with the shelf's settings and\n"
+        "length gives. The length stays: records of NEW at or past the end are not heard, and are told. NEW may be -\n"
+        "for standard input.\n"
+        "After another velocity, or a key that is let go at another time, the sounds mostly meet at the next key;\n"
+        "after another pitch, or a key that goes down at another time, at the next reset.\n"
         "A shelf that is damaged, or of another length, rate or bits than the WAV, is named, and nothing is written.\n"
         "A WAV that is not the shelf's is named where it differs in a section that stays, and nothing is written; a\n"
         "section that is rendered again is told where it was of another sound. Chunks of other programs stay, but for\n"

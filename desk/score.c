@@ -27,6 +27,20 @@ bool same_score(const struct score *one, const struct score *other) {
     return one->len == other->len && memcmp(one->at, other->at, one->len) == 0;
 }
 
+size_t first_apart(const struct score *one, const struct score *other) {
+    size_t at = 0, both = one->len < other->len ? one->len : other->len;
+    while (at < both && one->at[at] == other->at[at]) at++;
+    return at / RECORD_BYTES;
+}
+
+uint32_t first_change(const struct score *one, const struct score *other) {
+    size_t record = first_apart(one, other);
+    if (RECORD_BYTES * record >= one->len) return position_of(other, record);
+    if (RECORD_BYTES * record >= other->len) return position_of(one, record);
+    uint32_t here = position_of(one, record), there = position_of(other, record);
+    return here < there ? here : there;
+}
+
 /* Positions never fall, so that the records that are not heard are the last ones. */
 size_t count_unheard(const struct score *score, size_t samples) {
     size_t records = score->len / RECORD_BYTES, heard = records;

@@ -88,13 +88,6 @@ static void tell_head(struct found *f) {
     }
 }
 
-/* The index of the first record in which two scores differ. */
-static size_t part_at(const struct score *one, const struct score *other) {
-    size_t at = 0;
-    while (at < one->len && at < other->len && one->at[at] == other->at[at]) at++;
-    return at / RECORD_BYTES;
-}
-
 /* Tells of the first entry that is not the render's, and how many are not. */
 static void tell_entries(struct found *f, const uint64_t *kept) {
     const struct from_zero *z = &f->beside;
@@ -153,7 +146,7 @@ static bool tell_shelf(struct found *f, struct why *why) {
     if (!kept.shelf) return refuse(why, "no memory for %zu words", kept.words);
     if (!same_score(&z->about.score, &z->score)) {
         TELL_WRONG(f, "%s is of another score than %s: they part at record %zu", z->shelf_path, z->score_path,
-                   part_at(&z->about.score, &z->score));
+                   first_apart(&z->about.score, &z->score));
     }
     shelf_words(z->shelf.at, &kept);
     tell_entries(f, kept.shelf);

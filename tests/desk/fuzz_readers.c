@@ -4,9 +4,9 @@
 
    Promised is: an accepted score is listed, and the list makes that score; an accepted text makes a score whose list
    makes it again; an accepted shelf has as many words as its length asks for, the library answers to them, and the desk
-   has words for the answer; each peak of it is a number at a sample of its section, and after a re-render those of the
-   sections rendered again are the samples'; the samples of a WAV lie in it, and are the same after its PEAK chunks are
-   taken out; what is refused is refused in words. */
+   has words for the answer; each peak of it is a number at a sample of its section, and a re-render makes whole
+   sections, whose peaks are then the samples'; the samples of a WAV lie in it, and are the same after its PEAK chunks
+   are taken out; what is refused is refused in words. */
 #include "fuzz_readers.h"
 
 #include <math.h>
@@ -108,14 +108,22 @@ static void hold_peaks(const uint8_t *file, size_t samples) {
     }
 }
 
-/* The peaks from a sample on, where a section begins. */
-static void hold_new_peaks(const struct sound *sound, size_t from) {
-    for (size_t first = from; first < sound->samples; first += GAV_SECTION) {
+/* The peaks of the sections from a sample to another. */
+static void hold_new_peaks(const struct sound *sound, size_t from, size_t to) {
+    for (size_t first = from; first < to; first += GAV_SECTION) {
         size_t section = first / GAV_SECTION;
         struct peak peak = peak_of(sound->at + first, section_end(sound->samples, section) - first);
         hold(bits_of(peak.level) == bits_of(sound->magnitudes[section]) && first + peak.at == sound->numbers[section],
              "a peak after a re-render is not the samples'");
     }
+}
+
+/* What was made starts at the section of the first change, and ends where a section does. */
+static void hold_made(const struct score *before, const struct score *after, const struct sound *sound, size_t count) {
+    size_t from = first_change(before, after) / GAV_SECTION * GAV_SECTION;
+    hold(from < sound->samples && count <= sound->samples - from, "a re-render counts samples past the end");
+    hold(from + count == sound->samples || count % GAV_SECTION == 0, "a re-render ends within a section");
+    hold_new_peaks(sound, from, from + count);
 }
 
 /* The library answers to whatever words an accepted shelf has: the first half of its score is made of it. */
@@ -137,7 +145,7 @@ static void use_shelf(const uint8_t *file, const struct shelf_file *about) {
                           .samples = about->samples};
     hold(number == 0 || (number >= 6 && number <= 8), "a re-render gives a number that is not its own");
     hold(accepted(answer, &asked, why) == (number == 0), "an answer is told as another");
-    hold_new_peaks(&sound, sound.samples - gav_count(answer));
+    if (gav_count(answer) > 0) hold_made(&about->score, &after, &sound, gav_count(answer));
     sound_free(&sound);
 }
 

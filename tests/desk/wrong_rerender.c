@@ -1,16 +1,54 @@
-/* A re-render that is a hundredth too soft, for linking the desk with --wrap=gav_rerender: the chart must show it. */
+/* Wrong re-renders, for linking the desk with --wrap=gav_rerender. Without WRONG in the environment what is made is a
+   hundredth too soft, and the chart must show it. WRONG=early counts a section too few, and WRONG=stale leaves the
+   records acted from the stop on as they came: `desk verify` must tell both. WRONG=far also makes what lies after the
+   stop too soft, and no file may show that. */
 #include "gavberin.h"
 
 #include "../settings.h"
 
+#include <stdlib.h>
+#include <string.h>
+
+#define RECORD 10u
 #define SCORES const uint8_t *before, size_t before_len, const uint8_t *after, size_t after_len
 #define SOUND double *out, size_t n, uint64_t *shelf, size_t words, SUMMARY
 
 uint64_t __real_gav_rerender(SETTINGS, SCORES, SOUND);
 uint64_t __wrap_gav_rerender(SETTINGS, SCORES, SOUND);
 
+static size_t position(const uint8_t *record) {
+    return record[2] | (size_t)record[3] << 8 | (size_t)record[4] << 16 | (size_t)record[5] << 24;
+}
+
+/* The sample that a re-render starts at, of scores that are not equal. */
+static size_t start(SCORES) {
+    size_t at = 0, place = SIZE_MAX;
+    while (at < before_len && at < after_len && memcmp(before + at, after + at, RECORD) == 0) at += RECORD;
+    if (at < before_len) place = position(before + at);
+    if (at < after_len && position(after + at) < place) place = position(after + at);
+    return place / GAV_SECTION * GAV_SECTION;
+}
+
+static void soften(double *from, size_t samples) {
+    for (size_t i = 0; i < samples; i++) from[i] *= 0.99;
+}
+
 uint64_t __wrap_gav_rerender(SETTINGS, SCORES, SOUND) {
+    const char *wrong = getenv("WRONG");
+    uint64_t *kept = malloc((words + 1) * sizeof *kept);
+    if (!kept) abort();
+    for (size_t i = 0; i < words; i++) kept[i] = shelf[i];
     uint64_t said = __real_gav_rerender(GIVEN, before, before_len, after, after_len, out, n, shelf, words, PEAKS);
-    for (size_t i = n - gav_count(said); i < n; i++) out[i] *= 0.99;
+    size_t count = gav_count(said), from = count ? start(before, before_len, after, after_len) : n, stop = from + count;
+    if (!wrong) {
+        soften(out + from, count);
+    } else if (strcmp(wrong, "far") == 0) {
+        soften(out + stop, n - stop);
+    } else if (strcmp(wrong, "early") == 0 && count > GAV_SECTION) {
+        said -= (uint64_t)GAV_SECTION << 32;
+    } else if (strcmp(wrong, "stale") == 0) {
+        for (size_t i = gav_shelf_words(stop) + 5; i < words; i += GAV_STATE_WORDS) shelf[i] = kept[i];
+    }
+    free(kept);
     return said;
 }
