@@ -11,12 +11,6 @@ void put_u64(uint8_t *at, uint64_t value) {
     for (unsigned i = 0; i < 8; i++) at[i] = (uint8_t)(value >> 8 * i);
 }
 
-uint32_t get_u16(const uint8_t *at) { return at[0] | (uint32_t)at[1] << 8; }
-
-uint32_t get_u32(const uint8_t *at) { return get_u16(at) | get_u16(at + 2) << 16; }
-
-uint64_t get_u64(const uint8_t *at) { return get_u32(at) | (uint64_t)get_u32(at + 4) << 32; }
-
 uint64_t bits_of(double value) {
     uint64_t bits;
     memcpy(&bits, &value, sizeof bits);

@@ -50,9 +50,10 @@ struct bytes {
 
 void put_u32(uint8_t *at, uint32_t value);
 void put_u64(uint8_t *at, uint64_t value);
-uint32_t get_u16(const uint8_t *at);
-uint32_t get_u32(const uint8_t *at);
-uint64_t get_u64(const uint8_t *at);
+/* Inline, since all samples of a WAV are read by them. */
+static inline uint32_t get_u16(const uint8_t *at) { return at[0] | (uint32_t)at[1] << 8; }
+static inline uint32_t get_u32(const uint8_t *at) { return get_u16(at) | get_u16(at + 2) << 16; }
+static inline uint64_t get_u64(const uint8_t *at) { return get_u32(at) | (uint64_t)get_u32(at + 4) << 32; }
 uint64_t bits_of(double value);
 double from_bits(uint64_t bits);
 uint64_t sum_of(const uint8_t *at, size_t len);

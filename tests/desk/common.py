@@ -168,6 +168,41 @@ def random_score(dice, records, step=lambda dice: dice.choice([0, 0, 1, 63, 64, 
     return score
 
 
+def first_change(one, other):
+    """The lower position of the two at the first index where the records differ; None where the scores are equal."""
+    a, b = records_of(one), records_of(other)
+    i = next((i for i, pair in enumerate(zip(a, b)) if pair[0] != pair[1]), min(len(a), len(b)))
+    return min((part[i][1] for part in (a, b) if i < len(part)), default=None)
+
+
+def but_acted(entry):
+    """An entry without bits 16 to 63 of word 5, the records acted."""
+    return entry[:42] + entry[48:]
+
+
+def made_between(one, other, samples, before, after):
+    """The samples that a re-render from one score to the other makes, from which to before which; both are the length
+    where it makes none. From 02's words, by the entries of renders of both from zero: it stops at the first entry past
+    the start where both states are the same but for records acted, and both scores' records from there on."""
+    change = first_change(one, other)
+    if change is None or change >= samples:
+        return samples, samples
+    start = change // 4096
+    for section in range(start + 1, -(-samples // 4096)):
+        place = slice(ENTRY * section, ENTRY * (section + 1))
+        rest = [[fields for fields in records_of(score) if fields[1] >= 4096 * section] for score in (one, other)]
+        if rest[0] == rest[1] and but_acted(before[place]) == but_acted(after[place]):
+            return 4096 * start, 4096 * section
+    return 4096 * start, samples
+
+
+def made_words(wav, made, samples, rate):
+    """How the desk tells of the samples that a re-render made, without the line's end."""
+    begin, end = made
+    words = f"{wav}: {end - begin} of {samples} samples rendered again, samples {begin} to {end - 1} ({begin / rate:.3f} s to {end / rate:.3f} s)"
+    return words + ("; those after them do not change" if end < samples else "")
+
+
 def wav_parts(path):
     """The format, rate, bits and samples of a WAV as the desk writes it, each field as it must be."""
     data = Path(path).read_bytes()

@@ -1,8 +1,8 @@
 /* A call that fails, or in which a signal comes, for LD_PRELOAD. FAIL_CALL names the call (write, fsync, close, rename,
-   or lock, the fcntl that locks a file), FAIL_AT which one of them in the program's run, counted from 1. FAIL_ERRNO is
-   the error. A write that is to fail with FAIL_SHORT set first writes half of what it is given, as a disk does that
-   fills up. Where FAIL_SIGNAL is set, the call does not fail: the program is sent that signal just before it. Standard
-   streams are let alone. */
+   copy, which is copy_file_range, or lock, the fcntl that locks a file), FAIL_AT which one of them in the program's
+   run, counted from 1. FAIL_ERRNO is the error, 0 for a call that does nothing and answers 0. A write or a copy that is
+   to fail with FAIL_SHORT set first does half of what it is given, as a disk does that fills up. Where FAIL_SIGNAL is
+   set, the call does not fail: the program is sent that signal just before it. Standard streams are let alone. */
 #define _GNU_SOURCE
 #include <dlfcn.h>
 #include <errno.h>
@@ -21,8 +21,8 @@ static int fails(const char *name) {
     const char *sign = getenv("FAIL_SIGNAL");
     if (!call || !at || strcmp(call, name) != 0 || ++calls < atoi(at)) return 0;
     if (sign && calls == atoi(at)) raise(atoi(sign));
-    /* A full disk stays full; the other calls fail once. */
-    if (sign || (calls > atoi(at) && strcmp(name, "write") != 0)) return 0;
+    /* A full disk stays full, and a file system that cannot copy never can; the other calls fail once. */
+    if (sign || (calls > atoi(at) && strcmp(name, "write") != 0 && strcmp(name, "copy") != 0)) return 0;
     errno = error ? atoi(error) : EIO;
     return 1;
 }
@@ -32,6 +32,15 @@ ssize_t write(int fd, const void *from, size_t len) {
     if (fd <= 2 || !fails("write")) return real(fd, from, len);
     int first = calls == atoi(getenv("FAIL_AT"));
     return getenv("FAIL_SHORT") && first && len > 1 ? real(fd, from, len / 2) : -1;
+}
+
+ssize_t copy_file_range(int from, off_t *at, int to, off_t *place, size_t len, unsigned flags) {
+    ssize_t (*real)(int, off_t *, int, off_t *, size_t, unsigned) =
+        (ssize_t(*)(int, off_t *, int, off_t *, size_t, unsigned))dlsym(RTLD_NEXT, "copy_file_range");
+    if (!fails("copy")) return real(from, at, to, place, len, flags);
+    int first = calls == atoi(getenv("FAIL_AT"));
+    if (getenv("FAIL_SHORT") && first && len > 1) return real(from, at, to, place, len / 2, flags);
+    return errno ? -1 : 0;
 }
 
 int fsync(int fd) {
