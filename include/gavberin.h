@@ -18,6 +18,7 @@
  *  - a buffer that is written (one whose pointer is not const) overlaps no other of the same call. Those that are only
  *    read may overlap: the old and the new score of a re-render may be one buffer;
  *  - nothing else writes to a buffer during a call, and nothing else reads one that is written;
+ *  - a re-render is lent what the last render or re-render left, as gav_rerender says below;
  *  - the processor's arithmetic is as C starts it: it rounds to nearest, and keeps numbers near 0 as they are.
  *
  * What a call takes: nothing from the heap, no system call, at most 64 KB of stack (measured: 45 KB, and 8 KB but for a
@@ -76,7 +77,9 @@ extern "C" {
  * arguments or of the number of words of a state, so a host and a library of one version fit each other. The shared
  * library's name carries the version: libgavberin.so.4. Since version 2 there is a tremolo; since version 3 notes may
  * be joined; since version 4 a render and a re-render take a summary, and GAV_ROUNDED_TRIANGLE is a waveform of every
- * library (of version 3 some libraries refuse it). */
+ * library (of version 3 some libraries refuse it). It did not grow when re-renders began to stop early: the first
+ * libraries of version 4 always go on to n. A host that lends and finds what gav_rerender says is right with both; one
+ * that takes n - count for the start is not. */
 #define GAV_VERSION 4
 
 /* The codes of the waveforms. The rounded triangle is a triangle whose corners are really rounded, so that it buzzes
@@ -215,15 +218,30 @@ static inline uint64_t gav_render_with(const struct gav_settings *s, const uint8
                       numbers_len);
 }
 
-/* Makes the output, shelf and summary of an old score those of a new one, under the same settings: starts at the
- * section that holds the position of the first changed record (of two different records at one index the lower
- * position), and writes from the start of that section to the end. The count is the samples written; 0, and nothing
- * written, where the scores are equal or the first change lies at n or later.
+/* Makes the output, shelf and summary of an old score those of a new one, under the same settings: from the section
+ * that holds the first change to the first one at which the old sound and the new one meet, or to the end.
+ *    start  the first sample of the section that holds P, the position of the first change: of two different records at
+ *           one index the lower position, or that of the record there where the other score has ended
+ *    stop   4096k for the first section k after the start's such that both scores have the same records from position
+ *           4096k on, those at n or later too, and entry k, as it came, is the state there, by bits, but for the
+ *           records that have acted, bits 16 to 63 of word 5; n where there is no such section
+ * Samples, entries, magnitudes and numbers from the start to the stop are written. From the stop on nothing is, but for
+ * those bits of every entry k, state or not, which become the number of the new score's records below position 4096k.
+ * The count is the samples from the start to the stop; 0, and nothing written, where the scores are equal or P is n or
+ * more.
+ * What was made: where a re-render stops before n, n - count is not its start. A host that keeps the samples elsewhere
+ * too, as in a file, compares the two scores itself, ten bytes at a time; of the first ten that differ the lower
+ * position is P, the start is GAV_SECTION * (P / GAV_SECTION), and the stop is the start + count.
+ * The caller's duty: from the start on samples, shelf and summary are as gav_render of the old score left them, or the
+ * gav_rerender that had the old score for its new one, under the same settings and n. Then they are, from the start on,
+ * as gav_render of the new score leaves them. No sample and no summary that came is read, so that one behind the stop
+ * that is wrong stays wrong. A host that lacks those of a later section spoils, say by setting every bit, the entries
+ * after the start's up to that section's: what is no state stops nothing. Where all entries after the start's are
+ * spoilt all is made up to n, and only the start's entry has to be as it was left.
  * old, old_len:   the score that out, shelf and summary were rendered of
  * new_, new_len:  the score to render now; it may be the same buffer
  * out, n; shelf, words; magnitudes, magnitudes_len, numbers, numbers_len: as for gav_render, holding what gav_render or
- *                 the last gav_rerender left. Written are the samples, entries, magnitudes and numbers from the start
- *                 section on; those before it stay, wrong ones too. No sample and no summary that came is read */
+ *                 the last gav_rerender left. What lies before the start stays, wrong or not */
 uint64_t gav_rerender(uint32_t rate, uint32_t code, double duty, double attack, double decay, double sustain,
                       double release, uint32_t lfo_code, double lfo_duty, double lfo_frequency, double lfo_depth,
                       uint32_t joined, const uint8_t *old, size_t old_len, const uint8_t *new_, size_t new_len,
