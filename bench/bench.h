@@ -21,12 +21,13 @@ render best_render;
 render floor_render;
 
 /* library.c: the calls of the library and of the reference voice, the plain C, on the settings, and a shelf and peaks
- * of their own: a render by either; a render in parts, the samples from the start of a section on as one part, and a
+ * of their own: a render by either; a render in parts, some samples from the start of a section on as one part, and a
  * re-render, which gives back its count. */
 void library_prepare(size_t samples);
 render ours_render, plain_render;
+const uint64_t *plain_shelf(void);
 void ours_continue(const struct gav_settings *settings, const struct score *score, double *out, size_t n, size_t part);
-void ours_from(const struct gav_settings *settings, const struct score *score, double *out, size_t n, size_t from);
+void ours_from(const struct gav_settings *settings, const struct score *score, double *out, size_t from, size_t n);
 size_t ours_rerender(const struct gav_settings *settings, const struct score *old, const struct score *new_,
                      double *out, size_t n);
 
@@ -37,6 +38,15 @@ struct keys {
 #define USUAL_KEYS ((struct keys){36, 48})
 struct score make_score(uint64_t seed, struct keys keys, size_t records, size_t samples);
 struct score copy_score(const struct score *score, size_t more);
+
+/* stretch.c: the samples that a re-render from one score to another makes, from which to before which, by 02's words
+ * and the plain C's renders of both; both are n where it makes none. The reference is then the plain C's of the new
+ * score. */
+struct stretch {
+    size_t from, to;
+};
+struct bench;
+struct stretch due_stretch(struct bench *bench, const struct score *old, const struct score *new_);
 
 /* clock.c: nanoseconds of this thread's own processor time, and the median of some measurements. */
 #define MOST_REPETITIONS 101
@@ -54,10 +64,11 @@ struct bench {
     unsigned met, missed, differences;
 };
 
-/* report.c: what is printed of a goal, and of samples or peaks whose bits differ from those of the plain C. */
+/* report.c: what is printed of a goal, and of samples, entries or peaks whose bits differ from those of the plain C. */
 const char *goal(struct bench *bench, double value, double most);
 void same_bits(struct bench *bench, const char *who, const char *wave);
 void same_peaks(struct bench *bench, const char *who, const char *wave); /* in library.c, which holds them */
+void same_shelf(struct bench *bench, const char *who, const char *wave); /* there too */
 void spoil_peaks(const struct bench *bench);                             /* ours, before a render that is compared */
 void differ(struct bench *bench, const char *what);
 void report_end(const struct bench *bench);

@@ -46,6 +46,8 @@ void plain_render(const struct gav_settings *s, const struct score *score, doubl
                           sections, plain.numbers, sections));
 }
 
+const uint64_t *plain_shelf(void) { return plain.shelf; }
+
 /* Rubbish in ours, so that a peak that is not written is seen. */
 void spoil_peaks(const struct bench *b) {
     const size_t sections = gav_sections(b->samples);
@@ -65,6 +67,17 @@ void same_peaks(struct bench *b, const char *who, const char *wave) {
     differ(b, what);
 }
 
+void same_shelf(struct bench *b, const char *who, const char *wave) {
+    char what[200];
+    size_t i = 0, words = gav_shelf_words(b->samples);
+    while (i < words && ours.shelf[i] == plain.shelf[i]) i++;
+    if (i == words) return;
+    snprintf(what, sizeof what, "%s, %s: word %zu of entry %zu is %016llx, of the plain C %016llx", who, wave,
+             i % GAV_STATE_WORDS, i / GAV_STATE_WORDS, (unsigned long long)ours.shelf[i],
+             (unsigned long long)plain.shelf[i]);
+    differ(b, what);
+}
+
 void ours_continue(const struct gav_settings *s, const struct score *score, double *out, size_t n, size_t part) {
     uint64_t state[GAV_STATE_WORDS];
     done(gav_fresh(state, GAV_STATE_WORDS));
@@ -74,10 +87,10 @@ void ours_continue(const struct gav_settings *s, const struct score *score, doub
     }
 }
 
-void ours_from(const struct gav_settings *s, const struct score *score, double *out, size_t n, size_t from) {
+void ours_from(const struct gav_settings *s, const struct score *score, double *out, size_t from, size_t n) {
     uint64_t state[GAV_STATE_WORDS];
     memcpy(state, ours.shelf + from / GAV_SECTION * GAV_STATE_WORDS, sizeof state);
-    done(gav_continue_with(s, score->bytes, score->len, state, GAV_STATE_WORDS, from, out + from, n - from));
+    done(gav_continue_with(s, score->bytes, score->len, state, GAV_STATE_WORDS, from, out + from, n));
 }
 
 size_t ours_rerender(const struct gav_settings *s, const struct score *old, const struct score *new_, double *out,
