@@ -26,11 +26,27 @@ static bool same_state(const uint64_t *one, const uint64_t *other) {
     return true;
 }
 
+/* What the plain C's last render left, to be freed. */
 static uint64_t *copy_of_shelf(size_t words) {
     uint64_t *copy = malloc((words + 1) * sizeof *copy);
-    if (!copy) exit((fputs("bench: no memory\n", stderr), 2));
+    if (!copy) {
+        fputs("bench: no memory\n", stderr);
+        exit(2);
+    }
     memcpy(copy, plain_shelf(), words * sizeof *copy);
     return copy;
+}
+
+/* The first sample after one, of a section's first ones, at which the two sounds meet, by the entries of both; n where
+ * there is none. */
+static size_t meets_at(const struct score *old, const struct score *new_, const uint64_t *before, size_t from,
+                       size_t n) {
+    const uint64_t *after = plain_shelf();
+    for (size_t at = from + GAV_SECTION; at < n; at += GAV_SECTION) {
+        size_t entry = gav_shelf_words(at);
+        if (same_from(old, new_, at) && same_state(before + entry, after + entry)) return at;
+    }
+    return n;
 }
 
 struct stretch due_stretch(struct bench *b, const struct score *old, const struct score *new_) {
@@ -41,13 +57,7 @@ struct stretch due_stretch(struct bench *b, const struct score *old, const struc
     struct stretch made = {b->samples, b->samples};
     if (change < b->samples) {
         made.from = (size_t)(change / GAV_SECTION * GAV_SECTION);
-        made.to = made.from + GAV_SECTION;
-        while (made.to < b->samples &&
-               !(same_from(old, new_, made.to) &&
-                 same_state(before + gav_shelf_words(made.to), plain_shelf() + gav_shelf_words(made.to)))) {
-            made.to += GAV_SECTION;
-        }
-        if (made.to > b->samples) made.to = b->samples;
+        made.to = meets_at(old, new_, before, made.from, b->samples);
     }
     free(before);
     return made;
