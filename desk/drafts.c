@@ -11,7 +11,8 @@
 
 /* A lock is tried again where another desk has just renamed or removed the locked file. */
 #define MOST_TRIES 100u
-/* A multiple of the blocks of every file system: two files can share whole blocks, and then nothing is copied. */
+/* Copies begin and end at multiples of this, which the blocks of every file system divide: two files can share whole
+   blocks, and then no byte is moved. */
 #define BLOCK 65536u
 
 enum lock { LOCKED, GONE, TAKEN };
