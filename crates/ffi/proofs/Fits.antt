@@ -30,7 +30,7 @@ use Rattle.render.specs.declared.Rendered.{Rendered}
 use Rattle.render.specs.Calls.{madeOf, renderOf, continueRefusals}
 use Rattle.rerender.specs.declared.Plan.{Plan}
 use Rattle.rerender.specs.declared.Plan.the-variants.{Nothing, From}
-use Rattle.rerender.specs.Rerender.{planOf, isStart, outcomeOf, startRefusals, rerenderRefusals, keptOf, rerenderOf}
+use Rattle.rerender.specs.Rerender.{planOf, isStart, stopOf, outcomeOf, startRefusals, rerenderRefusals, keptOf, rerenderOf}
 use Rattle.rerender.proofs.Cases.{checks, all-checked}
 use Rattle.score.specs.Record.{countOf}
 use Rattle.score.specs.Score.{markRight, kindRight, fieldsRight, inOrder, faultsAt, faultsFrom, faultsOf, answerOf}
@@ -154,7 +154,7 @@ render-fits g s b =
     (λ none. done-fits (samplesIn b) (omega (arith, in-room b (all-passed g (roomIn b) s none .sized) .short)))
 
 pub rerender-fits : (g : Settings) (old new : List ℕ) (b : Buffers) → Fits (rerenderOf g old new b .result)
-unfolding rerenderOf
+unfolding rerenderOf stopOf
 rerender-fits g old new b =
     let plan = planOf old new (samplesIn b) in
     let tests = checks g old new (roomIn b) in
@@ -168,7 +168,7 @@ rerender-fits g old new b =
 
     run-fits : (q : Plan) → samplesIn b ≤ mostSamples → Fits (outcomeOf g old new q b .result)
     run-fits Nothing h = done-fits 0 (omega arith)
-    run-fits (From m) h = done-fits (samplesIn b - m * 4096) (omega arith)
+    run-fits (From m) h = done-fits (stopOf g old new m b - m * 4096) (omega arith)
 
 -- what a continuing call in words answers
 abbrev pub continueSays : Choice → List ℕ → List ℕ → ℕ → ℕ → Answer

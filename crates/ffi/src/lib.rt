@@ -135,8 +135,8 @@ pub extern "C" fn gav_render(
     packed(answer)
 }
 
-// The samples, the entries and the summary from the start of the section that holds the first changed position, as the
-// new score gives them.
+// The samples, the entries and the summary from the start of the section that holds the first changed position to the
+// stop, as the new score gives them; from the stop on each entry's number of records acted.
 #[no_mangle]
 pub extern "C" fn gav_rerender(
     rate: u32,
