@@ -29,6 +29,7 @@ mod render_joined;
 mod render_random;
 mod render_rounded;
 mod render_rows;
+mod render_stops;
 mod render_tremolo;
 mod rounded;
 mod rows;

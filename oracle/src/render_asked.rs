@@ -1,6 +1,6 @@
 //! What a row of the render asks for, by the names of its words, and what the original or 01 answers.
 
-use crate::render::{untouched, Lfo, Player, Record, Settings, Words, KIND_RESET, SECTION, STATE_WORDS};
+use crate::render::{untouched, Lfo, Played, Player, Record, Settings, Words, KIND_RESET, SECTION, STATE_WORDS};
 use crate::rows::says;
 use crate::waveform_rows::{wave_words, Wave, PULSE, SAWTOOTH, SINE, SQUARE, TRIANGLE, UNWRITTEN};
 
@@ -158,13 +158,40 @@ impl Asked {
         })
     }
 
-    /// The first sample, and the first word of the shelf, that the call writes.
-    fn start(&self) -> (u64, u64) {
-        match start_of(&self.old, &self.score, self.samples) {
-            _ if self.op != RERENDER => (0, 0),
-            Some(from) => (from, entry_at(from)),
-            None => (self.samples, self.shelf),
+    /// Where a re-render from a mark stops, by 02: at the first later mark from which on both scores have the same
+    /// records, and whose entry came as the one that is due, apart from records acted; or at the end.
+    fn stop(&self, from: u64, due: &[u64]) -> u64 {
+        let came = &self.left[self.samples as usize..];
+        let is_stop = |&mark: &u64| {
+            let entry = entry_at(mark) as usize..entry_at(mark + SECTION) as usize;
+            let is_met = unnumbered(&came[entry.clone()]) == unnumbered(&due[entry]);
+            is_met && records_from(&self.old, mark) == records_from(&self.score, mark)
+        };
+        let mut later = (from + SECTION..self.samples).step_by(SECTION as usize);
+        later.find(is_stop).unwrap_or(self.samples)
+    }
+
+    /// Puts what a re-render leaves as it came in the place of what was played: all before its start and, but for the
+    /// records acted, all from its stop on. The samples between.
+    fn keep(&self, played: &mut Played) -> u64 {
+        let from = start_of(&self.old, &self.score, self.samples).unwrap_or(self.samples);
+        let stop = self.stop(from, &played.shelf);
+        let (samples, shelf) = self.left.split_at(self.samples as usize);
+        for (at, sample) in played.samples.iter_mut().enumerate() {
+            if !(from..stop).contains(&(at as u64)) {
+                *sample = samples[at];
+            }
         }
+        for (at, word) in played.shelf.iter_mut().enumerate() {
+            let (mark, came) = ((at / STATE_WORDS) as u64 * SECTION, shelf[at]);
+            assert!(mark != from || *word == came, "an entry parts ways");
+            if stop <= mark && at % STATE_WORDS == 5 {
+                *word = *word >> 16 << 16 | came % 65536;
+            } else if !(from..stop).contains(&mark) {
+                *word = came;
+            }
+        }
+        stop - from
     }
 
     /// Whether a given state is outside the limits, or not the one at its position.
@@ -206,13 +233,8 @@ impl Asked {
             let same = untouched(settings, &score, self.samples);
             assert!(same == played.samples, "the untouched copies part ways");
         }
-        let (from, entry) = self.start();
-        let (samples, shelf) = self.left.split_at(if self.op == RERENDER { self.samples as usize } else { 0 });
-        let first = entry as usize..shelf.len().min(entry as usize + STATE_WORDS);
-        assert!(shelf[first.clone()] == played.shelf[first], "an entry parts ways");
-        played.samples.splice(..from as usize, samples[..from as usize].iter().copied());
-        played.shelf.splice(..entry as usize, shelf[..entry as usize].iter().copied());
-        let mut words = vec![says(0, 0, self.samples - from)];
+        let count = if self.op == RERENDER { self.keep(&mut played) } else { self.samples };
+        let mut words = vec![says(0, 0, count)];
         // A re-render hands back no state.
         words.extend(if self.op == RERENDER { self.state } else { player.words() });
         words.extend(played.scales.into_iter().take(self.scales() as usize));
@@ -220,6 +242,19 @@ impl Asked {
         words.extend(played.shelf.into_iter().take(self.shelf as usize));
         words
     }
+}
+
+/// The records of an accepted score from a position on.
+fn records_from(score: &[u8], position: u64) -> &[u8] {
+    let below = score.chunks(RECORD).filter(|record| word_of(&record[2..6]) < position).count();
+    &score[RECORD * below..]
+}
+
+/// An entry without its number of records acted. What is no state has not the bits of one.
+fn unnumbered(entry: &[u64]) -> Words {
+    let mut words: Words = entry.try_into().unwrap();
+    words[5] %= 65536;
+    words
 }
 
 /// The words of the shelf that 02 asks for.

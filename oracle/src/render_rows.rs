@@ -18,7 +18,7 @@
 
 use crate::render_asked::{Asked, GIVEN};
 use crate::rows::Part;
-use crate::{render_edges, render_edits, render_joined, render_rounded};
+use crate::{render_edges, render_edits, render_joined, render_rounded, render_stops};
 
 pub const PART: Part = Part {
     name: "render",
@@ -27,7 +27,16 @@ pub const PART: Part = Part {
     more_at: Some(1),
     answer_at: Some(GIVEN),
     ops: &["render", "continue", "re-render"],
-    edges: || [render_edges::all(), render_edits::edges(), render_joined::edges(), render_rounded::edges()].concat(),
+    edges,
     random: render_rounded::in_turn,
     answer: |row| Asked::of(row).answer(),
 };
+
+fn edges() -> Vec<Vec<u64>> {
+    let mut list = render_edges::all();
+    list.extend(render_edits::edges());
+    list.extend(render_joined::edges());
+    list.extend(render_rounded::edges());
+    list.extend(render_stops::edges());
+    list
+}

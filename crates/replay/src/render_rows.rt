@@ -8,6 +8,7 @@ use crate::nearness::Finding;
 use crate::summary;
 use envelope::Adsr;
 use render::Rendered;
+use score::Difference;
 use state::Keying;
 use state::Settings;
 use tremolo::Lfo;
@@ -49,7 +50,8 @@ fn judged(
     numbers: &mut [u64],
 ) -> Finding {
     let told = is_called(row, out, shelf, magnitudes, numbers);
-    let summed = summary::is_right(out, began(row, out.len()), magnitudes, numbers);
+    let from = began(row);
+    let summed = summary::is_right(out, from, ended(row, from), magnitudes, numbers);
     held(told & summed, row, out, shelf)
 }
 
@@ -69,13 +71,25 @@ fn held(all_else: bool, row: &[u8], out: &[f64], shelf: &[u64]) -> Finding {
     fields::compared(equal, row, has_sine, samples, scales, 8, out)
 }
 
-// The first sample that the call has made, by the count of the row's answer: past the last one where the call was
-// refused, and of a continuing call, which keeps no summary.
-fn began(row: &[u8], samples: usize) -> usize {
-    if words::u64_at(row, 0) == 1 {
-        return samples;
+// The first sample that the call has made: of a re-render the first of the section where its scores first differ.
+fn began(row: &[u8]) -> usize {
+    if words::u64_at(row, 0) != 2 {
+        return 0;
     }
-    samples - fields::at_most(words::u64_at(row, 248) / 0x1_0000_0000, samples)
+    match score::first_difference(old_score(row), bytes_at(row, ROW, 120)) {
+        Difference::Equal => 0,
+        Difference::At(position) => position as usize / 4096 * 4096,
+    }
+}
+
+// The sample after the last one that the call has made, by the count of the row's answer: none where the call was
+// refused. A continuing call keeps no summary.
+fn ended(row: &[u8], from: usize) -> usize {
+    if words::u64_at(row, 0) == 1 {
+        return from;
+    }
+    let count = words::u64_at(row, 248) / 0x1_0000_0000;
+    std::num::wrapping_add_usize(from, count as usize)
 }
 
 // Whether the call's answer and the state after it are the row's. A row with a keying that is none names no call.
@@ -123,17 +137,21 @@ fn is_rerendered(
     magnitudes: &mut [f64],
     numbers: &mut [u64],
 ) -> bool {
-    let old_at = past(row, ROW, 120);
-    let first = past(row, old_at, 136);
+    let first = past(row, past(row, ROW, 120), 136);
     fields::put_floats(row, first, out);
     fields::put_words(
         row,
         std::num::wrapping_add_usize(first, out.len() << 3),
         shelf,
     );
-    let old = bytes_at(row, old_at, 136);
+    let old = old_score(row);
     let answer = rerender::rerender(settings, old, score, out, shelf, magnitudes, numbers);
     fields::says(answer, words::u64_at(row, 248))
+}
+
+// The old score of a re-render, which comes after the new one.
+fn old_score(row: &[u8]) -> &[u8] {
+    bytes_at(row, past(row, ROW, 120), 136)
 }
 
 // The bytes of the score at byte `at`: as many as the word at `size_at` says, at most as many as are left.

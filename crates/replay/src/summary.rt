@@ -6,9 +6,15 @@ use crate::fields;
 // The bit of the sign.
 const SIGN: u64 = 0x8000_0000_0000_0000;
 
-// Whether every section has its largest magnitude and the number of the first sample where it stands; one that begins
-// before sample `from`, where the call began, what it held before the call.
-pub fn is_right(samples: &[f64], from: usize, magnitudes: &[f64], numbers: &[u64]) -> bool {
+// Whether every section that the call has made, which began at sample `from` and ended before sample `to`, has its
+// largest magnitude and the number of the first sample where it stands; any other section what it held before the call.
+pub fn is_right(
+    samples: &[f64],
+    from: usize,
+    to: usize,
+    magnitudes: &[f64],
+    numbers: &[u64],
+) -> bool {
     let mut equal = true;
     let mut largest = 0;
     let mut first = 0;
@@ -20,17 +26,18 @@ pub fn is_right(samples: &[f64], from: usize, magnitudes: &[f64], numbers: &[u64
             first = i as u64;
         }
         if (i % 4096 == 4095) | (i + 1 == samples.len()) {
-            equal = equal & is_entry(i, from, largest, first, magnitudes, numbers);
+            let made = (from <= i) & (i < to);
+            equal = equal & is_entry(i, made, largest, first, magnitudes, numbers);
         }
         i += 1;
     }
     equal
 }
 
-// Whether the section that ends with sample `last` has that peak, or what was there before.
+// Whether the section that ends with sample `last` has that peak, or where it was not made what was there before.
 fn is_entry(
     last: usize,
-    from: usize,
+    made: bool,
     largest: u64,
     first: u64,
     magnitudes: &[f64],
@@ -44,7 +51,7 @@ fn is_entry(
         return false;
     }
     let magnitude = words::f64_bits(magnitudes[k]);
-    if last < from {
+    if !made {
         return (magnitude == words::f64_bits(fields::UNWRITTEN)) & (numbers[k] == fields::UNKEPT);
     }
     (magnitude == largest) & (numbers[k] == first)

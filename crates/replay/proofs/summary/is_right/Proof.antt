@@ -6,10 +6,10 @@ use Rattle.replay.proofs.summary.is_right.Statement.{statement}
 use Rattle.replay.proofs.summary.is_right.Tie as tie
 
 abbrev Inv-loop : tie.InvT-loop
-Inv-loop samples from magnitudes numbers equal₀ largest₀ first₀ i₀ equal largest first i = Unit
+Inv-loop samples from to magnitudes numbers equal₀ largest₀ first₀ i₀ equal largest first i = Unit
 
 abbrev μ-loop : tie.MeasureT-loop
-μ-loop samples from magnitudes numbers equal₀ largest₀ first₀ i₀ equal largest first i = length samples - i
+μ-loop samples from to magnitudes numbers equal₀ largest₀ first₀ i₀ equal largest first i = length samples - i
 
 pub is-right-spec : {M : Type 1} → statement M
 is-right-spec =
