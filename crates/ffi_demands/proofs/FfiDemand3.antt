@@ -3,10 +3,10 @@
 use mathlib.Core.Path.{_≡_, sym, ap, _∙_}
 use mathlib.Core.Bool.{true}
 use mathlib.Core.List.{List}
-use Prim.Native.Nat.{ℕ, _/_, _<_}
+use Prim.Native.Nat.{ℕ, _-_, _*_, _/_, min, _<_}
 use lib.Dec.{T}
 use lib.Ieee.{binary64, fits}
-use Rattle.sections.specs.Outcome.{Buffers, samplesIn, Lent, onward, leaves}
+use Rattle.sections.specs.Outcome.{Buffers, samplesIn, Lent, before, onward, leaves}
 use Rattle.sections.proofs.Room.{in-room}
 use Rattle.answers.specs.declared.Answer.the-variants.{Done}
 use Rattle.answers.specs.declared.Refusal.the-variants.{Setting}
@@ -14,11 +14,11 @@ use Rattle.answers.specs.Numbers.{numbersOf}
 use Rattle.score.specs.declared.Difference.the-variants.{At}
 use Rattle.score.specs.Record.{countOf}
 use Rattle.score.specs.Apart.{differenceOf}
-use Rattle.shelf.specs.Shelf.{sectionSize}
+use Rattle.shelf.specs.Shelf.{sectionSize, entryAt}
 use Rattle.state.specs.declared.Settings.{Settings}
 use Rattle.state.specs.Settings.{settingsOk}
 use Rattle.render.specs.Calls.{renderOf}
-use Rattle.rerender.specs.Rerender.{entryAt, rerenderOf}
+use Rattle.rerender.specs.Rerender.{rerenderOf}
 use Rattle.demands.specs.Demand3.{Taken, Edit, BuffersOf, leftIn, FromSection}
 use Rattle.demands.proofs.Honest.{render-passed}
 use Rattle.demands.proofs.Demand3.{demand-3-holds}
@@ -28,7 +28,7 @@ use Rattle.ffi.specs.declared.Choice.the-variants.{Known}
 use Rattle.ffi.specs.Packed.{packedOf}
 use Rattle.ffi.specs.Ffi.{choiceOf, renderFor, rerendered, rerenderFor}
 use Rattle.ffi.proofs.ReadBack.{rerender-reads}
-use Rattle.ffi_demands.specs.WordsDemand3.{ffiLeft, Zero, FfiRemade, WordsDemand3}
+use Rattle.ffi_demands.specs.WordsDemand3.{ffiLeft, Zero, FfiCounted, FfiRemade, FfiStartRemade, WordsDemand3}
 use Rattle.ffi_demands.proofs.Zero.{refused-not-zero, zero-done}
 use Rattle.ffi_demands.proofs.Codes.{is-known, sustain-fits}
 
@@ -65,19 +65,46 @@ module _ (a : Asked) (sus : T (fits binary64 (a .sustain))) (old new : List ℕ)
   in-words : (g : Settings) → choiceOf a ≡ Known g → rerenderFor (choiceOf a) old new b ≡ rerendered (rerenderOf g old new b)
   in-words g is = ap (λ (c : Choice). rerenderFor c old new b) is
 
-  remade : (p : ℕ) → differenceOf old new ≡ At p → p < samplesIn b → (r : BuffersOf (samplesIn b)) → Zero (ffiLeft a old r .result) → entryAt (b .stored) (p / sectionSize) ≡ entryAt (ffiLeft a old r .left .stored) (p / sectionSize)
-      → FfiRemade a new (p / sectionSize) b (rerenderFor (choiceOf a) old new b)
-  remade p e heard r zero left =
-      let q = zero-good a old (r .buffers) zero in
-      let g = q .settings in
-      let m = p / sectionSize in
-      let d = demand-3-holds .re-rendered g old new (edit r q) b z p e heard r (left ∙ ap (λ (c : Buffers). entryAt (c .stored) m) (desk-left a g (q .known) old r)) in
-      rw (in-words g (q .known))
-      (record {
-        counted = ap packedOf (d .counted);
-        reads = rerender-reads g old new b ∙ ap numbersOf (d .counted);
-        left = desk-from a g (q .known) new m b (rerenderOf g old new b .left) (d .left);
-      })
+  says : (g : Settings) (m k : ℕ) → rerenderOf g old new b .result ≡ Done (min (k * sectionSize) (samplesIn b) - m * sectionSize) → FfiCounted m k b (rerendered (rerenderOf g old new b) .result)
+  says g m k e = record { counted = ap packedOf e; reads = rerender-reads g old new b ∙ ap numbersOf e }
+
+  module _ (p : ℕ) (e : differenceOf old new ≡ At p) (heard : p < samplesIn b) (r : BuffersOf (samplesIn b)) (zero : Zero (ffiLeft a old r .result)) where
+    abbrev m : ℕ
+    m = p / sectionSize
+
+    q : Good a old (r .buffers)
+    q = zero-good a old (r .buffers) zero
+
+    remade : onward m b ≡ onward m (ffiLeft a old r .left) → FfiRemade a old new m b (rerenderFor (choiceOf a) old new b)
+    remade left =
+        let g = q .settings in
+        let d = demand-3-holds .re-rendered g old new (edit r q) b z p e heard r (left ∙ ap (onward m) (desk-left a g (q .known) old r)) in
+        rw (in-words g (q .known))
+        (record {
+          settings = g;
+          known = q .known;
+          stop-section = d .stop-section;
+          stops = d .stops;
+          says = says g m (d .stop-section) (d .to-the-stop .counted);
+          left = desk-from a g (q .known) new m b (rerenderOf g old new b .left) (d .left);
+        })
+
+    start-remade : entryAt (b .stored) m ≡ entryAt (ffiLeft a old r .left .stored) m → FfiStartRemade a old new m b (rerenderFor (choiceOf a) old new b)
+    start-remade left =
+        let g = q .settings in
+        let d = demand-3-holds .start-alone g old new (edit r q) b z p e heard r (left ∙ ap (λ (c : Buffers). entryAt (c .stored) m) (desk-left a g (q .known) old r)) in
+        let to = d .to-the-stop in
+        rw (in-words g (q .known))
+        (record {
+          settings = g;
+          known = q .known;
+          stop-section = d .stop-section;
+          stops = d .stops;
+          says = says g m (d .stop-section) (to .counted);
+          are-rendered = λ s. to .are-rendered s ∙ sym (ap (λ (c : Buffers). onward m (before (d .stop-section) c)) (desk-left a g (q .known) new s));
+          stay = to .stay;
+          recounted = to .recounted;
+        })
 
   nothing : (r : BuffersOf (samplesIn b)) → Zero (ffiLeft a old r .result) → ((g : Settings) → Edit g old new → rerenderOf g old new b ≡ leaves (Done 0) b) → rerenderFor (choiceOf a) old new b ≡ leaves (packedOf (Done 0)) b
   nothing r zero f = let q = zero-good a old (r .buffers) zero in in-words (q .settings) (q .known) ∙ ap rerendered (f (q .settings) (edit r q))
@@ -85,7 +112,8 @@ module _ (a : Asked) (sus : T (fits binary64 (a .sustain))) (old new : List ℕ)
 pub words-demand-3 : WordsDemand3
 words-demand-3 =
     record {
-      re-rendered = remade;
+      re-rendered = λ a sus old new t b z p e heard r zero. remade a sus old new t b z p e heard r zero;
+      start-alone = λ a sus old new t b z p e heard r zero. start-remade a sus old new t b z p e heard r zero;
       equal = λ a sus s b z r zero. nothing a sus s s (zero-good a s (r .buffers) zero .taken) b z r zero (λ g x. demand-3-holds .equal g s x b z);
       late = λ a sus old new t b z p e l r zero. nothing a sus old new t b z r zero (λ g x. demand-3-holds .late g old new x b z p e l);
     }

@@ -14,12 +14,12 @@ use Rattle.answers.proofs.Order.{none-both}
 use Rattle.score.specs.Record.{countOf}
 use Rattle.state.specs.declared.Settings.{Settings}
 use Rattle.state.specs.Settings.{settingsOk}
-use Rattle.render.specs.Calls.{renderOf}
+use Rattle.render.specs.Calls.{madeOf, renderOf}
 use Rattle.rerender.specs.Rerender.{planOf, countFor, startRefusals, rerenderOf}
 use Rattle.rerender.proofs.Cases.{checks, all-checked, rerender-decided}
 use Rattle.demands.specs.Demand3.{Taken, BuffersOf}
 use Rattle.demands.specs.Edits.{andOver, editsFrom, lastScore, allCounted, AllTaken, Editing}
-use Rattle.demands.proofs.Demand3.{rendered}
+use Rattle.demands.proofs.Whole.{rendered}
 use Rattle.demands.proofs.Edits.{last-taken, any-edits}
 use Rattle.ffi.specs.declared.Asked.{Asked}
 use Rattle.ffi.specs.declared.Choice.{Choice}
@@ -63,7 +63,7 @@ words-taken a g is news old b z = zero-taken g news old b (subst (λ (o : Outcom
 counted-zeros : (g : Settings) (n : ℕ) (news : List (List ℕ)) (old : List ℕ) → AllZero (map packedOf (allCounted g old news n))
 unfolding allCounted
 counted-zeros g n [] old = tt
-counted-zeros g n (new ∷ rest) old = (done-zero (countFor g old new (planOf old new n) n), counted-zeros g n rest new)
+counted-zeros g n (new ∷ rest) old = (done-zero (countFor g old new (planOf old new n) (madeOf g old n .left)), counted-zeros g n rest new)
 
 -- ---- over rubbish
 module _ (a : Asked) (old : List ℕ) (news : List (List ℕ)) (m : ℕ) (b : Buffers) (e : FfiEditing a old news m b) where

@@ -43,7 +43,7 @@ pub record FfiEditing (a : Asked) (old : List ℕ) (news : List (List ℕ)) (m :
   pub none-before : NoneBefore m (samplesIn b) old news
 
 -- ---- what is promised
--- each call has the count of its plan; from section m on one gav_render of the last score is left, before section m
+-- each call has the count that its plan has after a render of the score before; from section m on one gav_render of the last score is left, before section m
 -- what came
 pub record FfiEdited (a : Asked) (old : List ℕ) (news : List (List ℕ)) (m : ℕ) (b : Buffers) (o : Outcome (List ℕ)) : Type 0 where
   pub settings : Settings
@@ -51,7 +51,7 @@ pub record FfiEdited (a : Asked) (old : List ℕ) (news : List (List ℕ)) (m : 
   pub result : o .result ≡ map packedOf (allCounted settings old news (samplesIn b))
   pub left : FromSection b (ffiLeft a (lastScore old news)) m (o .left)
 
--- after a gav_render: each call has the count of its plan in n samples, and together the calls leave what one
+-- after a gav_render: each call has its count, in n samples, and together the calls leave what one
 -- gav_render of the last score leaves, which is done
 pub record LastFfiRender (a : Asked) (first : List ℕ) (news : List (List ℕ)) (n : ℕ) (b : Buffers) (o : Outcome (List ℕ)) : Type 0 where
   pub settings : Settings
