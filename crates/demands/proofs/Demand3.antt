@@ -1,7 +1,7 @@
 -- The claim of specs/Demand3.antt. Both scores give one state at the start of the section, and the section's entry is
 -- read as that state; so a re-render goes on from the state that a render of the new score has there. From the stop on
--- both scores make the same (proofs/Stops.antt), so what the old render left there is the new one's, but for the numbers
--- of records acted, which the call renews. Assumes nothing.
+-- both scores make the same (proofs/Stops.antt), so what the old render left there is the new one's, but for the
+-- numbers of records acted, which the call renews. Assumes nothing.
 use mathlib.Core.Path.{_≡_, refl, sym, subst, ap, _∙_}
 use mathlib.Core.Bool.{true}
 use mathlib.Core.List.{List, []}

@@ -51,8 +51,8 @@ module _ (g : Settings) (old new : List ℕ) (x : Edit g old new) (n : ℕ) (sho
   lent : Lent b
   lent = sized-lent n b short (h .sized)
 
-  -- the call is done with the count that its plan has after a render of the old score, leaves from section k on what a render of the new score leaves, and
-  -- before section k what came
+  -- the call is done with the count that its plan has after a render of the old score, leaves from section k on what a
+  -- render of the new score leaves, and before section k what came
   pub record OneEdit (o : Outcome Answer) : Type 0 where
     pub counted : o .result ≡ Done (countFor g old new (planOf old new n) (wholeOf g old n))
     pub holds : Holds g new n k (o .left)

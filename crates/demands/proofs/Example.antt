@@ -1,7 +1,7 @@
 -- Demand 3 met by edits, and `AnyEdits` met over rubbish. First a note at 0, and an off added at 5,000, in an output of
 -- 6,000 samples that holds rubbish throughout, with rubbish in entry 0; entry 1 is what a render of the old score left.
--- The re-render starts at section 1, writes 1,904 samples, and leaves everything before sample 4,096 as it came. Last an
--- edit that stops: an off at 0 that finds no key held, in an output of 8,192 samples. Assumes nothing.
+-- The re-render starts at section 1, writes 1,904 samples, and leaves everything before sample 4,096 as it came. Last
+-- an edit that stops: an off at 0 that finds no key held, in an output of 8,192 samples. Assumes nothing.
 use mathlib.Core.Path.{_≡_, refl, sym, ap, _∙_}
 use mathlib.Core.List.{List, [], _∷_, _++_}
 use Prim.Native.Nat.{ℕ, _+_, _-_, _*_, _/_, min, _≤_, _<_}

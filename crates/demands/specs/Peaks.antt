@@ -6,8 +6,8 @@
 -- What a summary tells is said here in the samples' own numbers, without sections cut out of a list and without a
 -- running peak (`Tells`): of finite samples the summary that is worked out from nothing tells this, and no other does.
 -- That a summary stays right needs no finite sample; that it then tells the largest does, and every sample that a
--- render or a re-render makes is finite. 02, R-12: "nothing else from the stop on is written". Demand 3 over the summary is in specs/Demand3.antt. The argument is in
--- proofs/Peaks.antt. Definitions only.
+-- render or a re-render makes is finite. 02, R-12: "nothing else from the stop on is written". Demand 3 over the
+-- summary is in specs/Demand3.antt. The argument is in proofs/Peaks.antt. Definitions only.
 use mathlib.Core.Path.{_≡_}
 use mathlib.Core.List.{List}
 use Prim.Native.Nat.{ℕ, suc, _+_, _*_, _≤_, _<_}
@@ -78,8 +78,8 @@ pub record PeaksBesideTheSound : Type 0 where
   pub render-finite : (g : Settings) → T (fits binary64 (g .adsr .sustain)) → (s : List ℕ) (b : Buffers) (k : ℕ) → renderOf g s b .result .answer ≡ Done k → AllFinite (renderOf g s b .left .heard)
   pub render-right : (g : Settings) (s : List ℕ) (b : Buffers) (k : ℕ) → renderOf g s b .result .answer ≡ Done k → IsRight (renderOf g s b .left)
   pub render-told : (g : Settings) → T (fits binary64 (g .adsr .sustain)) → (s : List ℕ) (b : Buffers) (k : ℕ) → renderOf g s b .result .answer ≡ Done k → Tells (renderOf g s b .left .heard) (renderOf g s b .left .summary)
-  -- the k samples that a re-render makes from section m on are finite, its summary is right for their sections, whatever
-  -- came, and samples and summary after them stay as they came
+  -- the k samples that a re-render makes from section m on are finite, its summary is right for their sections,
+  -- whatever came, and samples and summary after them stay as they came
   pub rerender-finite : (g : Settings) → T (fits binary64 (g .adsr .sustain)) → (old new : List ℕ) (b : Buffers) (m : ℕ) → planOf old new (samplesIn b) ≡ From m → (k : ℕ) → rerenderOf g old new b .result ≡ Done k
       → AllFinite (take k (onward m (rerenderOf g old new b .left) .heard))
   pub rerender-right : (g : Settings) (old new : List ℕ) (b : Buffers) (m : ℕ) → planOf old new (samplesIn b) ≡ From m → (k : ℕ) → rerenderOf g old new b .result ≡ Done k

@@ -1,8 +1,8 @@
 -- Demand 3 of the calls that C makes, as a claim. `demands`' specs/Demand3.antt has the demand's words;
 -- include/gavberin.h, of gav_rerender: "old, old_len: the score that out, shelf and summary were rendered of".
 -- Premise: a gav_render of the old score, in any buffers of as many samples, answered 0, and all from the start section
--- on in output, shelf and summary is what it left; or, of `start-alone`, the entry of the start section is, and all else
--- is arbitrary. The number 0 includes that the settings are known and in their domain and that the old score is
+-- on in output, shelf and summary is what it left; or, of `start-alone`, the entry of the start section is, and all
+-- else is arbitrary. The number 0 includes that the settings are known and in their domain and that the old score is
 -- accepted.
 -- The argument is in proofs/FfiDemand3.antt. Definitions only.
 use mathlib.Core.Path.{_≡_}

@@ -43,8 +43,8 @@ pub record FfiEditing (a : Asked) (old : List ℕ) (news : List (List ℕ)) (m :
   pub none-before : NoneBefore m (samplesIn b) old news
 
 -- ---- what is promised
--- each call has the count that its plan has after a render of the score before; from section m on one gav_render of the last score is left, before section m
--- what came
+-- each call has the count that its plan has after a render of the score before; from section m on one gav_render of the
+-- last score is left, before section m what came
 pub record FfiEdited (a : Asked) (old : List ℕ) (news : List (List ℕ)) (m : ℕ) (b : Buffers) (o : Outcome (List ℕ)) : Type 0 where
   pub settings : Settings
   pub known : choiceOf a ≡ Known settings

@@ -1,5 +1,5 @@
--- The numbers of records acted renewed from an entry on: the loop that does it, on plain values; that the sizes stay, and
--- what lies before; each entry; and entries of states. Assumes nothing.
+-- The numbers of records acted renewed from an entry on: the loop that does it, on plain values; that the sizes stay,
+-- and what lies before; each entry; and entries of states. Assumes nothing.
 use mathlib.Core.Path.{_≡_, refl, sym, ap, _∙_}
 use mathlib.Core.Bool.{true}
 use mathlib.Core.List.{List, _∷_, _++_, append-assoc}

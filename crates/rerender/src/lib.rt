@@ -146,7 +146,7 @@ fn quiet_from(old: &[u8], new: &[u8]) -> usize
     }
 }
 
-// Every entry from a section on gets the number of the score's records below its position; `next` are known to be below.
+// Every entry from a section on gets the number of the score's records below its position; `next` of them are known.
 fn recount(score: &[u8], section: usize, next: usize, shelf: &mut [u64])
     requires { ⌜ Sorted (now score) ⌝ }
     requires { ⌜ Behind (now score) next (section * sectionSize) ⌝ }

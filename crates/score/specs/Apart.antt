@@ -2,8 +2,8 @@
 -- the first index where they differ, or of the one that remains where the other has ended." 02, R-12: "the two scores'
 -- records from that position on are the same".
 -- Two records are the same if all their ten bytes are; so a different velocity of an off is a difference.
--- Wider than 01: defined for any two lists of bytes, over their whole records; `recordsFrom` also keeps the 1 to 9 bytes
--- after the last whole record, which an accepted score does not have. Definitions only.
+-- Wider than 01: defined for any two lists of bytes, over their whole records; `recordsFrom` also keeps the 1 to 9
+-- bytes after the last whole record, which an accepted score does not have. Definitions only.
 use mathlib.Core.Bool.{Bool, true, false, not, cond}
 use mathlib.Core.List.{List}
 use Prim.Native.Nat.{ℕ, zero, suc, _-_, _*_, min, max}

@@ -1,8 +1,8 @@
 -- From the start of a section on: the entry of each section, then its samples, 4,096 or as many as are left, then their
--- peak; to the end of the output, or to the first later section whose entry says that the rest may stay. 01, "The shelf":
--- "Entry k holds the state before sample 4096k is begun, for every 4096k below N, the output's length". 02, R-3: "Keep,
--- for each 4,096-sample section, the largest magnitude and the number, from the output's start, of the first sample
--- where it stands". 02, R-12: "It stops at the first such entry past the start".
+-- peak; to the end of the output, or to the first later section whose entry says that the rest may stay. 01, "The
+-- shelf": "Entry k holds the state before sample 4096k is begun, for every 4096k below N, the output's length". 02,
+-- R-3: "Keep, for each 4,096-sample section, the largest magnitude and the number, from the output's start, of the
+-- first sample where it stands". 02, R-12: "It stops at the first such entry past the start".
 -- The samples are a walk (crate `spans`) from a place at the first sample of any section. A caller says from which
 -- section on the walk may stop; a render says a section that there is not. If shelf or summary do not have the size
 -- that the output needs, or the samples are too many, nothing is written. Definitions only.

@@ -1,8 +1,8 @@
-// From the start of a section on, section by section (01, "The shelf", and 02, R-3): the entry of a section is kept, then
-// its samples are played, then their peak is kept. A render starts at section 0 and goes to the end; a re-render starts
-// at the section that holds the first changed position, and stops at the first later section whose entry says that the
-// rest may stay (02, R-12). Render and re-render do the judging; here the sizes alone are tested, so that nothing is
-// asked of a caller.
+// From the start of a section on, section by section (01, "The shelf", and 02, R-3): the entry of a section is kept,
+// then its samples are played, then their peak is kept. A render starts at section 0 and goes to the end; a re-render
+// starts at the section that holds the first changed position, and stops at the first later section whose entry says
+// that the rest may stay (02, R-12). Render and re-render do the judging; here the sizes alone are tested, so that
+// nothing is asked of a caller.
 ghost use mathlib.Core.Path.{_≡_};
 ghost use mathlib.Core.Bool.{true, _&&_};
 ghost use Prim.Native.Nat.{_+_, _-_, _*_, _≤_, _<_};

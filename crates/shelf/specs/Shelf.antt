@@ -177,8 +177,8 @@ entryAt shelf k = take entryWords (drop (k * entryWords) shelf)
 -- ---- the number of records acted. 02, R-12: "if the state there equals the stored one apart from records acted";
 -- "Entries from the stop on get as records-acted number the new score's records below their position"; "An entry
 -- compared but not a state is simply unequal"
--- the words with n as the number of records acted, which is bits 16 to 63 of word 5; also words that are no entry. Fewer
--- than six words stay as they are
+-- the words with n as the number of records acted, which is bits 16 to 63 of word 5; also words that are no entry.
+-- Fewer than six words stay as they are
 abbrev pub withCount : List ℕ → ℕ → List ℕ
 withCount ws n = set ws 5 (word ws 5 % 65536 + 65536 * (n % 281474976710656))
 
