@@ -1,4 +1,4 @@
--- `rerender::recount` meets its contract. Its loop's invariant is `Recounting` of proofs/Renewing.antt. Assumes nothing.
+-- `rerender::recount` meets its contract. The invariant is `Recounting` of proofs/Renewing.antt. Assumes nothing.
 use borrow.Author.Needs.{needs}
 use mathlib.Core.Path.{_≡_}
 use Prim.Native.Nat.{_+_, _-_, _*_}
