@@ -306,16 +306,28 @@ pub fn doctored(word: u64, bits: u64, shelves: &mut [u64]) -> u64 {
     before
 }
 
-// Writes rubbish into the first of some floats and the first of some words.
-pub fn spoil(floats: &mut [f64], words: &mut [u64]) {
-    if floats.len() == 0 {
+// Writes rubbish into a sample and, of its section, into the first word of the entry and into the peak.
+pub fn spoil(
+    sample: usize,
+    pair: &mut [f64],
+    shelves: &mut [u64],
+    magnitudes: &mut [f64],
+    numbers: &mut [u64],
+) {
+    let section = sample / 4096;
+    spoil_at(sample, section * ENTRY, pair, shelves);
+    spoil_at(section, section, magnitudes, numbers);
+}
+
+fn spoil_at(float: usize, word: usize, floats: &mut [f64], words: &mut [u64]) {
+    if floats.len() <= float {
         return;
     }
-    if words.len() == 0 {
+    if words.len() <= word {
         return;
     }
-    floats[0] = 100000.0;
-    words[0] = 1;
+    floats[float] = 100000.0;
+    words[word] = 1;
 }
 
 // Prints a word of the first shelf, a peak of the first half where it has so many, or how far the halves differ.

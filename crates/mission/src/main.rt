@@ -195,10 +195,7 @@ fn obeyed(
         b'U' => {
             calls::doctored(now.word, now.kept, shelves);
         }
-        b'S' => {
-            calls::spoil(pair, shelves);
-            calls::spoil(magnitudes, numbers);
-        }
+        b'S' => calls::spoil(now.last as usize, pair, shelves, magnitudes, numbers),
         b'P' | b'Q' | b'W' => calls::looked(now, letter, pair, shelves, magnitudes, numbers),
         _ => {
             calls::made(now, letter, pair, shelves, magnitudes, numbers, old, new);
