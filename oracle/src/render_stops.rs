@@ -1,6 +1,6 @@
-//! Re-renders that stop at a later entry, as 02 says under R-12, and such as a record or an entry keeps from it. What is
-//! edited is often the velocity of a release, or the release of a key that is not down: neither is heard. The count of
-//! each is written down here beside it.
+//! Re-renders that stop at a later entry, as 02 says under R-12, and such as a record or an entry keeps from it. Most
+//! edit the velocity of a release, or release a key that is not down: neither is heard. The count of each is written
+//! down here beside it.
 
 use crate::chance::Chance;
 use crate::render::{off, on, reset, Record, STATE_WORDS};
