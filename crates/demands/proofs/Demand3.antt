@@ -3,8 +3,9 @@
 -- both scores make the same (proofs/Stops.antt), so what the old render left there is the new one's, but for the
 -- numbers of records acted, which the call renews. Assumes nothing.
 use mathlib.Core.Path.{_≡_, refl, sym, subst, ap, _∙_}
-use mathlib.Core.Bool.{true}
+use mathlib.Core.Bool.{true, false, true≢false}
 use mathlib.Core.List.{List, []}
+use mathlib.Core.Logic.{⊎-elim}
 use Prim.Native.Nat.{ℕ, _-_, _*_, _/_, _%_, min, _≤_, _<_}
 use native.Mathlib.Omega.{arith}
 use borrow.Author.Tests.{eq-eqb}
@@ -22,12 +23,12 @@ use Rattle.score.specs.declared.Difference.the-variants.{At}
 use Rattle.score.specs.Below.{countBelow}
 use Rattle.score.specs.Apart.{differenceOf}
 use Rattle.score.proofs.Agree.{equal-exactly}
-use Rattle.score.proofs.Cuts.{accepted-few, accepted-sorted, count-cut}
+use Rattle.score.proofs.Cuts.{lt-or-ge, accepted-few, accepted-sorted, count-cut}
 use Rattle.score.proofs.Parted.{clash}
 use Rattle.shelf.specs.declared.Entry.{Entry}
-use Rattle.shelf.specs.Shelf.{sectionSize, entryWords, entriesFor, entryOf, decodedOf, shelfOf, word, entryAt}
+use Rattle.shelf.specs.Shelf.{sectionSize, entryWords, entriesFor, entryOf, decodedOf, shelfOf, word, isEntry, entryAt}
 use Rattle.shelf.proofs.Count.{start-there, words-there}
-use Rattle.shelf.proofs.Counted.{with-other, with-low, with-number}
+use Rattle.shelf.proofs.Counted.{meets-entry, with-other, with-low, with-number}
 use Rattle.state.specs.declared.Settings.{Settings}
 use Rattle.state.specs.declared.State.{State}
 use Rattle.state.specs.Settings.{settingsOk}
@@ -36,16 +37,16 @@ use Rattle.state.specs.Heart.{samplesFrom, entriesFrom}
 use Rattle.state.proofs.Depends.{Shared, state-shared, differing-shared}
 use Rattle.state.proofs.Acted.{acted-fresh}
 use Rattle.judging.proofs.Refusals.{none-refused, none-newly}
-use Rattle.demands.specs.Demand3.{Taken, Edit, BuffersOf, leftIn, atSection, FromSection, Recounted, StopsAt, StopsOver, RemadeTo, Remade, EntriesRemade, StartRemade, Demand3}
+use Rattle.demands.specs.Demand3.{Taken, Edit, BuffersOf, leftIn, atSection, FromSection, Recounted, StopsAt, StopsOver, RemadeTo, Remade, EntriesRemade, StartRemade, MadeToTheEnd, Demand3}
 use Rattle.demands.proofs.First.{first-change, differ}
 use Rattle.demands.proofs.Honest.{honest}
-use Rattle.demands.proofs.Cut.{later, rejoin, Sized, lent-sized, overAt, same-lends, cut-none, cut-front, cut-rest, cut-onward, cut-whole}
+use Rattle.demands.proofs.Cut.{later, rejoin, Sized, lent-sized, sized-lent, overAt, same-lends, cut-none, cut-front, cut-rest, cut-onward, cut-whole}
 use Rattle.demands.proofs.Whole.{soundOf, shelvedOf, wholeOf, whole-sized, left-is, entry-left, shelf-after, said-from, between-is}
 use Rattle.demands.proofs.Stops.{stop-is, stops-over, stops-first, stops-at, one-stop, sound-same, entries-renewed}
 use Rattle.rerender.specs.declared.Plan.the-variants.{Nothing}
 use Rattle.rerender.specs.Rerender.{planOf, startOf, isStart, stopOf, recounted, madeFrom, rerenderOf}
 use Rattle.rerender.proofs.Cases as cases
-use Rattle.rerender.proofs.Cases.{plan-equal, plan-late, plan-from, checks, checks-pass, made-long, made-fits, later-entry, left-words, left-before, left-between, left-heard-after, left-summary-after, left-stored-after, left-entry}
+use Rattle.rerender.proofs.Cases.{plan-equal, plan-late, plan-from, checks, checks-pass, made-long, made-fits, later-entry, left-long, left-words, left-before, left-between, left-heard-after, left-summary-after, left-stored-after, left-entry}
 
 -- nothing is refused before the plan is made
 pub checked : (g : Settings) (old new : List ℕ) → Edit g old new → (b : Buffers) → Lent b → checks g old new (roomIn b) ≡ []
@@ -187,6 +188,9 @@ module _ (g : Settings) (old new : List ℕ) (x : Edit g old new) (p : ℕ) (dif
       to-the-end e = cut-onward m k left (wholeOf g new n) (omega (arith, stop-over .past)) up-to-the-stop
           (subst (λ (i : ℕ). onward i left ≡ onward i (wholeOf g new n)) (sym e) (cut-none n left (wholeOf g new n) left-sized (whole-sized g new n)))
 
+      pub left-lent : Lent left
+      left-lent = sized-lent n left (z .short) left-sized
+
       left-stays : before m left ≡ before m b
       left-stays = left-before g old new m b there (room-in b z)
 
@@ -206,6 +210,17 @@ module _ (g : Settings) (old new : List ℕ) (x : Edit g old new) (p : ℕ) (dif
             to-the-stop = remade-to;
             to-the-end = λ e. rw call-is (from-section g (x .settings) new (x .new-taken) m b left (to-the-end e) left-stays);
           }
+
+      -- no later entry is a state
+      to-the-end-only : ((j : ℕ) → m < j → j < entriesFor n → isEntry (entryAt shelf j) ≡ false) → k ≡ entriesFor n
+      to-the-end-only none =
+          ⊎-elim (λ l. absurd (true≢false (sym (meets-entry (entryAt shelf k) _ (stop-over .settled l .entry)) ∙ none k (stop-over .past) l))) (λ l. omega (arith, stop-over .within)) (lt-or-ge k (entriesFor n))
+
+      pub made-to-the-end : ((j : ℕ) → m < j → j < entriesFor n → isEntry (entryAt shelf j) ≡ false) → MadeToTheEnd g new m b (rerenderOf g old new b)
+      made-to-the-end none =
+          let e = to-the-end-only none in
+          let at : min (k * sectionSize) n ≡ n = omega (arith, e) in
+          record { counted = counted ∙ ap (λ (i : ℕ). Done (i - m * sectionSize)) at; left = rw call-is (from-section g (x .settings) new (x .new-taken) m b left (to-the-end e) left-stays) }
 
     -- ---- the entries from section m on are what a render of the old score left
     module _ (same : drop (m * entryWords) shelf ≡ drop (m * entryWords) (shelvedOf g old n)) where
@@ -306,11 +321,39 @@ entries-alone : (g : Settings) (old new : List ℕ) (x : Edit g old new) (b : Bu
 entries-alone g old new x b z p e heard r same =
     entries-remade g old new x p e b z heard (same ∙ ap (λ (c : Buffers). onward (p / sectionSize) c .stored) (left-is g (x .settings) old (x .old-taken) (samplesIn b) r))
 
+-- an entry that a render of the old score left is the state there
+start-honest : (g : Settings) (old new : List ℕ) (x : Edit g old new) (b : Buffers) (p : ℕ) (heard : p < samplesIn b) (r : BuffersOf (samplesIn b))
+    → entryAt (b .stored) (p / sectionSize) ≡ entryAt (leftIn g old r .left .stored) (p / sectionSize) → entryAt (b .stored) (p / sectionSize) ≡ entryOf (atSection g old (p / sectionSize))
+start-honest g old new x b p heard r same =
+    let m = p / sectionSize in
+    same ∙ ap (λ (c : Buffers). entryAt (c .stored) m) (left-is g (x .settings) old (x .old-taken) (samplesIn b) r) ∙ entry-left g old (samplesIn b) m (start-there (samplesIn b) p heard)
+
 start-alone : (g : Settings) (old new : List ℕ) (x : Edit g old new) (b : Buffers) (z : Lent b) (p : ℕ) (e : differenceOf old new ≡ At p) (heard : p < samplesIn b)
     (r : BuffersOf (samplesIn b)) → entryAt (b .stored) (p / sectionSize) ≡ entryAt (leftIn g old r .left .stored) (p / sectionSize) → StartRemade g old new (p / sectionSize) b (rerenderOf g old new b)
-start-alone g old new x b z p e heard r same =
+start-alone g old new x b z p e heard r same = start-remade g old new x p e b z heard (start-honest g old new x b p heard r same)
+
+nothing-stops : (g : Settings) (old new : List ℕ) (x : Edit g old new) (b : Buffers) (z : Lent b) (p : ℕ) (e : differenceOf old new ≡ At p) (heard : p < samplesIn b)
+    (r : BuffersOf (samplesIn b)) → entryAt (b .stored) (p / sectionSize) ≡ entryAt (leftIn g old r .left .stored) (p / sectionSize)
+    → ((j : ℕ) → p / sectionSize < j → j < entriesFor (samplesIn b) → isEntry (entryAt (b .stored) j) ≡ false) → MadeToTheEnd g new (p / sectionSize) b (rerenderOf g old new b)
+nothing-stops g old new x b z p e heard r same none = made-to-the-end g old new x p e b z heard (start-honest g old new x b p heard r same) none
+
+-- the entries that a call left are those of a render of its new score, so an edit of that score may start from them
+never-8-after : (g : Settings) (old new next : List ℕ) (x : Edit g old new) → Taken next → (b : Buffers) (z : Lent b) (p : ℕ) (e : differenceOf old new ≡ At p) (heard : p < samplesIn b)
+    (r : BuffersOf (samplesIn b)) → onward (p / sectionSize) b .stored ≡ onward (p / sectionSize) (leftIn g old r .left) .stored
+    → (q : ℕ) → differenceOf new next ≡ At q → q < samplesIn b → p / sectionSize ≤ q / sectionSize → rerenderOf g new next (rerenderOf g old new b .left) .result ≡ Refused StartEntry → ⊥
+never-8-after g old new next x t b z p e heard r same q f early l =
     let m = p / sectionSize in
-    start-remade g old new x p e b z heard (same ∙ ap (λ (c : Buffers). entryAt (c .stored) m) (left-is g (x .settings) old (x .old-taken) (samplesIn b) r) ∙ entry-left g old (samplesIn b) m (start-there (samplesIn b) p heard))
+    let n = samplesIn b in
+    let words : drop (m * entryWords) (b .stored) ≡ drop (m * entryWords) (shelvedOf g old n) = same ∙ ap (λ (c : Buffers). onward m c .stored) (left-is g (x .settings) old (x .old-taken) n r) in
+    let begins = honestly g old new x p e b z heard words in
+    let is = call-is g old new x p e b z heard begins in
+    let c = left g old new x p e b z heard begins in
+    let long : samplesIn c ≡ n = left-long g old new m b (start-there n p heard) (room-in b z) in
+    let y : Edit g new next = record { settings = x .settings; sustain-fits = x .sustain-fits; old-taken = x .new-taken; new-taken = t } in
+    let stored : drop (q / sectionSize * entryWords) (c .stored) ≡ drop (q / sectionSize * entryWords) (shelvedOf g new (samplesIn c)) =
+    later (m * entryWords) (q / sectionSize * entryWords) (c .stored) (shelvedOf g new n) (omega (arith, l)) (stored-is g old new x p e b z heard words)
+    ∙ ap (λ (i : ℕ). drop (q / sectionSize * entryWords) (shelvedOf g new i)) (sym long) in
+    rw is (entries-remade g new next y q f c (left-lent g old new x p e b z heard begins) (omega (arith, long, early)) stored .to-the-stop .never-8)
 
 pub demand-3-holds : Demand3
 demand-3-holds =
@@ -318,6 +361,8 @@ demand-3-holds =
       re-rendered = all-remade;
       entries-alone = entries-alone;
       start-alone = start-alone;
+      nothing-stops = nothing-stops;
+      never-8-after = never-8-after;
       stops-first = stops-first;
       one-stop = one-stop;
       equal = λ g s x b z. nothing-equal g s s x b z refl;

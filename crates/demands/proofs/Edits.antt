@@ -1,11 +1,11 @@
 -- The claim of specs/Edits.antt. What a render left from section k on stays so after an edit: from its start section on
 -- the edit leaves a render of the new score (demand 3), and between section k and the start section both scores make
 -- the same. A whole render is the case k = 0. Assumes nothing.
-use mathlib.Core.Path.{_≡_, refl, sym, ap, _∙_}
+use mathlib.Core.Path.{_≡_, refl, sym, subst, ap, _∙_}
 use mathlib.Core.List.{List, [], _∷_}
 use mathlib.Core.Bool.{true}
 use mathlib.Core.Logic.{⊎-elim}
-use Prim.Native.Nat.{ℕ, _-_, _*_, _/_, _≤_, _<_}
+use Prim.Native.Nat.{ℕ, _-_, _*_, _/_, _≤_, _<_, min}
 use native.Mathlib.Omega.{arith}
 use lib.Dec.{T}
 use lib.Ieee.{binary64, fits}
@@ -26,12 +26,12 @@ use Rattle.state.specs.State.{freshOf}
 use Rattle.state.specs.Heart.{entriesFrom}
 use Rattle.state.proofs.Depends.{Shared, samples-shared, entries-shared, differing-shared}
 use Rattle.judging.specs.Judging.{mostSamples}
-use Rattle.rerender.specs.declared.Plan.the-variants.{Nothing}
+use Rattle.rerender.specs.declared.Plan.the-variants.{Nothing, From}
 use Rattle.rerender.specs.Rerender.{planOf, stopOf, countFor, rerenderOf}
-use Rattle.rerender.proofs.Cases.{plan-equal, plan-late, plan-from, checks-pass, stop-alone}
-use Rattle.demands.specs.Demand3.{Taken, Edit, BuffersOf, leftIn}
-use Rattle.demands.specs.Edits.{editsFrom, lastScore, allCounted, AllTaken, NoneBefore, Editing, Edited, EditedWhole, AnyEdits}
-use Rattle.demands.proofs.Demand3.{checked, demand-3, from-section}
+use Rattle.rerender.proofs.Cases.{plan-says, plan-equal, plan-late, plan-from, checks-pass, stop-alone}
+use Rattle.demands.specs.Demand3.{Taken, Edit, BuffersOf, leftIn, StopsAt, Remade}
+use Rattle.demands.specs.Edits.{editsFrom, lastScore, allCounted, AllTaken, NoneBefore, Editing, Edited, EditedWhole, CountIs, AnyEdits}
+use Rattle.demands.proofs.Demand3.{checked, demand-3, from-section, demand-3-holds}
 use Rattle.demands.proofs.Cut.{Sized, lent-sized, sized-lent, overAt, cut-front, cut-sized, cut-back, cut-later}
 use Rattle.demands.proofs.Whole.{soundOf, shelvedOf, wholeOf, whole-sized, sound-length, left-is, front-is}
 
@@ -157,5 +157,26 @@ five-edits g ok w old news one c n r =
     let m = all-edits g ok w n short 0 old news one c (none-before-0 n old news) b h in
     record { answered = m .answered; are-rendered = λ q. m .holds .holds ∙ sym (left-is g ok s (last-taken old news one c) n q) }
 
+-- in what a render of the old score left
+counts : (g : Settings) (old new : List ℕ) → Edit g old new → (n : ℕ) → n ≤ mostSamples → (m : ℕ) → planOf old new n ≡ From m → CountIs g old new m n
+counts g old new x n short m planned =
+    let b = wholeOf g old n in
+    let long : samplesIn b ≡ n = sound-length g old n in
+    let lent : Lent b = sized-lent n b short (whole-sized g old n) in
+    let r : BuffersOf (samplesIn b) = record { buffers = b; lent = lent; long = refl } in
+    let p = plan-says old new n m planned in
+    let same : leftIn g old r .left ≡ b = left-is g (x .settings) old (x .old-taken) (samplesIn b) r ∙ ap (wholeOf g old) long in
+    let made : Remade g old new m b (rerenderOf g old new b) = rw (← p .section-is) at (demand-3-holds .re-rendered g old new x b lent (p .change) (p .differs) (omega (arith, long, p .heard)) r (ap (onward (p .change / sectionSize)) (sym same))) in
+    let one = one-edit g old new x n short 0 (λ q e l. omega arith) b (record { sized = whole-sized g old n; holds = refl }) in
+    let count : Done (countFor g old new (From m) b) ≡ Done (min (made .stop-section * sectionSize) (samplesIn b) - m * sectionSize) = sym (rw planned at (one .counted)) ∙ made .to-the-stop .counted in
+    record {
+      stop-section = made .stop-section;
+      stops = subst (λ (i : ℕ). StopsAt g old new m i (made .stop-section)) long (made .stops);
+      count-is = done-inj count ∙ ap (λ (i : ℕ). min (made .stop-section * sectionSize) i - m * sectionSize) long;
+    }
+  where
+    done-inj : {i j : ℕ} → Done i ≡ Done j → i ≡ j
+    done-inj e = cc
+
 pub any-edits : AnyEdits
-any-edits = record { over-rubbish = edited; from-a-render = five-edits }
+any-edits = record { over-rubbish = edited; from-a-render = five-edits; counts = counts }

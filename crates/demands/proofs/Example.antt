@@ -11,7 +11,6 @@ use lib.Seq.{take-all}
 use borrow.Author.Tests.{lt-ltb}
 use lib.Ieee.{binary64}
 use lib.Ieee.Bits.{ofBits-fits}
-use Rattle.runs.specs.Runs.{firstPassing}
 use Rattle.floats.specs.Double.{half}
 use Rattle.answers.specs.declared.Answer.the-variants.{Done}
 use Rattle.score.specs.declared.Difference.the-variants.{At}
@@ -21,7 +20,7 @@ use Rattle.score.specs.Score.{markRight, kindRight, fieldsRight, inOrder, fault
 use Rattle.score.specs.Below.{below, countBelow}
 use Rattle.score.specs.Apart.{sameTo, differenceOf, recordsFrom}
 use Rattle.score.proofs.Cuts.{accepted-length, accepted-sorted}
-use Rattle.runs.specs.Runs.{run}
+use Rattle.runs.specs.Runs.{run, firstPassing}
 use Rattle.voice.specs.Keys.{pairs, others, withoutOf, liftedOf}
 use Rattle.state.specs.State.{freshOf, actOf}
 use Rattle.state.specs.ButActed.{withActed, SameButActed}
@@ -38,7 +37,7 @@ use Rattle.sections.specs.Outcome.{Buffers, lends, samplesIn, Lent, onward, lea
 use Rattle.rerender.specs.Rerender.{rerenderOf}
 use Rattle.demands.proofs.Demand3.{stop-over, over-to-the-end, demand-3-holds}
 use Rattle.demands.proofs.Stops.{one-stop}
-use Rattle.demands.proofs.Whole.{wholeOf, whole-sized, left-is}
+use Rattle.demands.proofs.Whole.{wholeOf, whole-sized, sound-length, left-is}
 use Rattle.demands.proofs.Cut.{Sized, lent-sized, sized-lent, overAt, cut-rest, cut-sized}
 use Rattle.demands.proofs.Edits.{any-edits}
 use Rattle.score.proofs.Parted.{at-inj}
@@ -198,3 +197,13 @@ an-edit-that-stops b z e r same =
     let to = made .to-the-stop in
     let count : min (made .stop-section * 4096) (samplesIn b) - 0 * 4096 ≡ 4096 = omega (arith, one, e) in
     (to .counted ∙ ap Done count, to .recounted .numbers 1 (omega (arith, one)) (omega (arith, e)) ∙ below-entry-1, made .left)
+
+-- such buffers are there: those that the render leaves
+pub a-stop : rerenderOf trembling [] stray (wholeOf trembling [] 8192) .result ≡ Done 4096
+a-stop =
+    let b = wholeOf trembling [] 8192 in
+    let long : samplesIn b ≡ 8192 = sound-length trembling [] 8192 in
+    let lent : Lent b = sized-lent 8192 b (omega arith) (whole-sized trembling [] 8192) in
+    let r : BuffersOf (samplesIn b) = record { buffers = b; lent = lent; long = refl } in
+    let same : leftIn trembling [] r .left ≡ b = left-is trembling trembling-ok [] (stray-edit .old-taken) (samplesIn b) r ∙ ap (wholeOf trembling []) long in
+    an-edit-that-stops b lent long r (ap (onward 0) (sym same)) .0

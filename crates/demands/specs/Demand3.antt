@@ -15,11 +15,11 @@
 -- clause becomes this one." So `re-rendered` asks for all from the start section on as the old render left it, and says
 -- where the re-render stops in the words of two renders from sample zero (`StopsAt`). `entries-alone` and
 -- `start-alone` say what holds where less came so. "An entry compared but not a state is simply unequal": `meets` is
--- false of it.
+-- false of it, and `nothing-stops` says so of a call.
 -- The demand's mark is the first sample of a section: sample 4096 m for section m, whose entry is entry m.
 -- The argument is in proofs/Demand3.antt, that of `parted` and `first-change` in proofs/First.antt. Definitions only.
 use mathlib.Core.Path.{_≡_}
-use mathlib.Core.Bool.{true}
+use mathlib.Core.Bool.{true, false}
 use mathlib.Core.List.{List}
 use Prim.Native.Nat.{ℕ, suc, _+_, _-_, _*_, _/_, _%_, min, _≤_, _<_}
 use lib.Dec.{T}
@@ -34,7 +34,7 @@ use Rattle.score.specs.declared.Verdict.the-variants.{Accepted}
 use Rattle.score.specs.Score.{verdictOf}
 use Rattle.score.specs.Below.{countBelow}
 use Rattle.score.specs.Apart.{differenceOf, recordsFrom}
-use Rattle.shelf.specs.Shelf.{sectionSize, entryWords, entriesFor, word, entryAt, meets}
+use Rattle.shelf.specs.Shelf.{sectionSize, entryWords, entriesFor, word, isEntry, entryAt, meets}
 use Rattle.state.specs.declared.Settings.{Settings}
 use Rattle.state.specs.declared.State.{State}
 use Rattle.state.specs.Settings.{settingsOk}
@@ -161,17 +161,32 @@ pub record StartRemade (g : Settings) (old new : List ℕ) (m : ℕ) (b : Buffer
   pub to-the-stop : RemadeTo g new m stop-section b o
   pub to-the-end : stop-section ≡ entriesFor (samplesIn b) → FromSection b (leftIn g new) m (o .left)
 
+-- where nothing stopped the call
+pub record MadeToTheEnd (g : Settings) (new : List ℕ) (m : ℕ) (b : Buffers) (o : Outcome Answer) : Type 0 where
+  pub counted : o .result ≡ Done (samplesIn b - m * sectionSize)
+  pub left : FromSection b (leftIn g new) m (o .left)
+
 -- ---- the claim
 pub record Demand3 : Type 0 where
   -- the first changed record is at p, before the end, and all from the section that holds p on is what a render of the
   -- old score left there
   pub re-rendered : (g : Settings) (old new : List ℕ) → Edit g old new → (b : Buffers) → Lent b → (p : ℕ) → differenceOf old new ≡ At p → p < samplesIn b
       → (r : BuffersOf (samplesIn b)) → onward (p / sectionSize) b ≡ onward (p / sectionSize) (leftIn g old r .left) → Remade g old new (p / sectionSize) b (rerenderOf g old new b)
-  -- the entries from that section on are, or the entry of that section is
+  -- the entries from that section on are
   pub entries-alone : (g : Settings) (old new : List ℕ) → Edit g old new → (b : Buffers) → Lent b → (p : ℕ) → differenceOf old new ≡ At p → p < samplesIn b
       → (r : BuffersOf (samplesIn b)) → onward (p / sectionSize) b .stored ≡ onward (p / sectionSize) (leftIn g old r .left) .stored → EntriesRemade g old new (p / sectionSize) b (rerenderOf g old new b)
+  -- the entry of that section is
   pub start-alone : (g : Settings) (old new : List ℕ) → Edit g old new → (b : Buffers) → Lent b → (p : ℕ) → differenceOf old new ≡ At p → p < samplesIn b
       → (r : BuffersOf (samplesIn b)) → entryAt (b .stored) (p / sectionSize) ≡ entryAt (leftIn g old r .left .stored) (p / sectionSize) → StartRemade g old new (p / sectionSize) b (rerenderOf g old new b)
+  -- what is no state stops nothing: if no later entry is one, the start entry is enough
+  pub nothing-stops : (g : Settings) (old new : List ℕ) → Edit g old new → (b : Buffers) → Lent b → (p : ℕ) → differenceOf old new ≡ At p → p < samplesIn b
+      → (r : BuffersOf (samplesIn b)) → entryAt (b .stored) (p / sectionSize) ≡ entryAt (leftIn g old r .left .stored) (p / sectionSize)
+      → ((j : ℕ) → p / sectionSize < j → j < entriesFor (samplesIn b) → isEntry (entryAt (b .stored) j) ≡ false) → MadeToTheEnd g new (p / sectionSize) b (rerenderOf g old new b)
+  -- after a call over such entries, stopped or not, an edit of the new score that starts at that section or later is
+  -- not refused with 8
+  pub never-8-after : (g : Settings) (old new next : List ℕ) → Edit g old new → Taken next → (b : Buffers) → Lent b → (p : ℕ) → differenceOf old new ≡ At p → p < samplesIn b
+      → (r : BuffersOf (samplesIn b)) → onward (p / sectionSize) b .stored ≡ onward (p / sectionSize) (leftIn g old r .left) .stored
+      → (q : ℕ) → differenceOf new next ≡ At q → q < samplesIn b → p / sectionSize ≤ q / sectionSize → rerenderOf g new next (rerenderOf g old new b .left) .result ≡ Refused StartEntry → ⊥
   -- whatever the start entry is: a call that is done with count c stopped where the entries say
   pub stops-first : (g : Settings) (old new : List ℕ) (b : Buffers) (m : ℕ) → planOf old new (samplesIn b) ≡ From m → (c : ℕ) → rerenderOf g old new b .result ≡ Done c
       → StopsOver g old new m (startOf (b .stored) m) b (entriesFor (m * sectionSize + c))

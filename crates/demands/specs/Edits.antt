@@ -10,7 +10,7 @@
 use mathlib.Core.Path.{_≡_}
 use mathlib.Core.Bool.{true}
 use mathlib.Core.List.{List, [], _∷_}
-use Prim.Native.Nat.{ℕ, _*_, _≤_, _<_}
+use Prim.Native.Nat.{ℕ, _-_, _*_, min, _≤_, _<_}
 use lib.Dec.{T}
 use lib.Ieee.{binary64, fits}
 use Rattle.sections.specs.Outcome.{Buffers, samplesIn, Lent, onward, Outcome, leaves}
@@ -22,8 +22,10 @@ use Rattle.shelf.specs.Shelf.{sectionSize}
 use Rattle.state.specs.declared.Settings.{Settings}
 use Rattle.state.specs.Settings.{settingsOk}
 use Rattle.render.specs.Calls.{madeOf}
+use Rattle.judging.specs.Judging.{mostSamples}
+use Rattle.rerender.specs.declared.Plan.the-variants.{From}
 use Rattle.rerender.specs.Rerender.{planOf, countFor, rerenderOf}
-use Rattle.demands.specs.Demand3.{Taken, BuffersOf, leftIn, FromSection}
+use Rattle.demands.specs.Demand3.{Taken, Edit, BuffersOf, leftIn, StopsAt, FromSection}
 
 -- ---- the calls
 -- a call, and then the rest: the answer of each call, and what the rest leaves in the same buffers
@@ -81,8 +83,15 @@ pub record EditedWhole (g : Settings) (old : List ℕ) (news : List (List ℕ)) 
   pub answered : o .result ≡ allCounted g old news n
   pub are-rendered : (r : BuffersOf n) → o .left ≡ leftIn g (lastScore old news) r .left
 
+-- what that count is for an edit that starts at section m: the samples from its start to its stop
+pub record CountIs (g : Settings) (old new : List ℕ) (m n : ℕ) : Type 0 where
+  pub stop-section : ℕ
+  pub stops : StopsAt g old new m n stop-section
+  pub count-is : countFor g old new (From m) (madeOf g old n .left) ≡ min (stop-section * sectionSize) n - m * sectionSize
+
 -- ---- the claim
 pub record AnyEdits : Type 0 where
   pub over-rubbish : (g : Settings) (old : List ℕ) (news : List (List ℕ)) (m : ℕ) (b : Buffers) → Editing g old news m b → Edited g old news m b (editsFrom g old news b)
   pub from-a-render : (g : Settings) → settingsOk g ≡ true → T (fits binary64 (g .adsr .sustain)) → (old : List ℕ) (news : List (List ℕ)) → Taken old → AllTaken news → (n : ℕ) (r : BuffersOf n)
       → EditedWhole g old news n (editsFrom g old news (leftIn g old r .left))
+  pub counts : (g : Settings) (old new : List ℕ) → Edit g old new → (n : ℕ) → n ≤ mostSamples → (m : ℕ) → planOf old new n ≡ From m → CountIs g old new m n

@@ -1,7 +1,7 @@
 -- The claim of specs/WordsDemand3.antt: a gav_render whose number is 0 had settings that are known and in their domain
 -- and an accepted score, and then the calls are those of `demands`, each answer packed. Assumes nothing.
 use mathlib.Core.Path.{_≡_, sym, ap, _∙_}
-use mathlib.Core.Bool.{true}
+use mathlib.Core.Bool.{true, false}
 use mathlib.Core.List.{List}
 use Prim.Native.Nat.{ℕ, _-_, _*_, _/_, min, _<_}
 use lib.Dec.{T}
@@ -14,7 +14,7 @@ use Rattle.answers.specs.Numbers.{numbersOf}
 use Rattle.score.specs.declared.Difference.the-variants.{At}
 use Rattle.score.specs.Record.{countOf}
 use Rattle.score.specs.Apart.{differenceOf}
-use Rattle.shelf.specs.Shelf.{sectionSize, entryAt}
+use Rattle.shelf.specs.Shelf.{sectionSize, entriesFor, isEntry, entryAt}
 use Rattle.state.specs.declared.Settings.{Settings}
 use Rattle.state.specs.Settings.{settingsOk}
 use Rattle.render.specs.Calls.{renderOf}
@@ -28,7 +28,7 @@ use Rattle.ffi.specs.declared.Choice.the-variants.{Known}
 use Rattle.ffi.specs.Packed.{packedOf}
 use Rattle.ffi.specs.Ffi.{choiceOf, renderFor, rerendered, rerenderFor}
 use Rattle.ffi.proofs.ReadBack.{rerender-reads}
-use Rattle.ffi_demands.specs.WordsDemand3.{ffiLeft, Zero, FfiCounted, FfiRemade, FfiStartRemade, WordsDemand3}
+use Rattle.ffi_demands.specs.WordsDemand3.{ffiLeft, Zero, FfiCounted, FfiRemade, FfiStartRemade, FfiEntriesRemade, FfiToTheEnd, WordsDemand3}
 use Rattle.ffi_demands.proofs.Zero.{refused-not-zero, zero-done}
 use Rattle.ffi_demands.proofs.Codes.{is-known, sustain-fits}
 
@@ -104,7 +104,28 @@ module _ (a : Asked) (sus : T (fits binary64 (a .sustain))) (old new : List ℕ)
           are-rendered = λ s. to .are-rendered s ∙ sym (ap (λ (c : Buffers). onward m (before (d .stop-section) c)) (desk-left a g (q .known) new s));
           stay = to .stay;
           recounted = to .recounted;
+          to-the-end = λ i. desk-from a g (q .known) new m b (rerenderOf g old new b .left) (d .to-the-end i);
         })
+
+    entries-remade : onward m b .stored ≡ onward m (ffiLeft a old r .left) .stored → FfiEntriesRemade a old new m b (rerenderFor (choiceOf a) old new b)
+    entries-remade left =
+        let g = q .settings in
+        let d = demand-3-holds .entries-alone g old new (edit r q) b z p e heard r (left ∙ ap (λ (c : Buffers). onward m c .stored) (desk-left a g (q .known) old r)) in
+        rw (in-words g (q .known))
+        (record {
+          settings = g;
+          known = q .known;
+          stop-section = d .stop-section;
+          stops = d .stops;
+          says = says g m (d .stop-section) (d .to-the-stop .counted);
+          entries = λ s. d .entries s ∙ sym (ap (λ (c : Buffers). onward m c .stored) (desk-left a g (q .known) new s));
+        })
+
+    nothing-stops : entryAt (b .stored) m ≡ entryAt (ffiLeft a old r .left .stored) m → ((j : ℕ) → m < j → j < entriesFor (samplesIn b) → isEntry (entryAt (b .stored) j) ≡ false) → FfiToTheEnd a new m b (rerenderFor (choiceOf a) old new b)
+    nothing-stops left none =
+        let g = q .settings in
+        let d = demand-3-holds .nothing-stops g old new (edit r q) b z p e heard r (left ∙ ap (λ (c : Buffers). entryAt (c .stored) m) (desk-left a g (q .known) old r)) none in
+        rw (in-words g (q .known)) (record { counted = ap packedOf (d .counted); left = desk-from a g (q .known) new m b (rerenderOf g old new b .left) (d .left) })
 
   nothing : (r : BuffersOf (samplesIn b)) → Zero (ffiLeft a old r .result) → ((g : Settings) → Edit g old new → rerenderOf g old new b ≡ leaves (Done 0) b) → rerenderFor (choiceOf a) old new b ≡ leaves (packedOf (Done 0)) b
   nothing r zero f = let q = zero-good a old (r .buffers) zero in in-words (q .settings) (q .known) ∙ ap rerendered (f (q .settings) (edit r q))
@@ -113,6 +134,8 @@ pub words-demand-3 : WordsDemand3
 words-demand-3 =
     record {
       re-rendered = λ a sus old new t b z p e heard r zero. remade a sus old new t b z p e heard r zero;
+      entries-alone = λ a sus old new t b z p e heard r zero. entries-remade a sus old new t b z p e heard r zero;
+      nothing-stops = λ a sus old new t b z p e heard r zero. nothing-stops a sus old new t b z p e heard r zero;
       start-alone = λ a sus old new t b z p e heard r zero. start-remade a sus old new t b z p e heard r zero;
       equal = λ a sus s b z r zero. nothing a sus s s (zero-good a s (r .buffers) zero .taken) b z r zero (λ g x. demand-3-holds .equal g s x b z);
       late = λ a sus old new t b z p e l r zero. nothing a sus old new t b z r zero (λ g x. demand-3-holds .late g old new x b z p e l);

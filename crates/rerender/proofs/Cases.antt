@@ -51,7 +51,7 @@ use Rattle.judging.proofs.Refusals.{all-passed, new-passed, roomy}
 use Rattle.rerender.specs.declared.Plan.{Plan}
 use Rattle.rerender.specs.declared.Plan.the-variants.{Nothing, From}
 use Rattle.rerender.specs.Rerender.{planFor, planOf, startOf, isStart, isSettled, stopOf, recounted, recountedFrom, madeFrom, outcomeOf, startRefusals, rerenderRefusals, keptOf, rerenderOf, countFor}
-use Rattle.rerender.specs.Inner.{Whole, rerenderFrom, quietFor, quietOf, Behind, recountedOn}
+use Rattle.rerender.specs.Inner.{InOrder, rerenderFrom, quietFor, quietOf, Behind, recountedOn}
 use Rattle.rerender.proofs.Renewing.{renewed-is, renewed-words, renewed-before, renewed-after, renewed-entry}
 
 -- ---- the plan
@@ -120,7 +120,7 @@ module _ (old new : List ℕ) where
   quiet-at p e = rw e (omega arith)
 
 -- the section after that of the last difference is the first from whose first sample on the records are the same
-pub quiet-is : (old new : List ℕ) → Whole old → Whole new → (k : ℕ) → leb (quietOf old new) k ≡ sameFrom old new (k * sectionSize)
+pub quiet-is : (old new : List ℕ) → InOrder old → InOrder new → (k : ℕ) → leb (quietOf old new) k ≡ sameFrom old new (k * sectionSize)
 unfolding quietFor
 quiet-is old new a b k = go (lastDifferenceOf old new) refl
   where
@@ -175,7 +175,7 @@ module _ (g : Settings) (old new : List ℕ) (m : ℕ) (b : Buffers) where
     stop-within = omega (arith, stop-at .within, made-long)
 
     -- the sections' walk makes that, and stops there
-    module _ (wo : Whole old) (wn : Whole new) (e : isStart new m (b .stored) ≡ true) (r : End) (c : Buffers) (x : leaves r c ≡ playOnOf g new m (placeOf v (v .acted)) (quietOf old new) b) where
+    module _ (wo : InOrder old) (wn : InOrder new) (e : isStart new m (b .stored) ≡ true) (r : End) (c : Buffers) (x : leaves r c ≡ playOnOf g new m (placeOf v (v .acted)) (quietOf old new) b) where
       acted-cut : Cut new (m * sectionSize) (v .acted)
       acted-cut =
           let as-many : v .acted ≡ countBelow new (m * sectionSize) = eqb-true _ _ (both (isEntry (entryAt (b .stored) m)) (eqb (v .acted) (countBelow new (m * sectionSize))) e .1) in

@@ -20,7 +20,7 @@ use Rattle.rerender.specs.declared.Start.{Start}
 use Rattle.rerender.specs.Rerender.{startOf, isStart, recounted, madeFrom, keptOf}
 
 -- whole records whose positions never fall, as an accepted score has
-pub record Whole (s : List ℕ) : Type 0 where
+pub record InOrder (s : List ℕ) : Type 0 where
   pub sorted : Sorted s
   pub records : length s ≡ countOf s * 10
 

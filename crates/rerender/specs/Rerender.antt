@@ -79,11 +79,11 @@ recountedFrom new k b =
 abbrev pub madeFrom : Settings → List ℕ → List ℕ → ℕ → Buffers → Outcome Answer
 madeFrom g old new m b =
     let stop = stopOf g old new m b in
-    let k = stop - m * sectionSize in
+    let count = stop - m * sectionSize in
     let v = startOf (b .stored) m in
     leaves
-    (Done k)
-    (recountedFrom new (entriesFor stop) (madeBetween m stop (samplesFrom g new (m * sectionSize) v k) (shelfOf (entriesFrom g new m v (entriesFor stop - m))) b))
+    (Done count)
+    (recountedFrom new (entriesFor stop) (madeBetween m stop (samplesFrom g new (m * sectionSize) v count) (shelfOf (entriesFrom g new m v (entriesFor stop - m))) b))
 
 -- ---- the call
 -- the outcome of a plan

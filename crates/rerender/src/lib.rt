@@ -12,7 +12,7 @@ ghost use Rattle.shelf.specs.Shelf.{sectionSize, entryWords, entriesFor, wordsF
 ghost use Rattle.judging.specs.Judging.{mostSamples};
 ghost use Rattle.sections.specs.Outcome.{lends, roomIn, leaves};
 ghost use Rattle.rerender.specs.Rerender.{planOf, rerenderOf};
-ghost use Rattle.rerender.specs.Inner.{rerenderFrom, startedAt, Whole, quietOf, Behind, recountedOn};
+ghost use Rattle.rerender.specs.Inner.{rerenderFrom, startedAt, InOrder, quietOf, Behind, recountedOn};
 use answers::Answer;
 use answers::Refusal;
 use score::Difference;
@@ -88,8 +88,8 @@ fn rerender_from(
     magnitudes: &mut [f64],
     numbers: &mut [u64],
 ) -> Answer
-    requires { ⌜ Whole (now old) ⌝ }
-    requires { ⌜ Whole (now new) ⌝ }
+    requires { ⌜ InOrder (now old) ⌝ }
+    requires { ⌜ InOrder (now new) ⌝ }
     requires { ⌜ roomIn (lends (now out) (now shelf) (now magnitudes) (now numbers)) ≡ true ⌝ }
     requires { ⌜ section < entriesFor (length (now out)) ⌝ }
     ensures { λ r. ⌜ leaves r (lends (now (out .exit)) (now (shelf .exit)) (now (magnitudes .exit)) (now (numbers .exit))) ≡ rerenderFrom settings (now (old .entry)) (now (new .entry)) section (lends (now (out .entry)) (now (shelf .entry)) (now (magnitudes .entry)) (now (numbers .entry))) ⌝ }

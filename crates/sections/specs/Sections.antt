@@ -66,8 +66,8 @@ ends p stop = record { place = p; sample = stop }
 abbrev pub played : Settings → List ℕ → ℕ → Place → ℕ → Buffers → Outcome End
 played g s m p quiet b =
     let stop = stopFor g s m p quiet b in
-    let k = stop - m * sectionSize in
-    leaves (ends (placeFrom g s (m * sectionSize) p k) stop) (madeBetween m stop (playedFrom g s (m * sectionSize) p k) (keptFrom g s m p (entriesFor stop - m)) b)
+    let count = stop - m * sectionSize in
+    leaves (ends (placeFrom g s (m * sectionSize) p count) stop) (madeBetween m stop (playedFrom g s (m * sectionSize) p count) (keptFrom g s m p (entriesFor stop - m)) b)
 
 abbrev pub playedIf : Bool → Settings → List ℕ → ℕ → Place → ℕ → Buffers → Outcome End
 playedIf true g s m p quiet b = played g s m p quiet b
