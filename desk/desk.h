@@ -8,7 +8,6 @@
 #include <stdbool.h>
 #include <stdio.h>
 #include <sys/types.h>
-#include <time.h>
 
 /* A score's sizes, for buffers and for words; what is refused, the library decides. */
 #define RECORD_BYTES 10u
@@ -67,19 +66,10 @@ bool read_into(const char *path, uint8_t *at, size_t room, size_t *len, struct w
 /* The whole file, to be freed; of a file longer than `most` bytes the first most + 1, so that a message can say what it
    is. */
 bool read_file(const char *path, size_t most, struct bytes *file, struct why *why);
-/* A file that was read and is still open, to be copied from; and when it was last written to before it was read. */
-struct source {
-    int fd;
-    struct timespec written;
-};
-
-#define NO_SOURCE ((struct source){.fd = -1})
-
-/* As read_file; leaves the file open. */
-bool source_read(struct source *source, const char *path, size_t most, struct bytes *file, struct why *why);
-/* Whether nobody has written to the file since. */
-bool source_is_kept(const struct source *source);
-void source_close(struct source *source);
+/* As read_file; leaves the file open, to be copied from. fd is -1 where it cannot be opened. */
+bool read_open_file(const char *path, size_t most, int *fd, struct bytes *file, struct why *why);
+/* Whether a file has those bytes from byte `at` on; false with errno set where it cannot be read. */
+bool compare_bytes(int fd, size_t at, const uint8_t *bytes, size_t len, bool *same);
 bool write_all(int fd, const void *at, size_t len);
 /* Appends bytes of one file to another inside the file system, as many as it can: answers how many. */
 size_t copy_inside(int from, size_t at, int to, size_t len);
@@ -131,16 +121,18 @@ struct pair {
 
 #define NO_PAIR ((struct pair){.wav = NO_DRAFT, .shelf = NO_DRAFT})
 
-/* What a file will hold. A file without bytes (at is NULL) stays as it is. Where there is a source (else NULL), it has
-   the same bytes in the same places, but for those from byte `first` to before byte `end`. */
+/* What a file will hold. A file without bytes (at is NULL) stays as it is. Where there is a source (else NULL), an
+   open file, it had the same bytes in the same places when it was read, but for those from byte `first` to before byte
+   `end`. */
 struct content {
     struct bytes bytes;
-    const struct source *source;
+    const int *source;
     size_t first, end;
 };
 
 bool pair_open(struct pair *pair, const char *wav_path, const char *shelf_path, struct why *why);
-/* Writes both files, then gives them their names, the WAV first. */
+/* Writes both files, then gives them their names, the WAV first; refused where the draft has not all of those bytes,
+   since a source was written to after it was read. */
 bool pair_write(struct pair *pair, const struct content *wav, const struct content *shelf, struct why *why);
 void pair_drop(struct pair *pair);
 

@@ -246,24 +246,31 @@ bool pair_open(struct pair *pair, const char *wav_path, const char *shelf_path, 
     return draft_open(&pair->wav, wav_path, why) && (!shelf_path || draft_open(&pair->shelf, shelf_path, why));
 }
 
-/* Appends bytes that the source has in the same place: by a copy of the file system's, as far as it makes one. */
-static bool write_kept(struct draft *draft, const struct content *content, size_t first, size_t end, struct why *why) {
-    first += copy_inside(content->source->fd, first, draft->fd, end - first);
-    return draft_write(draft, content->bytes.at + first, end - first, why);
+/* What is copied is what the source has then, and another program may have written to it since it was read: only what
+   the draft has tells. */
+static bool has_copied(const struct draft *draft, const struct content *content, size_t first, size_t len,
+                       struct why *why) {
+    bool same;
+    if (!compare_bytes(draft->fd, first, content->bytes.at + first, len, &same)) {
+        return refuse(why, "%s: what was written first cannot be read: %s", draft->path, strerror(errno));
+    }
+    return same ? true : refuse(why, "%s: another program wrote to it meanwhile; nothing is written", draft->path);
 }
 
-/* The blocks that have a new byte are written, and those before and after them copied. A source that has changed since
-   it was read has other bytes than those that were looked at. */
+/* Appends bytes that the source has in the same place: by a copy of the file system's, as far as it makes one. */
+static bool write_kept(struct draft *draft, const struct content *content, size_t first, size_t end, struct why *why) {
+    size_t copied = copy_inside(*content->source, first, draft->fd, end - first), next = first + copied;
+    return has_copied(draft, content, first, copied, why) &&
+           draft_write(draft, content->bytes.at + next, end - next, why);
+}
+
+/* The blocks that have a new byte are written, and those before and after them copied. */
 static bool write_over(struct draft *draft, const struct content *content, struct why *why) {
     size_t len = content->bytes.len, first = content->first / BLOCK * BLOCK, after = content->end + BLOCK - 1;
     size_t end = after < len ? after / BLOCK * BLOCK : len;
-    if (!write_kept(draft, content, 0, first, why) ||
-        !draft_write(draft, content->bytes.at + first, end - first, why) ||
-        !write_kept(draft, content, end, len, why)) {
-        return false;
-    }
-    if (source_is_kept(content->source)) return true;
-    return refuse(why, "%s: another program wrote to it meanwhile; nothing is written", draft->path);
+    return write_kept(draft, content, 0, first, why) &&
+           draft_write(draft, content->bytes.at + first, end - first, why) &&
+           write_kept(draft, content, end, len, why);
 }
 
 static bool write_one(struct draft *draft, const struct content *content, struct why *why) {

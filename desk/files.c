@@ -101,24 +101,24 @@ bool read_file(const char *path, size_t most, struct bytes *file, struct why *wh
     return fine;
 }
 
-bool source_read(struct source *source, const char *path, size_t most, struct bytes *file, struct why *why) {
-    struct stat found;
-    *source = (struct source){.fd = open_input(path, why)};
-    if (source->fd < 0) return false;
-    if (fstat(source->fd, &found) != 0) return refuse(why, "%s: cannot be read: %s", path, strerror(errno));
-    source->written = found.st_mtim;
-    return read_whole_file(source->fd, path, most, file, why);
+bool read_open_file(const char *path, size_t most, int *fd, struct bytes *file, struct why *why) {
+    *fd = open_input(path, why);
+    return *fd >= 0 && read_whole_file(*fd, path, most, file, why);
 }
 
-bool source_is_kept(const struct source *source) {
-    struct stat found;
-    return fstat(source->fd, &found) == 0 && found.st_mtim.tv_sec == source->written.tv_sec &&
-           found.st_mtim.tv_nsec == source->written.tv_nsec;
-}
-
-void source_close(struct source *source) {
-    if (source->fd >= 0) close(source->fd);
-    *source = NO_SOURCE;
+bool compare_bytes(int fd, size_t at, const uint8_t *bytes, size_t len, bool *same) {
+    uint8_t piece[65536];
+    *same = true;
+    for (size_t seen = 0; seen < len && *same;) {
+        ssize_t got = pread(fd, piece, len - seen < sizeof piece ? len - seen : sizeof piece, (off_t)(at + seen));
+        if (got >= 0) {
+            *same = got > 0 && memcmp(piece, bytes + seen, (size_t)got) == 0;
+            seen += (size_t)got;
+        } else if (errno != EINTR) {
+            return false;
+        }
+    }
+    return true;
 }
 
 /* Writes all, or answers false with errno set; waits while a pipe or a device is full. */

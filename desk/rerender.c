@@ -3,17 +3,18 @@
 
 #include <math.h>
 #include <stdlib.h>
+#include <unistd.h>
 
-/* The files as they were read, and the shelf as it will be. Samples `from` to before `to` are rendered again; where
-   none are, both are the end. foreign: how many of the sections rendered again were of another sound, neither the old
-   score's nor the new one's. */
+/* The files as they were read, the WAV still open, and the shelf as it will be. Samples `from` to before `to` are
+   rendered again; where none are, both are the end. foreign: how many of the sections rendered again were of another
+   sound, neither the old score's nor the new one's. */
 struct rerender {
     const char *new_path, *wav_path, *shelf_path;
     struct score after;
     struct shelf_file about;
     struct wav wav;
     struct bytes wav_file, shelf_file, new_shelf;
-    struct source source;
+    int wav_fd;
     struct pair pair;
     struct sound sound;
     bool equal;
@@ -36,7 +37,7 @@ static bool is_of_wav(const struct rerender *r, struct why *why) {
 static bool load(struct rerender *r, struct why *why) {
     if (!read_file(r->shelf_path, SHELF_MOST, &r->shelf_file, why)) return false;
     if (!shelf_look(r->shelf_file.at, r->shelf_file.len, &r->about, why)) return preface(why, "%s: ", r->shelf_path);
-    if (!source_read(&r->source, r->wav_path, WAV_MOST, &r->wav_file, why)) return false;
+    if (!read_open_file(r->wav_path, WAV_MOST, &r->wav_fd, &r->wav_file, why)) return false;
     if (!wav_look(r->wav_file.at, r->wav_file.len, &r->wav, why)) return preface(why, "%s: ", r->wav_path);
     if (!is_of_wav(r, why) || !sound_make(&r->sound, r->about.samples, why)) return false;
     shelf_words(r->shelf_file.at, &r->sound);
@@ -139,7 +140,7 @@ static bool wav_content(struct rerender *r, struct content *wav, struct why *why
     size_t len = r->wav_file.len, frame = r->wav.bits / 8;
     if (!make_wav(r, why)) return false;
     *wav = (struct content){.bytes = r->wav_file,
-                            .source = r->wav_file.len == len ? &r->source : NULL,
+                            .source = r->wav_file.len == len ? &r->wav_fd : NULL,
                             .first = r->wav.data + frame * r->from,
                             .end = r->wav.data + frame * r->to};
     return true;
@@ -207,12 +208,12 @@ static bool run_rerender(char **given, struct why *why) {
     struct rerender *r = calloc(1, sizeof *r);
     if (!r) return refuse(why, "no memory for %zu bytes", sizeof *r);
     r->pair = NO_PAIR;
-    r->source = NO_SOURCE;
+    r->wav_fd = -1;
     bool done = read_rerender(given, r, why) && pair_open(&r->pair, r->wav_path, r->shelf_path, why) && load(r, why) &&
                 rerender_sound(r, why) && rest_is_kept(r, why) && write_files(r, why);
     if (done) tell(r);
     pair_drop(&r->pair);
-    source_close(&r->source);
+    if (r->wav_fd >= 0) close(r->wav_fd);
     sound_free(&r->sound);
     free(r->wav_file.at);
     free(r->shelf_file.at);
