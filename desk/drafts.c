@@ -11,8 +11,8 @@
 
 /* A lock is tried again where another desk has just renamed or removed the locked file. */
 #define MOST_TRIES 100u
-/* Copies begin and end at multiples of this, which the blocks of every file system divide: two files can share whole
-   blocks, and then no byte is moved. */
+/* Copies begin and end at multiples of this, which the blocks of the usual file systems divide: two files can share
+   whole blocks, and then no byte is moved. */
 #define BLOCK 65536u
 
 enum lock { LOCKED, GONE, TAKEN };

@@ -1,4 +1,4 @@
-/* Reading whole files, writing and copying all of something, and which names are of one file. */
+/* Reading whole files, writing all of something, copying as much of it as goes, and which names are of one file. */
 /* For copy_file_range. */
 #define _GNU_SOURCE
 #include "desk.h"

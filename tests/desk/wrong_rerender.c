@@ -1,7 +1,7 @@
 /* Wrong re-renders, for linking the desk with --wrap=gav_rerender. Without WRONG in the environment what is made is a
    hundredth too soft, and the chart must show it. WRONG=early counts a section too few, and WRONG=stale leaves the
-   records acted from the stop on as they came: `desk verify` must tell both. WRONG=far also makes what lies after the
-   stop too soft, and no file may show that. */
+   records acted from the stop on as they came: `desk verify` must tell both. WRONG=far makes what lies after the stop
+   too soft, and no file may show that. */
 #include "gavberin.h"
 
 #include "../settings.h"

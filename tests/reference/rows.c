@@ -100,9 +100,8 @@ static bool near_block(struct tally *tally, const struct block *b, double phase,
  * the LFO's; 3 and 4 set the phase back before they play. */
 static void block_row(struct rows *rows, struct tally *tally) {
     const uint64_t *row = take(rows, 10), *theirs = take(rows, row[7]);
-    const struct block b = {
-        (uint32_t)row[3], (uint32_t)row[1], number(row[2]), number(row[4]), row[0] % 3 == 1 ? 100 : 20000,
-        number(row[5])};
+    const struct block b = {(uint32_t)row[3], (uint32_t)row[1],          number(row[2]),
+                            number(row[4]),   row[0] % 3 == 1 ? 100 : 20000, number(row[5])};
     size_t n = (size_t)row[7];
     double start = row[0] == 3 || row[0] == 4 ? 0.0 : number(row[6]), phase = start, *out = room(n * sizeof *out);
     for (size_t i = 0; i < n; i++) out[i] = UNWRITTEN;
