@@ -269,8 +269,7 @@ static bool write_over(struct draft *draft, const struct content *content, struc
     size_t len = content->bytes.len, first = content->first / BLOCK * BLOCK, after = content->end + BLOCK - 1;
     size_t end = after < len ? after / BLOCK * BLOCK : len;
     return write_kept(draft, content, 0, first, why) &&
-           draft_write(draft, content->bytes.at + first, end - first, why) &&
-           write_kept(draft, content, end, len, why);
+           draft_write(draft, content->bytes.at + first, end - first, why) && write_kept(draft, content, end, len, why);
 }
 
 static bool write_one(struct draft *draft, const struct content *content, struct why *why) {
