@@ -226,18 +226,21 @@ static inline uint64_t gav_render_with(const struct gav_settings *s, const uint8
  *           4096k on, those at n or later too, and entry k, as it came, is the state there, by bits, but for the
  *           records that have acted, bits 16 to 63 of word 5; n where there is no such section
  * Samples, entries, magnitudes and numbers from the start to the stop are written. From the stop on nothing is, but for
- * those bits of every entry k, state or not, which become the number of the new score's records below position 4096k.
- * The count is the samples from the start to the stop; 0, and nothing written, where the scores are equal or P is n or
- * more.
- * What was made: where a re-render stops before n, n - count is not its start. A host that keeps the samples elsewhere
- * too, as in a file, compares the two scores itself, ten bytes at a time; of the first ten that differ the lower
- * position is P, the start is GAV_SECTION * (P / GAV_SECTION), and the stop is the start + count.
+ * those bits of every entry j from there on, state or not, which become the number of the new score's records below
+ * position 4096j. The count is the samples from the start to the stop; 0, and nothing written, where the scores are
+ * equal or P is n or more.
+ * What was made: nothing where the count is 0. Where a re-render stops before n, n - count is not its start. A host
+ * that keeps the samples elsewhere too, as in a file, compares the two scores itself, ten bytes at a time: of the first
+ * ten that differ the lower position is P, or, where one score has ended there, the position of the other's ten. The
+ * start is GAV_SECTION * (P / GAV_SECTION), and the stop is the start + count.
  * The caller's duty: from the start on samples, shelf and summary are as gav_render of the old score left them, or the
  * gav_rerender that had the old score for its new one, under the same settings and n. Then they are, from the start on,
  * as gav_render of the new score leaves them. No sample and no summary that came is read, so that one behind the stop
  * that is wrong stays wrong. A host that lacks those of a later section spoils, say by setting every bit, the entries
- * after the start's up to that section's: what is no state stops nothing. Where all entries after the start's are
- * spoilt all is made up to n, and only the start's entry has to be as it was left.
+ * after the start's up to and with that section's own: what is no state stops nothing. It keeps a copy of them, and
+ * puts it back where the call is refused or its count is 0: then nothing was written, and a later edit that starts at a
+ * spoilt entry would be refused, 8. Where all entries after the start's are spoilt all is made up to n, and only the
+ * start's entry has to be as it was left.
  * old, old_len:   the score that out, shelf and summary were rendered of
  * new_, new_len:  the score to render now; it may be the same buffer
  * out, n; shelf, words; magnitudes, magnitudes_len, numbers, numbers_len: as for gav_render, holding what gav_render or

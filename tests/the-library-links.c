@@ -32,6 +32,10 @@ static const uint8_t example[] = {ON_69, OFF_69_AT_100};
 static const uint8_t longer[] = {ON_69, OFF_69_AT_100, ON_60};
 /* the longer score, and a reset at 300 */
 static const uint8_t reset[] = {ON_69, OFF_69_AT_100, 0x56, 0x4E, 0x2C, 1, 0, 0, 3, 0, 0, 0, ON_60};
+/* note 60 off at 0, which finds no key, and the example */
+static const uint8_t stray[] = {0x56, 0x4E, 0, 0, 0, 0, 2, 60, 0, 0, ON_69, OFF_69_AT_100};
+/* the example, and note 60 on at 5,000, where the output has ended */
+static const uint8_t late[] = {ON_69, OFF_69_AT_100, 0x56, 0x4E, 0x88, 0x13, 0, 0, 1, 60, 100, 0};
 /* note 69 on, and note 60 on at 4,500, while 69 sounds */
 static const uint8_t overlapping[] = {ON_69, ON_60};
 static const uint8_t wrong_mark[] = {ON_69, 0x56, 0x4F, 100, 0, 0, 0, 2, 69, 0, 0};
@@ -642,7 +646,6 @@ static void refused_summaries(void) {
 /* A re-render works sections out from the samples that it writes: a wrong peak from the start on is mended, one before
  * it stays. Equal scores and a late change leave both. */
 static void summed_edits(void) {
-    static const uint8_t late[] = {ON_69, OFF_69_AT_100, 0x56, 0x4E, 0x88, 0x13, 0, 0, 1, 60, 100, 0};
     HOLD(gav_render(SETTINGS, longer, 30, all, N, entries, 2 * WORDS, SUMMARY_OF_ALL) == says(0, 0, N));
     HOLD(gav_render(SETTINGS, example, 20, out, N, shelf, 2 * WORDS, SUMMARY) == says(0, 0, N));
     HOLD(are_peaks(out, N, magnitudes, numbers) && are_peaks(all, N, peaks, places));
@@ -654,6 +657,34 @@ static void summed_edits(void) {
     HOLD(SAME(out, all) && is_of_all());
     HOLD(gav_rerender(SETTINGS, longer, 30, example, 20, out, N, shelf, 2 * WORDS, SUMMARY) == says(0, 0, N - GAV_SECTION));
     HOLD(are_peaks(out, N, magnitudes, numbers) && !SAME(peaks, magnitudes));
+}
+
+/* The header's advice to a host that lacks the samples of section 1: with its entry spoilt an edit that would stop there
+ * goes on. A call that is refused or makes nothing leaves the entry spoilt, and the next edit there is 8; with the copy
+ * put back it is right. */
+static void spoilt_entries(void) {
+    uint64_t kept[WORDS], ones[WORDS];
+    memset(ones, 0xFF, sizeof ones);
+    HOLD(gav_render(SETTINGS, example, 20, out, N, shelf, 2 * WORDS, SUMMARY) == says(0, 0, N));
+    memcpy(kept, shelf + WORDS, sizeof kept);
+    memcpy(shelf + WORDS, ones, sizeof ones);
+    HOLD(gav_rerender(SETTINGS, example, 20, wrong_kind, 20, out, N, shelf, 2 * WORDS, SUMMARY) == says(19, 1, 0));
+    HOLD(SAME(ones, shelf + WORDS));
+    HOLD(gav_rerender(SETTINGS, example, 20, late, 30, out, N, shelf, 2 * WORDS, SUMMARY) == 0);
+    HOLD(SAME(ones, shelf + WORDS));
+    HOLD(gav_rerender(SETTINGS, example, 20, longer, 30, out, N, shelf, 2 * WORDS, SUMMARY) == says(8, 0, 0));
+    memcpy(shelf + WORDS, kept, sizeof kept);
+    HOLD(gav_rerender(SETTINGS, example, 20, longer, 30, out, N, shelf, 2 * WORDS, SUMMARY) == says(0, 0, N - GAV_SECTION));
+    HOLD(gav_render(SETTINGS, longer, 30, all, N, entries, 2 * WORDS, SUMMARY_OF_ALL) == says(0, 0, N));
+    HOLD(SAME(out, all) && is_of_all());
+
+    HOLD(gav_render(SETTINGS, example, 20, out, N, shelf, 2 * WORDS, SUMMARY) == says(0, 0, N));
+    put_nans(out + GAV_SECTION, N - GAV_SECTION);
+    put_nan(magnitudes + 1, 3);
+    memcpy(shelf + WORDS, ones, sizeof ones);
+    HOLD(gav_rerender(SETTINGS, example, 20, stray, 30, out, N, shelf, 2 * WORDS, SUMMARY) == says(0, 0, N));
+    HOLD(gav_render(SETTINGS, stray, 30, all, N, entries, 2 * WORDS, SUMMARY_OF_ALL) == says(0, 0, N));
+    HOLD(SAME(out, all) && is_of_all());
 }
 
 static void lists(void) {
@@ -691,6 +722,7 @@ int main(void) {
     summaries();
     refused_summaries();
     summed_edits();
+    spoilt_entries();
     printf("%d facts held, %d faults\n", held - faults, faults);
     return faults != 0;
 }
