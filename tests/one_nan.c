@@ -5,16 +5,20 @@
 
 #include "settings.h"
 
-/* Of the samples, and the first three again of the magnitudes. */
+#include <stdbool.h>
+
+/* Of the samples, and the first four again of the magnitudes. */
 enum {
     RENDER_REFUSED,
     RERENDER_REFUSED,
-    BEFORE_THE_MARK,
+    BEFORE_THE_START,
+    BEHIND_THE_STOP,
     CONTINUE_REFUSED,
     OF_PEAKS,
     RENDER_REFUSED_PEAKS = OF_PEAKS,
     RERENDER_REFUSED_PEAKS,
-    BEFORE_THE_MARK_PEAKS
+    BEFORE_THE_START_PEAKS,
+    BEHIND_THE_STOP_PEAKS
 };
 
 #define SCORE const uint8_t *score, size_t len
@@ -29,33 +33,37 @@ uint64_t __wrap_gav_render(SETTINGS, SCORE, SOUND);
 uint64_t __wrap_gav_rerender(SETTINGS, SCORE, NEW, SOUND);
 uint64_t __wrap_gav_continue(SETTINGS, SCORE, STATE);
 
-/* Those of the samples that the call did not write. */
-static uint64_t with_one_nan(int where, uint64_t said, double *out, size_t n) {
-    for (size_t i = 0; where == SPOILT && i + gav_count(said) < n; i++) {
-        if (out[i] != out[i]) out[i] = __builtin_nan("");
+static void with_one_nan(int where, double *at, size_t count) {
+    for (size_t i = 0; where == SPOILT && i < count; i++) {
+        if (at[i] != at[i]) at[i] = __builtin_nan("");
     }
-    return said;
 }
 
-/* And of the magnitudes, which are as many as the sections that it did not write. */
-static void with_one_peak(int where, uint64_t said, size_t n, double *magnitudes) {
-    with_one_nan(OF_PEAKS + where, 0, magnitudes, gav_sections(n - gav_count(said)));
+/* Of the samples from one to before another, which the call did not write, and of the magnitudes of their sections. */
+static void with_one_of_both(int where, double *out, size_t from, size_t to, double *magnitudes, bool is_summary) {
+    with_one_nan(where, out + from, to - from);
+    if (!is_summary) return;
+    with_one_nan(OF_PEAKS + where, magnitudes + gav_sections(from), gav_sections(to) - gav_sections(from));
 }
 
 uint64_t __wrap_gav_render(SETTINGS, SCORE, SOUND) {
     uint64_t said = __real_gav_render(GIVEN, score, len, out, n, shelf, words, PEAKS);
-    if (gav_sections(n) == magnitudes_len) with_one_peak(RENDER_REFUSED, said, n, magnitudes);
-    return with_one_nan(RENDER_REFUSED, said, out, n);
+    with_one_of_both(RENDER_REFUSED, out, gav_count(said), n, magnitudes, gav_sections(n) == magnitudes_len);
+    return said;
 }
 
 uint64_t __wrap_gav_rerender(SETTINGS, SCORE, NEW, SOUND) {
     uint64_t said = __real_gav_rerender(GIVEN, score, len, new_, new_len, out, n, shelf, words, PEAKS);
-    const int where = gav_number(said) == GAV_DONE ? BEFORE_THE_MARK : RERENDER_REFUSED;
-    if (gav_sections(n) == magnitudes_len) with_one_peak(where, said, n, magnitudes);
-    return with_one_nan(where, said, out, n);
+    const bool is_summary = gav_sections(n) == magnitudes_len;
+    const int before = gav_number(said) == GAV_DONE ? BEFORE_THE_START : RERENDER_REFUSED;
+    const size_t start = gav_count(said) > 0 ? start_of_edit(score, len, new_, new_len) : n;
+    with_one_of_both(before, out, 0, start, magnitudes, is_summary);
+    with_one_of_both(BEHIND_THE_STOP, out, start + gav_count(said), n, magnitudes, is_summary);
+    return said;
 }
 
 uint64_t __wrap_gav_continue(SETTINGS, SCORE, STATE) {
-    return with_one_nan(CONTINUE_REFUSED, __real_gav_continue(GIVEN, score, len, state, words, position, part, n), part,
-                        n);
+    uint64_t said = __real_gav_continue(GIVEN, score, len, state, words, position, part, n);
+    if (gav_number(said) != GAV_DONE) with_one_nan(CONTINUE_REFUSED, part, n);
+    return said;
 }

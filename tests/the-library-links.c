@@ -220,6 +220,25 @@ static void rerenders(void) {
     HOLD(!SAME(out, out_before));
 }
 
+/* An edit that stops at section 1: an off at 0 that finds no key. What lies behind the stop stays, here NaNs of every
+ * kind, but for the records that have acted, of which there is one more. */
+static void stops(void) {
+    double strange, behind[N - GAV_SECTION];
+    HOLD(gav_render(SETTINGS, stray, 30, all, N, entries, 2 * WORDS, SUMMARY_OF_ALL) == says(0, 0, N));
+    HOLD(gav_render(SETTINGS, example, 20, out, N, shelf, 2 * WORDS, SUMMARY) == says(0, 0, N));
+    HOLD(SAME(out, all) && shelf[WORDS + 5] >> 16 == 2 && entries[WORDS + 5] >> 16 == 3);
+    put_nans(out, N);
+    memcpy(behind, out + GAV_SECTION, sizeof behind);
+    put_nan(&strange, 3);
+    magnitudes[0] = magnitudes[1] = 99, numbers[0] = numbers[1] = 77;
+    memcpy(magnitudes + 1, &strange, sizeof strange);
+    HOLD(gav_rerender(SETTINGS, example, 20, stray, 30, out, N, shelf, 2 * WORDS, SUMMARY) == says(0, 0, GAV_SECTION));
+    HOLD(memcmp(out, all, GAV_SECTION * sizeof *out) == 0 && SAME(behind, out + GAV_SECTION));
+    HOLD(magnitudes[0] == peaks[0] && numbers[0] == places[0]);
+    HOLD(memcmp(magnitudes + 1, &strange, sizeof strange) == 0 && numbers[1] == 77);
+    HOLD(SAME(shelf, entries));
+}
+
 /* After rerenders(): out is the render of the longer score. The old score and the new one in one buffer. */
 static void overlaps(void) {
     HOLD(gav_rerender(SETTINGS, longer, 30, longer, 20, out, N, shelf, 2 * WORDS, SUMMARY) == says(0, 0, N - GAV_SECTION));
@@ -722,6 +741,7 @@ int main(void) {
     summaries();
     refused_summaries();
     summed_edits();
+    stops();
     spoilt_entries();
     printf("%d facts held, %d faults\n", held - faults, faults);
     return faults != 0;

@@ -9,25 +9,11 @@
 #include <stdlib.h>
 #include <string.h>
 
-#define RECORD 10u
 #define SCORES const uint8_t *before, size_t before_len, const uint8_t *after, size_t after_len
 #define SOUND double *out, size_t n, uint64_t *shelf, size_t words, SUMMARY
 
 uint64_t __real_gav_rerender(SETTINGS, SCORES, SOUND);
 uint64_t __wrap_gav_rerender(SETTINGS, SCORES, SOUND);
-
-static size_t position(const uint8_t *record) {
-    return record[2] | (size_t)record[3] << 8 | (size_t)record[4] << 16 | (size_t)record[5] << 24;
-}
-
-/* The sample that a re-render starts at, of scores that are not equal. */
-static size_t start(SCORES) {
-    size_t at = 0, place = SIZE_MAX;
-    while (at < before_len && at < after_len && memcmp(before + at, after + at, RECORD) == 0) at += RECORD;
-    if (at < before_len) place = position(before + at);
-    if (at < after_len && position(after + at) < place) place = position(after + at);
-    return place / GAV_SECTION * GAV_SECTION;
-}
 
 static void soften(double *from, size_t samples) {
     for (size_t i = 0; i < samples; i++) from[i] *= 0.99;
@@ -39,7 +25,8 @@ uint64_t __wrap_gav_rerender(SETTINGS, SCORES, SOUND) {
     if (!kept) abort();
     for (size_t i = 0; i < words; i++) kept[i] = shelf[i];
     uint64_t said = __real_gav_rerender(GIVEN, before, before_len, after, after_len, out, n, shelf, words, PEAKS);
-    size_t count = gav_count(said), from = count ? start(before, before_len, after, after_len) : n, stop = from + count;
+    size_t count = gav_count(said), from = count ? start_of_edit(before, before_len, after, after_len) : n,
+           stop = from + count;
     if (!wrong) {
         soften(out + from, count);
     } else if (strcmp(wrong, "far") == 0) {

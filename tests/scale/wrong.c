@@ -36,6 +36,8 @@ enum wrong {
     RENDER_SCORE,         /* a render writes into the score */
     RERENDER_COUNT,       /* the count is the whole output's */
     RERENDER_NAN_BEFORE,  /* NaNs before the start lose their payloads */
+    RERENDER_NAN_BEHIND,  /* those behind the stop do */
+    RERENDER_NAN_PEAKS,   /* those among the magnitudes behind the stop do */
     RERENDER_BEFORE,      /* the sample before the start is written */
     RERENDER_OLD_ENTRY,   /* an entry before the start is another */
     RERENDER_START,       /* 8 is not given */
@@ -203,10 +205,13 @@ uint64_t __wrap_gav_render(SETTINGS, const uint8_t *score, size_t len, double *o
 
 static uint64_t spoil_rerender(uint64_t answer, const struct lent_edit *edit, size_t from) {
     double *out = edit->lent.out;
+    const size_t n = edit->lent.n, stop = from + gav_count(answer), sections = gav_sections(stop);
     if (wrong() == RERENDER_NAN_BEFORE) one_payload(out, from);
+    if (wrong() == RERENDER_NAN_BEHIND) one_payload(out + stop, n - stop);
+    if (wrong() == RERENDER_NAN_PEAKS) one_payload(edit->lent.magnitudes + sections, gav_sections(n) - sections);
     if (wrong() == RERENDER_BEFORE && from > 0) out[from - 1] = 0.25;
     if (wrong() == RERENDER_OLD_ENTRY && from > 0) edit->shelf[2] ^= 1;
-    return wrong() == RERENDER_COUNT ? says(0, 0, edit->lent.n) : answer;
+    return wrong() == RERENDER_COUNT ? says(0, 0, n) : answer;
 }
 
 /* A library that is right but for what it is lent, which nothing is written to. */
