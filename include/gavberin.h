@@ -21,7 +21,7 @@
  *  - a re-render is lent what the last render or re-render left, as gav_rerender says below;
  *  - the processor's arithmetic is as C starts it: it rounds to nearest, and keeps numbers near 0 as they are.
  *
- * What a call takes: nothing from the heap, no system call, at most 64 KB of stack (measured: 45 KB, and 8 KB but for a
+ * What a call takes: nothing from the heap, no system call, at most 64 KB of stack (measured: 45 KB, and 9 KB but for a
  * sine, of the oscillator or the LFO, over 1,024 samples or more), and time in proportion to the records and samples
  * that it is given. Calls keep nothing between them, so any number of threads may call at once, on buffers of their
  * own, and the callback of a sound driver may call.

@@ -13,6 +13,7 @@
 #define ROOM (1024 * 1024)
 #define PAINT 0xA7
 #define RECORDS 4096
+#define RELEASE 2000 /* a record that is one, at 48,000 */
 #define N 100000
 #define LEN(list) (sizeof(list) / sizeof *(list))
 
@@ -23,7 +24,7 @@ static double out[GAV_MOST_SAMPLES];
 static uint64_t shelf[GAV_MOST_SAMPLES / GAV_SECTION * GAV_STATE_WORDS], state[GAV_STATE_WORDS];
 static double magnitudes[GAV_MOST_SAMPLES / GAV_SECTION];
 static uint64_t numbers[GAV_MOST_SAMPLES / GAV_SECTION];
-static uint8_t score[10 * RECORDS], edited[10 * RECORDS], text[GAV_LIST_ROOM];
+static uint8_t score[10 * RECORDS], edited[10 * RECORDS], released[10 * RECORDS], text[GAV_LIST_ROOM];
 static struct gav_settings settings = GAV_SETTINGS_DEFAULT;
 
 /* A call with its arguments; what it answers has to be that number, so that it did the work and was not refused early.
@@ -104,12 +105,18 @@ static uint64_t summary_refused(void) {
                            gav_sections(N), numbers, gav_sections(N) - 1);
 }
 
-/* After a render of the pulse. The edit is in the last record, which lies before N. */
+/* After a render. */
 static uint64_t rerender_of(const uint8_t *old, const uint8_t *new_, size_t new_len) {
     return gav_rerender_with(&settings, old, sizeof score, new_, new_len, out, N, shelf, gav_shelf_words(N), magnitudes,
                              gav_sections(N), numbers, gav_sections(N));
 }
+/* The edit is in the last record, which lies before N. */
 static uint64_t rerender_late(void) { return rerender_of(score, edited, sizeof edited); }
+/* A release's velocity is not heard, so that it stops at the next section, and what is rendered is that of both. */
+static uint64_t rerender_stops(void) {
+    uint64_t said = rerender_of(score, released, sizeof released);
+    return gav_count(said) == GAV_SECTION ? said : 255;
+}
 static uint64_t rerender_all(void) { return rerender_of(edited, score, 0); }
 static uint64_t rerender_equal(void) { return rerender_of(score, score, sizeof score); }
 static uint64_t rerender_refused(void) { return rerender_of(score, score, 19); }
@@ -151,6 +158,7 @@ static uint64_t continue_refused(void) {
 static const struct call long_sines[] = {
     {"gav_render, the longest sine", render_longest, 0},
     {"gav_render, sine", render_sine, 0},
+    {"gav_rerender, sine, a release's velocity", rerender_stops, 0},
     {"gav_render, sine, with a tremolo of a sine", tremolo_sines, 0},
     {"gav_render, sine, with a tremolo of a triangle", tremolo_of_sine, 0},
     {"gav_render, sawtooth, with a tremolo of a sine", tremolo_sine, 0},
@@ -185,6 +193,7 @@ static const struct call calls[] = {
     {"gav_render, refused", render_refused, GAV_SETTING},
     {"gav_render, pulse", render_pulse, 0},
     {"gav_render, a refused summary", summary_refused, GAV_SIZE},
+    {"gav_rerender, a release's velocity", rerender_stops, 0},
     {"gav_rerender, the last record", rerender_late, 0},
     {"gav_rerender, into no record", rerender_all, 0},
     {"gav_rerender, equal scores", rerender_equal, 0},
@@ -215,6 +224,8 @@ static void make_scores(void) {
     memcpy(edited, score, sizeof score);
     edited[sizeof edited - 3] = 77;
     edited[sizeof edited - 4] = 1;
+    memcpy(released, score, sizeof score);
+    released[10 * RELEASE + 8] = 9;
 }
 
 /* Takes more than a call may, to see that it is told. */
