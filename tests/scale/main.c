@@ -1,7 +1,8 @@
 /* scale SEED ROUNDS [FIRST]: compares the library with the original, or with the reference voice where that is not
- * here, over so many rounds from the first on; before round 0 come the re-renders of stops.c, which are not counted.
- * Exit status 1 at the first difference, which is told with its seed and round; and where many rounds had no section of
- * silence, no peak above 1, or none of some kind of re-render, and so compared too little. */
+ * here, over so many rounds from the first on; before round 0, and after the rounds that begin with it, come the
+ * re-renders of stops.c, which are not counted. Exit status 1 at the first difference, which is told with its seed and
+ * round; and where many rounds had no section of silence, no peak above 1, or none of some kind of re-render, and so
+ * compared too little. */
 #include "scale.h"
 
 #include <inttypes.h>
@@ -69,6 +70,8 @@ int main(int argc, char **argv) {
         start_round(&round, seed, i);
         run_round(&round);
     }
+    round.tally = &given;
+    if (first == 0) run_longest(&round);
     print_tally(&tally, seed, rounds);
     return rounds >= MANY_ROUNDS && !has_all(&tally);
 }

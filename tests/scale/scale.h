@@ -154,7 +154,8 @@ size_t rerender(struct round *r, const struct score *new_, const struct heard *d
 /* What is lent is a render of a score from zero, and its summary that of the samples. */
 void same_render(const struct round *r, const struct heard *due);
 
-/* stops.c: re-renders whose count is known beforehand. */
+/* stops.c: re-renders whose count is known beforehand; and two of the longest output, of the library alone. */
 void run_stops(struct round *r);
+void run_longest(struct round *r);
 
 #endif

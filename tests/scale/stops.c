@@ -6,6 +6,7 @@
 
 #define MOST_NOTES 5
 #define LAST UINT32_MAX /* the highest position */
+#define MOST_SECTIONS (GAV_MOST_SAMPLES / GAV_SECTION)
 
 struct note {
     uint32_t position;
@@ -163,6 +164,12 @@ static void run_minus_zero(struct round *r) {
     run_stop(r, &STOP);
 }
 
+static void same_entry(const struct round *r, const uint64_t *entry, uint64_t keys) {
+    for (size_t i = 0; i < GAV_STATE_WORDS; i++) {
+        if (entry[i] != (i == 5 ? keys : UINT64_MAX)) differ(r, "word %zu of the entry is another", i);
+    }
+}
+
 /* An entry that is no state is counted too, and keeps what else it has. */
 static void run_recount(struct round *r) {
     static const struct stop STOP = {
@@ -171,32 +178,85 @@ static void run_recount(struct round *r) {
     static struct heard due;
     begin(r, &STOP, &new_, &due);
     uint64_t *entry = words_of(&r->lent, SHELF) + 2 * GAV_STATE_WORDS;
-    for (size_t i = 0; i < GAV_STATE_WORDS; i++) entry[i] = UINT64_MAX;
+    memset(entry, 0xFF, 8 * GAV_STATE_WORDS);
     same_count(r, &STOP, rerender(r, &new_, &due, words_of(&r->lent, SHELF)));
-    for (size_t i = 0; i < GAV_STATE_WORDS; i++) {
-        if (entry[i] != (i == 5 ? 0x2FFFF : UINT64_MAX)) differ(r, "word %zu of entry 2 is another", i);
-    }
+    same_entry(r, entry, 0x2FFFF);
 }
 
 /* Another bit in the one entry that would stop: then it does not, but for a bit of the records acted. */
 static void run_bit(struct round *r, size_t word, unsigned bit) {
-    static const struct stop STOP = {
-        "another bit", 4097, 4097, {{0, ON, 60, 100}}, {{0, ON, 60, 100}, {0, OFF, 61, 0}}};
+    const size_t n = 4097, count = word == 5 && bit >= 16 ? 4096 : 4097;
+    const struct stop stop = {"another bit", n, count, {{0, ON, 60, 100}}, {{0, ON, 60, 100}, {0, OFF, 61, 0}}};
     static struct score new_;
     static struct heard due;
-    begin(r, &STOP, &new_, &due);
+    begin(r, &stop, &new_, &due);
     snprintf(r->what, sizeof r->what, "another bit %u of word %zu", bit, word);
     words_of(&r->lent, SHELF)[GAV_STATE_WORDS + word] ^= UINT64_C(1) << bit;
-    size_t count = rerender(r, &new_, &due, words_of(&r->lent, SHELF));
-    same_count(r, &STOP, count + (word == 5 && bit >= 16));
+    same_count(r, &stop, rerender(r, &new_, &due, words_of(&r->lent, SHELF)));
+}
+
+static void run_bits(struct round *r) {
+    static const unsigned BITS[] = {0, 15, 16, 51, 63};
+    for (size_t i = 0; i < GAV_STATE_WORDS * COUNT_OF(BITS); i++)
+        run_bit(r, i / COUNT_OF(BITS), BITS[i % COUNT_OF(BITS)]);
 }
 
 void run_stops(struct round *r) {
-    static const unsigned BITS[] = {0, 15, 16, 51, 63};
     r->settings = (struct gav_settings)GAV_SETTINGS_DEFAULT;
     for (size_t i = 0; i < COUNT_OF(STOPS); i++) run_stop(r, STOPS + i);
     run_recount(r);
-    for (size_t i = 0; i < GAV_STATE_WORDS * COUNT_OF(BITS); i++)
-        run_bit(r, i / COUNT_OF(BITS), BITS[i % COUNT_OF(BITS)]);
+    run_bits(r);
     run_minus_zero(r);
+}
+
+/* The longest output, of the library alone: what it is lent, and the shelf that it must hold afterwards. */
+static struct longest {
+    double out[GAV_MOST_SAMPLES], magnitudes[MOST_SECTIONS];
+    uint64_t shelf[MOST_SECTIONS * GAV_STATE_WORDS], due[MOST_SECTIONS * GAV_STATE_WORDS], numbers[MOST_SECTIONS];
+} longest;
+
+/* Offs that find no key: one at 0, and one at the start of each section but the last. */
+static void write_longest(struct score *score) {
+    score->len = RECORD * MOST_RECORDS;
+    for (size_t i = 0; i < MOST_RECORDS; i++) {
+        const size_t section = i > 0 ? i - 1 : 0;
+        put_record(score->bytes + RECORD * i, (uint32_t)(section * GAV_SECTION), OFF, i > 0 ? 60 : 61, 0);
+    }
+}
+
+/* The entries from one on have so many records acted more than there are sections before them. */
+static void expect_longest(size_t from, uint64_t more) {
+    for (size_t k = from; k < MOST_SECTIONS; k++) {
+        uint64_t *keys = longest.due + k * GAV_STATE_WORDS + 5;
+        *keys = *keys % 65536 | (k + more) << 16;
+    }
+}
+
+static void rerender_longest(const struct round *r, const struct score *old, const struct score *new_) {
+    uint64_t said = gav_rerender_with(&r->settings, old->bytes, old->len, new_->bytes, new_->len, longest.out,
+                                      GAV_MOST_SAMPLES, longest.shelf, COUNT_OF(longest.shelf), longest.magnitudes,
+                                      MOST_SECTIONS, longest.numbers, MOST_SECTIONS);
+    if (said != says(0, 0, GAV_SECTION)) differ(r, "it answers %llx", (unsigned long long)said);
+    if (memcmp(longest.shelf, longest.due, sizeof longest.due) != 0) differ(r, "the shelf is another");
+}
+
+/* With the record at 0 and without it. */
+void run_longest(struct round *r) {
+    static struct score all, fewer;
+    snprintf(r->what, sizeof r->what, "a stop among 4,096 entries and 4,096 records");
+    r->settings = (struct gav_settings)GAV_SETTINGS_DEFAULT;
+    write_longest(&all);
+    fewer.len = all.len - RECORD;
+    memcpy(fewer.bytes, all.bytes + RECORD, fewer.len);
+    uint64_t said =
+        gav_render_with(&r->settings, fewer.bytes, fewer.len, longest.out, GAV_MOST_SAMPLES, longest.shelf,
+                        COUNT_OF(longest.shelf), longest.magnitudes, MOST_SECTIONS, longest.numbers, MOST_SECTIONS);
+    if (said != says(0, 0, GAV_MOST_SAMPLES)) differ(r, "the render answers %llx", (unsigned long long)said);
+    memcpy(longest.due, longest.shelf, sizeof longest.due);
+    expect_longest(0, 0);
+    if (memcmp(longest.shelf, longest.due, sizeof longest.due) != 0) differ(r, "the render's shelf is another");
+    expect_longest(1, 1);
+    rerender_longest(r, &fewer, &all);
+    expect_longest(1, 0);
+    rerender_longest(r, &all, &fewer);
 }

@@ -40,6 +40,7 @@ enum wrong {
     RERENDER_NAN_PEAKS,   /* those among the magnitudes behind the stop do */
     RERENDER_BEFORE,      /* the sample before the start is written */
     RERENDER_OLD_ENTRY,   /* an entry before the start is another */
+    RERENDER_LATE_ENTRY,  /* the last of 4,096 entries is not counted anew */
     RERENDER_START,       /* 8 is not given */
     RERENDER_NOTHING,     /* nothing is written, and the count is right */
     CONTINUE_GUARD,       /* a word past the part is written */
@@ -210,6 +211,7 @@ static uint64_t spoil_rerender(uint64_t answer, const struct lent_edit *edit, si
     if (wrong() == RERENDER_NAN_BEHIND) one_payload(out + stop, n - stop);
     if (wrong() == RERENDER_NAN_PEAKS) one_payload(edit->lent.magnitudes + sections, gav_sections(n) - sections);
     if (wrong() == RERENDER_BEFORE && from > 0) out[from - 1] = 0.25;
+    if (wrong() == RERENDER_LATE_ENTRY && n == GAV_MOST_SAMPLES) edit->shelf[edit->lent.words - 8] -= 1 << 16;
     if (wrong() == RERENDER_OLD_ENTRY && from > 0) edit->shelf[2] ^= 1;
     return wrong() == RERENDER_COUNT ? says(0, 0, n) : answer;
 }
@@ -231,7 +233,7 @@ uint64_t __wrap_gav_rerender(SETTINGS, const uint8_t *old, size_t old_len, const
     const enum summary how = wrong_summary(RERENDER_SUMMARIES, SUMMARIES);
     if (how == BEFORE_SETTINGS && !is_summary(lent)) return 7;
     if (wrong() == RERENDER_NOTHING) return rerender_aside(GIVEN, &edit);
-    if (is_stop_wrong()) return wrong_rerender(wrong_stop(), &edit, rerender_aside(GIVEN, &edit));
+    if (is_stop_wrong() && n <= LONGEST) return wrong_rerender(wrong_stop(), &edit, rerender_aside(GIVEN, &edit));
     keep_summary(lent);
     joined = taken_keying(joined, RERENDER_ALL_STRUCK);
     code = taken_code(code, duty, RERENDER_CODES);
