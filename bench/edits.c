@@ -111,27 +111,42 @@ static void measure_edit(struct bench *b, const char *where, struct score edited
            times, most, goal(b, times, most));
 }
 
-/* At a position all keys are lifted by a reset, and fourteen, below those of every range, go down and stay down: the
- * other resets are releases of a key that is up. */
+/* The resets are releases of a key that is up. */
+static void lift_no_keys(struct score *score) {
+    for (uint8_t *r = score->bytes; r < score->bytes + score->len; r += RECORD) {
+        if (r[6] == RESET) put_record(r, record_position(r), OFF, CHORD, 0);
+    }
+}
+
+/* All keys are lifted by a reset, and fourteen, below those of every range, go down. */
+static void put_chord(uint8_t *at, uint32_t position) {
+    put_record(at, position, RESET, 0, 0);
+    for (uint8_t i = 1; i < CHORD; i++) put_record(at + i * RECORD, position, ON, i, 100);
+}
+
+/* The chord at a position, whose keys stay down. */
 static struct score with_chord(const struct score *tune, uint32_t position) {
     struct score held = copy_score(tune, CHORD * RECORD);
     size_t at = 0;
     while (at < tune->len && record_position(tune->bytes + at) < position) at += RECORD;
     memcpy(held.bytes + at + CHORD * RECORD, tune->bytes + at, tune->len - at);
-    for (uint8_t *r = held.bytes; r < held.bytes + held.len; r += RECORD) {
-        if (r[6] == RESET) put_record(r, record_position(r), OFF, CHORD, 0);
-    }
-    put_record(held.bytes + at, position, RESET, 0, 0);
-    for (uint8_t i = 1; i < CHORD; i++) put_record(held.bytes + at + i * RECORD, position, ON, i, 100);
+    lift_no_keys(&held);
+    put_chord(held.bytes + at, position);
     return held;
 }
 
-/* The thirteenth of those keys gets another velocity, which is never heard: every later entry differs in its word 11
- * alone. Beside it, the same edit with one at the end, before which nothing is compared. */
+/* The thirteenth of those keys gets another velocity, which is never heard. */
+static struct score with_thirteenth(const struct score *score) {
+    struct score other = copy_score(score, 0);
+    for (uint8_t *r = other.bytes; r < other.bytes + other.len; r += RECORD) r[8] ^= r[7] == 13 && r[6] == ON;
+    return other;
+}
+
+/* That edit, after which every later entry differs in its word 11 alone. Beside it, the same edit with one at the end,
+ * before which nothing is compared. */
 static void measure_comparison(struct bench *b, const char *name) {
     double plain[MOST_REPETITIONS], compared[MOST_REPETITIONS], ratio[MOST_REPETITIONS];
-    struct score other = copy_score(&b->score, 0);
-    for (uint8_t *r = other.bytes; r < other.bytes + other.len; r += RECORD) r[8] ^= r[7] == 13 && r[6] == ON;
+    struct score other = with_thirteenth(&b->score);
     struct score both = with_end(b, &other);
     struct stretch made = compare_edit(b, name, &other);
     compare_edit(b, name, &both);
@@ -163,9 +178,7 @@ static void measure_range(struct bench *b, const char *name) {
     free(middle.bytes);
 }
 
-void measure_edits(struct bench *b) {
-    const struct score score = b->score;
-    b->settings.code = GAV_SAWTOOTH;
+static void measure_ranges(struct bench *b) {
     puts("\nre-renders, sawtooth; owed: the same samples by one continuing call, their entries and peaks (what a "
          "render\n"
          "takes beyond that call), two checks and the comparison (as a re-render of two equal scores). The ratio is at "
@@ -176,6 +189,9 @@ void measure_edits(struct bench *b) {
         measure_range(b, RANGES[i].name);
         free(b->score.bytes);
     }
+}
+
+static void measure_comparisons(struct bench *b) {
     puts("re-renders that go on to the end; compared: with every entry, of which a word differs");
     printf("%-24s %9s %18s %18s %15s\n", "", "samples", "us, none compared", "us, all compared", "ratio, <= 1.010");
     for (size_t i = 0; i < sizeof RANGES / sizeof *RANGES; i++) {
@@ -187,5 +203,12 @@ void measure_edits(struct bench *b) {
         free(tune.bytes);
         free(b->score.bytes);
     }
+}
+
+void measure_edits(struct bench *b) {
+    const struct score score = b->score;
+    b->settings.code = GAV_SAWTOOTH;
+    measure_ranges(b);
+    measure_comparisons(b);
     b->score = score;
 }

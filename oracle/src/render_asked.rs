@@ -3,6 +3,7 @@
 use crate::render::{untouched, Lfo, Played, Player, Record, Settings, Words, KIND_RESET, SECTION, STATE_WORDS};
 use crate::rows::says;
 use crate::waveform_rows::{wave_words, Wave, PULSE, SAWTOOTH, SINE, SQUARE, TRIANGLE, UNWRITTEN};
+use std::ops::Range;
 
 pub const RENDER: u64 = 0;
 pub const CONTINUE: u64 = 1;
@@ -177,20 +178,8 @@ impl Asked {
         let from = start_of(&self.old, &self.score, self.samples).unwrap_or(self.samples);
         let stop = self.stop(from, &played.shelf);
         let (samples, shelf) = self.left.split_at(self.samples as usize);
-        for (at, sample) in played.samples.iter_mut().enumerate() {
-            if !(from..stop).contains(&(at as u64)) {
-                *sample = samples[at];
-            }
-        }
-        for (at, word) in played.shelf.iter_mut().enumerate() {
-            let (mark, came) = ((at / STATE_WORDS) as u64 * SECTION, shelf[at]);
-            assert!(mark != from || *word == came, "an entry parts ways");
-            if stop <= mark && at % STATE_WORDS == 5 {
-                *word = *word >> 16 << 16 | came % 65536;
-            } else if !(from..stop).contains(&mark) {
-                *word = came;
-            }
-        }
+        keep_samples(&mut played.samples, samples, &(from..stop));
+        keep_entries(&mut played.shelf, shelf, &(from..stop));
         stop - from
     }
 
@@ -241,6 +230,28 @@ impl Asked {
         words.extend(played.samples);
         words.extend(played.shelf.into_iter().take(self.shelf as usize));
         words
+    }
+}
+
+/// The samples outside those that a re-render makes, as they came.
+fn keep_samples(samples: &mut [u64], came: &[u64], made: &Range<u64>) {
+    for (at, sample) in samples.iter_mut().enumerate() {
+        if !made.contains(&(at as u64)) {
+            *sample = came[at];
+        }
+    }
+}
+
+/// The entries outside, as they came, but for the records acted of those from the stop on.
+fn keep_entries(shelf: &mut [u64], came: &[u64], made: &Range<u64>) {
+    for (at, word) in shelf.iter_mut().enumerate() {
+        let (mark, came) = ((at / STATE_WORDS) as u64 * SECTION, came[at]);
+        assert!(mark != made.start || *word == came, "an entry parts ways");
+        if made.end <= mark && at % STATE_WORDS == 5 {
+            *word = *word >> 16 << 16 | came % 65536;
+        } else if !made.contains(&mark) {
+            *word = came;
+        }
     }
 }
 

@@ -19,11 +19,16 @@ static void soften(double *from, size_t samples) {
     for (size_t i = 0; i < samples; i++) from[i] *= 0.99;
 }
 
+static uint64_t *copy_of(const uint64_t *shelf, size_t words) {
+    uint64_t *copy = malloc((words + 1) * sizeof *copy);
+    if (!copy) abort();
+    if (words > 0) memcpy(copy, shelf, words * sizeof *copy);
+    return copy;
+}
+
 uint64_t __wrap_gav_rerender(SETTINGS, SCORES, SOUND) {
     const char *wrong = getenv("WRONG");
-    uint64_t *kept = malloc((words + 1) * sizeof *kept);
-    if (!kept) abort();
-    for (size_t i = 0; i < words; i++) kept[i] = shelf[i];
+    uint64_t *kept = copy_of(shelf, words);
     uint64_t said = __real_gav_rerender(GIVEN, before, before_len, after, after_len, out, n, shelf, words, PEAKS);
     size_t count = gav_count(said), from = count ? start_of_edit(before, before_len, after, after_len) : n,
            stop = from + count;

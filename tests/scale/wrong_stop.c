@@ -144,14 +144,23 @@ static void count_all(const struct lent_edit *e, size_t sections) {
     for (size_t k = 0; k < sections; k++) e->shelf[entry_of(k) + 5] = counted(STOPS_RIGHT, e, k, 0);
 }
 
+static void put_sections(enum stopping how, const struct lent_edit *e, size_t start, size_t stop) {
+    const bool is_early = stop < gav_sections(e->lent.n);
+    for (size_t k = start; k < stop; k++) put_section(how, e, k, k + 1 == stop && is_early);
+}
+
+static void leave_sections(enum stopping how, const struct lent_edit *e, size_t stop, size_t sections) {
+    for (size_t k = stop; k < sections; k++) leave_section(how, e, k, stop);
+}
+
 uint64_t wrong_rerender(enum stopping how, const struct lent_edit *e, uint64_t answer) {
     const size_t sections = gav_sections(e->lent.n), from = first_written(e, answer), start = from / GAV_SECTION;
     if (gav_number(answer) == 0 && gav_count(answer) == 0 && how == NOTHING_COUNTED) count_all(e, sections);
     if (gav_count(answer) == 0) return answer;
     hear(e, start);
     const size_t stop = stop_of(how, e, start, sections), to = end_of(e, stop - 1);
-    for (size_t k = start; k < stop; k++) put_section(how, e, k, k + 1 == stop && stop < sections);
-    for (size_t k = stop; k < sections; k++) leave_section(how, e, k, stop);
+    put_sections(how, e, start, stop);
+    leave_sections(how, e, stop, sections);
     if (how == EARLIER_COUNTED) count_all(e, start);
     return says(0, 0, how == COUNT_TO_END ? e->lent.n - from : how == COUNT_FROM_START ? to : to - from);
 }
