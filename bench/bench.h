@@ -40,8 +40,8 @@ struct score make_score(uint64_t seed, struct keys keys, size_t records, size_t 
 struct score copy_score(const struct score *score, size_t more);
 
 /* stretch.c: the samples that a re-render from one score to another makes, from which to before which, by 02's words
- * and the plain C's renders of both; both are n where it makes none. The reference is then the plain C's of the new
- * score. */
+ * and the plain C's renders of both; both are n where it makes none. bench->reference and the plain shelf hold the
+ * render of the new score afterwards. */
 struct stretch {
     size_t from, to;
 };

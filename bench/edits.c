@@ -5,8 +5,8 @@
 #include <stdio.h>
 #include <stdlib.h>
 
-/* What is the most: times what is owed; times the same without a comparison; microseconds for counting the records of
- * 4,096 entries anew. */
+/* What is the most: times what is owed; times the same of the same library without a comparison, which says nothing of
+ * an earlier library; microseconds for counting the records of 4,096 entries anew. */
 #define OF_OWED 1.05
 #define OF_NOT_COMPARED 1.01
 #define US_OF_COUNTS 20.0
@@ -192,7 +192,8 @@ static void measure_ranges(struct bench *b) {
 }
 
 static void measure_comparisons(struct bench *b) {
-    puts("re-renders that go on to the end; compared: with every entry, of which a word differs");
+    puts("what comparing costs within this library: re-renders that go on to the end, with no entry compared and with\n"
+         "all, of which a word differs. How long they take beside an earlier library is measured apart");
     printf("%-24s %9s %18s %18s %15s\n", "", "samples", "us, none compared", "us, all compared", "ratio, <= 1.010");
     for (size_t i = 0; i < sizeof RANGES / sizeof *RANGES; i++) {
         size_t records = b->records + CHORD < MOST_RECORDS ? b->records : MOST_RECORDS - 1 - CHORD;
