@@ -1,8 +1,9 @@
 /* A call that fails, or in which a signal comes, for LD_PRELOAD. FAIL_CALL names the call (write, fsync, close, rename,
-   copy, which is copy_file_range, or lock, the fcntl that locks a file), FAIL_AT which one of them in the program's
-   run, counted from 1. FAIL_ERRNO is the error, 0 for a call that does nothing and answers 0. A write or a copy that is
-   to fail with FAIL_SHORT set first does half of what it is given, as a disk does that fills up. Where FAIL_SIGNAL is
-   set, the call does not fail: the program is sent that signal just before it. Standard streams are let alone. */
+   copy, which is copy_file_range, pread, or lock, the fcntl that locks a file), FAIL_AT which one of them in the
+   program's run, counted from 1. FAIL_ERRNO is the error, 0 for a call that does nothing and answers 0. A write or a
+   copy that is to fail with FAIL_SHORT set first does half of what it is given, as a disk does that fills up. Where
+   FAIL_SIGNAL is set, the call does not fail: the program is sent that signal just before it. Standard streams are let
+   alone. */
 #define _GNU_SOURCE
 #include <dlfcn.h>
 #include <errno.h>
@@ -41,6 +42,11 @@ ssize_t copy_file_range(int from, off_t *at, int to, off_t *place, size_t len, u
     int first = calls == atoi(getenv("FAIL_AT"));
     if (getenv("FAIL_SHORT") && first && len > 1) return real(from, at, to, place, len / 2, flags);
     return errno ? -1 : 0;
+}
+
+ssize_t pread(int fd, void *to, size_t len, off_t at) {
+    ssize_t (*real)(int, void *, size_t, off_t) = (ssize_t(*)(int, void *, size_t, off_t))dlsym(RTLD_NEXT, "pread");
+    return fails("pread") ? (errno ? -1 : 0) : real(fd, to, len, at);
 }
 
 int fsync(int fd) {
