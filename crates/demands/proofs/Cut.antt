@@ -5,12 +5,12 @@ use mathlib.Core.List.{List, _++_}
 use Prim.Native.Nat.{ℕ, _+_, _-_, _*_, _≤_, _<_}
 use native.Mathlib.Omega.{arith}
 use lib.ListN.{length, take, drop, take-append-drop, drop-of-length-le}
-use lib.Seq.{take-at, drop-at, take-add, take-take, drop-drop, take-append-le, drop-append-le, length-take-le, length-front}
+use lib.Seq.{take-at, drop-at, take-add, take-take, take-append-le, drop-append-le, length-take-le, length-front}
 use lib.Ieee.{Float}
 use Rattle.shelf.specs.Shelf.{sectionSize, entryWords, entriesFor, wordsFor}
 use Rattle.judging.specs.Judging.{mostSamples}
 use Rattle.sections.specs.Outcome.{Buffers, lends, samplesIn, Lent, before, onward}
-use Rattle.sections.proofs.Room.{same-buffers}
+use Rattle.sections.proofs.Room.{same-buffers, later-drop}
 use Rattle.sections.proofs.Between.{in-parts}
 
 module _ {A : Type 0} where
@@ -51,12 +51,6 @@ module _ {A : Type 0} where
     where
       parts : (zs : List A) → drop k zs ≡ drop k (take j zs) ++ drop j zs
       parts zs = let d : k + (j - k) ≡ j = omega arith in rw d at (in-parts k (j - k) zs)
-
-  -- lists that are the same from index k on are the same from any later index on
-  pub later : (k j : ℕ) (xs zs : List A) → k ≤ j → drop k xs ≡ drop k zs → drop j xs ≡ drop j zs
-  later k j xs zs h e =
-      let d : j ≡ k + (j - k) = omega arith in
-      ap (λ (i : ℕ). drop i xs) d ∙ sym (drop-drop (j - k) k xs) ∙ ap (drop (j - k)) e ∙ drop-drop (j - k) k zs ∙ ap (λ (i : ℕ). drop i zs) (sym d)
 
 -- buffers of the same parts
 pub same-lends : {xs ys : List Float} {us vs : List ℕ} {ms ns : List Float} {is js : List ℕ} → xs ≡ ys → us ≡ vs → ms ≡ ns → is ≡ js → lends xs us ms is ≡ lends ys vs ns js
@@ -155,10 +149,10 @@ module _ (n m : ℕ) (there : m < entriesFor n) (b c : Buffers) (x : Sized n b) 
 pub cut-later : (k m : ℕ) (b z : Buffers) → k ≤ m → onward k b ≡ onward k z → onward m b ≡ onward m z
 cut-later k m b z h e =
     same-lends
-    (later (k * sectionSize) (m * sectionSize) (b .heard) (z .heard) (omega arith) (ap (λ (d : Buffers). d .heard) e))
-    (later (k * entryWords) (m * entryWords) (b .stored) (z .stored) (omega arith) (ap (λ (d : Buffers). d .stored) e))
-    (later k m (b .summary .magnitudes) (z .summary .magnitudes) h (ap (λ (d : Buffers). d .summary .magnitudes) e))
-    (later k m (b .summary .numbers) (z .summary .numbers) h (ap (λ (d : Buffers). d .summary .numbers) e))
+    (later-drop (k * sectionSize) (m * sectionSize) (b .heard) (z .heard) (omega arith) (ap (λ (d : Buffers). d .heard) e))
+    (later-drop (k * entryWords) (m * entryWords) (b .stored) (z .stored) (omega arith) (ap (λ (d : Buffers). d .stored) e))
+    (later-drop k m (b .summary .magnitudes) (z .summary .magnitudes) h (ap (λ (d : Buffers). d .summary .magnitudes) e))
+    (later-drop k m (b .summary .numbers) (z .summary .numbers) h (ap (λ (d : Buffers). d .summary .numbers) e))
 
 -- what lies from section m up to section k and what lies from section k on are all from section m on
 pub cut-onward : (m k : ℕ) (b c : Buffers) → m ≤ k → onward m (before k b) ≡ onward m (before k c) → onward k b ≡ onward k c → onward m b ≡ onward m c

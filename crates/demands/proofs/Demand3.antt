@@ -14,7 +14,7 @@ use lib.Seq.{length-take-le}
 use Rattle.peaks.specs.declared.Peak.{Peak}
 use Rattle.sections.specs.Outcome.{Summary, Buffers, samplesIn, roomIn, Lent, before, onward, Outcome, leaves}
 use Rattle.sections.specs.Summary.{largest, firstNumber, saidFrom}
-use Rattle.sections.proofs.Room.{room-in, same-buffers}
+use Rattle.sections.proofs.Room.{room-in, same-buffers, later-drop}
 use Rattle.sections.proofs.Summed.{said-alike, said-part}
 use Rattle.answers.specs.declared.Answer.{Answer}
 use Rattle.answers.specs.declared.Answer.the-variants.{Done, Refused}
@@ -40,7 +40,7 @@ use Rattle.judging.proofs.Refusals.{none-refused, none-newly}
 use Rattle.demands.specs.Demand3.{Taken, Edit, BuffersOf, leftIn, atSection, FromSection, Recounted, StopsAt, StopsOver, RemadeTo, Remade, EntriesRemade, StartRemade, MadeToTheEnd, Demand3}
 use Rattle.demands.proofs.First.{first-change, differ}
 use Rattle.demands.proofs.Honest.{honest}
-use Rattle.demands.proofs.Cut.{later, rejoin, Sized, lent-sized, sized-lent, overAt, same-lends, cut-none, cut-front, cut-rest, cut-onward, cut-whole}
+use Rattle.demands.proofs.Cut.{rejoin, Sized, lent-sized, sized-lent, overAt, same-lends, cut-none, cut-front, cut-rest, cut-onward, cut-whole}
 use Rattle.demands.proofs.Whole.{soundOf, shelvedOf, wholeOf, whole-sized, left-is, entry-left, shelf-after, said-from, between-is}
 use Rattle.demands.proofs.Stops.{stop-is, stops-over, stops-first, stops-at, one-stop, sound-same, entries-renewed}
 use Rattle.rerender.specs.declared.Plan.the-variants.{Nothing}
@@ -239,7 +239,7 @@ module _ (g : Settings) (old new : List ℕ) (x : Edit g old new) (p : ℕ) (dif
       stored-after : drop (k honestly * entryWords) (left honestly .stored) ≡ drop (k honestly * entryWords) (shelvedOf g new n)
       stored-after =
           left-stored-after g old new m b there (room-in b z)
-          ∙ ap (recounted new (k honestly) (entriesFor n - k honestly)) (later (m * entryWords) (k honestly * entryWords) shelf (shelvedOf g old n) (omega (arith, stop-at .past)) same ∙ shelf-after g old (entriesFor n) (k honestly) (stop-at .within))
+          ∙ ap (recounted new (k honestly) (entriesFor n - k honestly)) (later-drop (m * entryWords) (k honestly * entryWords) shelf (shelvedOf g old n) (omega (arith, stop-at .past)) same ∙ shelf-after g old (entriesFor n) (k honestly) (stop-at .within))
           ∙ entries-renewed g old new x n (k honestly) (stop-at .within) (stop-at .settled) ∙ sym (shelf-after g new (entriesFor n) (k honestly) (stop-at .within))
 
       pub stored-is : onward m (left honestly) .stored ≡ onward m (wholeOf g new n) .stored
@@ -251,13 +251,13 @@ module _ (g : Settings) (old new : List ℕ) (x : Edit g old new) (p : ℕ) (dif
       pub heard-is : onward m b .heard ≡ onward m (wholeOf g old n) .heard → onward m (left honestly) .heard ≡ onward m (wholeOf g new n) .heard
       heard-is h =
           rejoin (m * sectionSize) (k honestly * sectionSize) (left honestly .heard) (soundOf g new n) (omega (arith, stop-at .past)) (heard-alike honestly)
-          (left-heard-after g old new m b there (room-in b z) ∙ later (m * sectionSize) (k honestly * sectionSize) (b .heard) (soundOf g old n) (omega (arith, stop-at .past)) h ∙ tail-same)
+          (left-heard-after g old new m b there (room-in b z) ∙ later-drop (m * sectionSize) (k honestly * sectionSize) (b .heard) (soundOf g old n) (omega (arith, stop-at .past)) h ∙ tail-same)
 
       -- what was said of the old render's sections from the stop on is what is said of the new one's
       said-tail : {A : Type 0} (f : ℕ → Peak → A) (came : List A) → drop m came ≡ drop m (saidFrom f (soundOf g old n) 0 (entriesFor (length (soundOf g old n))))
           → drop (k honestly) came ≡ drop (k honestly) (saidFrom f (soundOf g new n) 0 (entriesFor (length (soundOf g new n))))
       said-tail f came h =
-          later m (k honestly) came _ (omega (arith, stop-at .past)) h ∙ said-from g old f n (k honestly) (stop-at .within)
+          later-drop m (k honestly) came _ (omega (arith, stop-at .past)) h ∙ said-from g old f n (k honestly) (stop-at .within)
           ∙ said-alike f (soundOf g old n) (soundOf g new n) (k honestly) (entriesFor n - k honestly) tail-same ∙ sym (said-from g new f n (k honestly) (stop-at .within))
 
       pub summary-is : onward m b .summary ≡ onward m (wholeOf g old n) .summary → onward m (left honestly) .summary ≡ onward m (wholeOf g new n) .summary
@@ -351,7 +351,7 @@ never-8-after g old new next x t b z p e heard r same q f early l =
     let long : samplesIn c ≡ n = left-long g old new m b (start-there n p heard) (room-in b z) in
     let y : Edit g new next = record { settings = x .settings; sustain-fits = x .sustain-fits; old-taken = x .new-taken; new-taken = t } in
     let stored : drop (q / sectionSize * entryWords) (c .stored) ≡ drop (q / sectionSize * entryWords) (shelvedOf g new (samplesIn c)) =
-    later (m * entryWords) (q / sectionSize * entryWords) (c .stored) (shelvedOf g new n) (omega (arith, l)) (stored-is g old new x p e b z heard words)
+    later-drop (m * entryWords) (q / sectionSize * entryWords) (c .stored) (shelvedOf g new n) (omega (arith, l)) (stored-is g old new x p e b z heard words)
     ∙ ap (λ (i : ℕ). drop (q / sectionSize * entryWords) (shelvedOf g new i)) (sym long) in
     rw is (entries-remade g new next y q f c (left-lent g old new x p e b z heard begins) (omega (arith, long, early)) stored .to-the-stop .never-8)
 
