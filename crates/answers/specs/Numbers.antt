@@ -1,5 +1,8 @@
 -- The number, the place and the count of each answer. 01, "What a call says": the table of numbers; "the new score
--- (same numbers plus 16)"; "Place is the record's index, else 0"; "A refusal returns number, place, count 0".
+-- (same numbers plus 16)"; "Place is the record's index, else 0"; "A refusal returns number, place, count 0". 02, R-6:
+-- "36 when the list is no multiple of 14 bytes or the lent buffer is not 40,960 bytes; per edit in list order, with its
+-- index as place, 33 bad mark, code or filler, the record's own 2, 3, 4 plus 48, 34 when nothing equal is there at a
+-- remove, 35 when 4,096 are held at an insert".
 --
 -- Every contract of a call that can refuse speaks of an `Answer`, and only this file gives the cases of `Answer` their
 -- numbers. A later request adds a number as a case of `Refusal`, with a row in each definition here. Definitions only.
@@ -7,7 +10,7 @@ use Prim.Native.Nat.{ℕ, _+_}
 use Rattle.answers.specs.declared.Answer.{Answer}
 use Rattle.answers.specs.declared.Answer.the-variants.{Done, Refused}
 use Rattle.answers.specs.declared.Refusal.{Refusal}
-use Rattle.answers.specs.declared.Refusal.the-variants.{Score, NewScore, Setting, Size, StartEntry, Argument, GivenState}
+use Rattle.answers.specs.declared.Refusal.the-variants.{Score, NewScore, Setting, Size, StartEntry, Argument, GivenState, EditFrame, NotThere, Full, Page, Edit}
 use Rattle.answers.specs.declared.ScoreFault.{ScoreFault}
 use Rattle.answers.specs.declared.ScoreFault.the-variants.{Length, Mark, Kind, Field, Order}
 use Rattle.answers.specs.declared.Numbers.{Numbers}
@@ -28,7 +31,7 @@ faultPlace (Kind i) = i
 faultPlace (Field i) = i
 faultPlace (Order i) = i
 
--- the old or only score has the numbers of its fault, the new score these numbers plus 16
+-- the old or only score has the numbers of its fault, the new score these numbers plus 16, the record of an edit plus 48
 abbrev pub refusalNumber : Refusal → ℕ
 refusalNumber (Score fault) = faultNumber fault
 refusalNumber (NewScore fault) = faultNumber fault + 16
@@ -37,7 +40,13 @@ refusalNumber Size = 7
 refusalNumber StartEntry = 8
 refusalNumber Argument = 9
 refusalNumber GivenState = 10
+refusalNumber (EditFrame i) = 33
+refusalNumber (NotThere i) = 34
+refusalNumber (Full i) = 35
+refusalNumber Page = 36
+refusalNumber (Edit fault) = faultNumber fault + 48
 
+-- of a page of edits, the index of the edit; the fault of an edit's record carries it
 abbrev pub refusalPlace : Refusal → ℕ
 refusalPlace (Score fault) = faultPlace fault
 refusalPlace (NewScore fault) = faultPlace fault
@@ -46,6 +55,11 @@ refusalPlace Size = 0
 refusalPlace StartEntry = 0
 refusalPlace Argument = 0
 refusalPlace GivenState = 0
+refusalPlace (EditFrame i) = i
+refusalPlace (NotThere i) = i
+refusalPlace (Full i) = i
+refusalPlace Page = 0
+refusalPlace (Edit fault) = faultPlace fault
 
 -- a refusal writes no sample
 abbrev pub refusalCount : Refusal → ℕ

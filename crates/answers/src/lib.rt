@@ -16,7 +16,8 @@ pub enum ScoreFault {
     Order(usize),
 }
 
-// Why a call was refused: a score (numbers 1 to 5), a re-render's new score (17 to 21), or a number from 6 to 10.
+// Why a call was refused: a score (numbers 1 to 5), a re-render's new score (17 to 21), a number from 6 to 10, or a page
+// of edits (33 to 36, and 50 to 52 for the record of an edit), where the case carries the index of the edit.
 pub enum Refusal {
     Score(ScoreFault),
     NewScore(ScoreFault),
@@ -25,6 +26,11 @@ pub enum Refusal {
     StartEntry,
     Argument,
     GivenState,
+    EditFrame(usize),
+    NotThere(usize),
+    Full(usize),
+    Page,
+    Edit(ScoreFault),
 }
 
 // Done, with the number of samples written, or refused.
@@ -90,6 +96,11 @@ fn refusal_number(refusal: Refusal) -> u8
         Refusal::StartEntry => 8,
         Refusal::Argument => 9,
         Refusal::GivenState => 10,
+        Refusal::EditFrame(_) => 33,
+        Refusal::NotThere(_) => 34,
+        Refusal::Full(_) => 35,
+        Refusal::Page => 36,
+        Refusal::Edit(fault) => fault_number(fault) + 48,
     }
 }
 
@@ -104,6 +115,11 @@ fn refusal_place(refusal: Refusal) -> usize
         Refusal::StartEntry => 0,
         Refusal::Argument => 0,
         Refusal::GivenState => 0,
+        Refusal::EditFrame(edit) => edit,
+        Refusal::NotThere(edit) => edit,
+        Refusal::Full(edit) => edit,
+        Refusal::Page => 0,
+        Refusal::Edit(fault) => fault_place(fault),
     }
 }
 
