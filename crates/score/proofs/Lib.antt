@@ -19,6 +19,8 @@ pub mod Agree
 pub mod Reached
 -- two scores have the same records from a position on exactly above their last difference: where a re-render may stop
 pub mod Ends
+-- a record sought by its ten bytes
+pub mod Sought
 -- the tests that read several bytes as one number
 pub mod Words
 -- one turn of each loop

@@ -10,7 +10,7 @@ use Rattle.score.specs.declared.Difference.{Difference}
 use Rattle.score.specs.Record.{countOf, positionAt, recordAt, encodeOf}
 use Rattle.score.specs.Score.{verdictOf, answerOf}
 use Rattle.score.specs.Below.{isCountBelow, nextNotBelow}
-use Rattle.score.specs.Apart.{differenceOf, lastDifferenceOf}
+use Rattle.score.specs.Apart.{differenceOf, lastDifferenceOf, firstEqual}
 
 pub check-unique : (s : List ℕ) (a b : Answer) → a ≡ answerOf s → b ≡ answerOf s → a ≡ b
 check-unique s a b p q = p ∙ sym q
@@ -41,3 +41,6 @@ last-difference-unique s t a b p q = p ∙ sym q
 
 pub next-not-below-unique : (s : List ℕ) (i p a b : ℕ) → a ≡ nextNotBelow s i p → b ≡ nextNotBelow s i p → a ≡ b
 next-not-below-unique s i p a b e f = e ∙ sym f
+
+pub first-equal-unique : (s r : List ℕ) (a b : ℕ) → a ≡ firstEqual s r → b ≡ firstEqual s r → a ≡ b
+first-equal-unique s r a b p q = p ∙ sym q

@@ -1,6 +1,6 @@
 -- Where two scores part, and from where on they are the same. 01, "The shelf": "P is the lower position of the two at
 -- the first index where they differ, or of the one that remains where the other has ended." 02, R-12: "the two scores'
--- records from that position on are the same".
+-- records from that position on are the same". 02, R-6: "remove takes the first equal record".
 -- Two records are the same if all their ten bytes are; so a different velocity of an off is a difference.
 -- Wider than 01: defined for any two lists of bytes, over their whole records; `recordsFrom` also keeps the 1 to 9
 -- bytes after the last whole record, which an accepted score does not have. Definitions only.
@@ -8,7 +8,7 @@ use mathlib.Core.Bool.{Bool, true, false, not, cond}
 use mathlib.Core.List.{List}
 use Prim.Native.Nat.{ℕ, zero, suc, _-_, _*_, min, max}
 use lib.Dec.{ltb, eqb}
-use lib.ListN.{drop}
+use lib.ListN.{take, drop}
 use Rattle.runs.specs.Runs.{firstPassing}
 use Rattle.words.specs.Words.{same}
 use Rattle.score.specs.Record.{countOf, byteAt, positionAt}
@@ -73,3 +73,12 @@ recordsFrom s q = drop (countBelow s q * 10) s
 -- whether two accepted scores have the same records from position q on
 unfoldable pub sameFrom : List ℕ → List ℕ → ℕ → Bool
 sameFrom s t q = same (recordsFrom s q) (recordsFrom t q)
+
+-- ---- one record sought in a score
+-- the ten bytes of record i
+abbrev pub bytesAt : List ℕ → ℕ → List ℕ
+bytesAt s i = take 10 (drop (i * 10) s)
+
+-- the index of the first record whose ten bytes are r, or the number of records where there is none
+unfoldable pub firstEqual : List ℕ → List ℕ → ℕ
+firstEqual s r = firstPassing (λ (i : ℕ). same (bytesAt s i) r) (countOf s) 0

@@ -9,7 +9,7 @@ ghost use Rattle.score.specs.Record.{byteAt, wordAt, positionAt, kindOf,
 ghost use Rattle.score.specs.Inner.{markAt, bodyAt};
 ghost use Rattle.score.specs.Score.{fieldLimit, markRight, kindRight, fieldsRight, allRight, inOrder, faultsAt, verdictOf, answerOf};
 ghost use Rattle.score.specs.Below.{lastBelow, isCountBelow, nextNotBelow};
-ghost use Rattle.score.specs.Apart.{sameRecord, firstIndex, differenceOf, fromEnd, sameEnd, lastDifferenceOf};
+ghost use Rattle.score.specs.Apart.{sameRecord, firstIndex, differenceOf, fromEnd, sameEnd, lastDifferenceOf, firstEqual};
 use answers::Answer;
 use answers::Refusal;
 use answers::ScoreFault;
@@ -219,6 +219,25 @@ pub fn last_difference(old: &[u8], new: &[u8]) -> Difference
         return Difference::At(y);
     }
     Difference::Equal
+}
+
+// The index of the first record with these ten bytes, or the number of records where none has them; so also where they
+// are not ten.
+pub fn first_equal(score: &[u8], bytes: &[u8]) -> usize
+    ensures { λ r. ⌜ r ≡ firstEqual (now (score .entry)) (now (bytes .entry)) ⌝ }
+{
+    let n = count(score);
+    if bytes.len() != RECORD_SIZE {
+        return n;
+    }
+    let mut i = 0;
+    while i < n {
+        if same_record(score, i, bytes, 0) {
+            return i;
+        }
+        i += 1;
+    }
+    i
 }
 
 // The position of the record that k records follow, or of record 0 where there is none.
