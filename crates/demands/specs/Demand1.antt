@@ -1,28 +1,30 @@
--- Demand 1 for a score's check, render, continuing call and re-render: each number exactly when its row holds and no
--- earlier row does, and a refusal leaves all as it came.
+-- Demand 1 for a score's check, render, continuing call, re-render and page of edits: each number exactly when its row
+-- holds and no earlier row does, and a refusal leaves all as it came.
 -- 01, "What a call says": the table "No. | Given exactly when"; "Order: 6, 7, the old or only score, the new score
 -- (same numbers plus 16), then 8 or 10 .. In a score 1 first, then each record 2, 3, 4, 5. Place is the record's
 -- index"; "A refusal .. hands back state by value as it came, and writes nowhere". 02, R-3: "7 also when the summary
--- has not one entry a section".
+-- has not one entry a section". 02, R-6: the order of a page's refusals, which specs/Page.antt of `page` quotes.
 -- For each call a table says when each of its refusals is given; a refusal that the call never gives has the condition
 -- ⊥. Definitions only.
 use mathlib.Core.Path.{_≡_}
 use mathlib.Core.Bool.{Bool, true, false, _&&_}
-use mathlib.Core.List.{List}
+use mathlib.Core.List.{List, []}
 use Prim.Native.Nat.{ℕ, _%_, _<_}
 use lib.Dec.{leb, eqb}
 use lib.ListN.{length}
 use lib.Ieee.{Float}
 use Rattle.answers.specs.declared.Answer.the-variants.{Done, Refused}
 use Rattle.answers.specs.declared.Refusal.{Refusal}
-use Rattle.answers.specs.declared.Refusal.the-variants.{Score, NewScore, Setting, Size, StartEntry, Argument, GivenState}
+use Rattle.answers.specs.declared.Refusal.the-variants.{Score, NewScore, Setting, Size, StartEntry, Argument, GivenState, EditFrame, NotThere, Full, Page, Edit}
 use Rattle.answers.specs.declared.ScoreFault.{ScoreFault}
 use Rattle.answers.specs.declared.ScoreFault.the-variants.{Length, Mark, Kind, Field, Order}
 use Rattle.judging.specs.Judging.{Passed, partFits}
+use Rattle.page.specs.Page.{editsIn, frameRight, isInsert, recordOf, scoreAfter, newScoreOf, editRefusals, pageFits, rewrites, paged, editOf}
 use Rattle.render.specs.Calls.{says, renderOf, leavesPart, isGiven, continueOf}
 use Rattle.rerender.specs.declared.Plan.the-variants.{From}
 use Rattle.rerender.specs.Rerender.{planOf, isStart, countFor, rerenderOf}
 use Rattle.score.specs.declared.Verdict.the-variants.{Accepted, Faulty}
+use Rattle.score.specs.Apart.{bytesAt}
 use Rattle.score.specs.Record.{countOf}
 use Rattle.score.specs.Score.{markRight, kindRight, fieldsRight, allRight, inOrder, verdictOf}
 use Rattle.sections.specs.Outcome.{Buffers, samplesIn, roomIn, leaves}
@@ -68,6 +70,11 @@ RenderWhen g room s (NewScore fault) = ⊥
 RenderWhen g room s StartEntry = ⊥
 RenderWhen g room s Argument = ⊥
 RenderWhen g room s GivenState = ⊥
+RenderWhen g room s (EditFrame i) = ⊥
+RenderWhen g room s (NotThere i) = ⊥
+RenderWhen g room s (Full i) = ⊥
+RenderWhen g room s Page = ⊥
+RenderWhen g room s (Edit fault) = ⊥
 
 -- when a continuing call gives each refusal: 10 after a render's
 abbrev pub ContinueWhen : Settings → Bool → List ℕ → Bool → Refusal → Type 0
@@ -78,6 +85,11 @@ ContinueWhen g room s given (NewScore fault) = ⊥
 ContinueWhen g room s given StartEntry = ⊥
 ContinueWhen g room s given Argument = ⊥
 ContinueWhen g room s given GivenState = Passed g room s × (given ≡ false)
+ContinueWhen g room s given (EditFrame i) = ⊥
+ContinueWhen g room s given (NotThere i) = ⊥
+ContinueWhen g room s given (Full i) = ⊥
+ContinueWhen g room s given Page = ⊥
+ContinueWhen g room s given (Edit fault) = ⊥
 
 -- when a re-render gives each refusal: the new score's after those of a render of the old score, then 8 where an entry
 -- is read
@@ -89,7 +101,58 @@ RerenderWhen g room old new n shelf (NewScore fault) = Passed g room old × (ver
 RerenderWhen g room old new n shelf StartEntry = Passed g room old × (verdictOf new ≡ Accepted (countOf new)) × ((m : ℕ) × (planOf old new n ≡ From m) × (isStart new m shelf ≡ false))
 RerenderWhen g room old new n shelf Argument = ⊥
 RerenderWhen g room old new n shelf GivenState = ⊥
+RerenderWhen g room old new n shelf (EditFrame i) = ⊥
+RerenderWhen g room old new n shelf (NotThere i) = ⊥
+RerenderWhen g room old new n shelf (Full i) = ⊥
+RerenderWhen g room old new n shelf Page = ⊥
+RerenderWhen g room old new n shelf (Edit fault) = ⊥
 
+-- ---- a page of edits
+-- the list and the buffer are right, and so is all that a render of the old score is judged by
+pub record PageBegun (g : Settings) (room : Bool) (old es space : List ℕ) : Type 0 where
+  pub passed : Passed g room old
+  pub sized : pageFits es space ≡ true
+
+-- edit i exists, and every edit before it is made
+pub record ReachesEdit (old es : List ℕ) (i : ℕ) : Type 0 where
+  pub there : i < editsIn es
+  pub before : (j : ℕ) → j < i → editRefusals (scoreAfter old es j) es j ≡ []
+
+-- edit i is reached, and neither its frame nor its record is at fault
+pub record Judged (old es : List ℕ) (i : ℕ) : Type 0 where
+  pub reached : ReachesEdit old es i
+  pub framed : frameRight es i ≡ true
+  pub right : allRight (recordOf es i) 0 ≡ true
+
+-- when a fault of a record is the first of the page: no length, no order
+abbrev pub EditFaultWhen : List ℕ → List ℕ → ScoreFault → Type 0
+EditFaultWhen old es Length = ⊥
+EditFaultWhen old es (Mark i) = ReachesEdit old es i × (frameRight es i ≡ true) × (markRight (recordOf es i) 0 ≡ false)
+EditFaultWhen old es (Kind i) = ReachesEdit old es i × (frameRight es i ≡ true) × (markRight (recordOf es i) 0 ≡ true) × (kindRight (recordOf es i) 0 ≡ false)
+EditFaultWhen old es (Field i) = ReachesEdit old es i × (frameRight es i ≡ true) × (markRight (recordOf es i) 0 ≡ true) × (kindRight (recordOf es i) 0 ≡ true) × (fieldsRight (recordOf es i) 0 ≡ false)
+EditFaultWhen old es (Order i) = ⊥
+
+-- when a page gives each refusal; 34: no record of the score has the bytes; 35: the score has 4,096 records; 8 where an
+-- entry is read
+abbrev pub PageWhen : Settings → Bool → List ℕ → List ℕ → List ℕ → ℕ → List ℕ → Refusal → Type 0
+PageWhen g room old es space n shelf Setting = RenderWhen g room old Setting
+PageWhen g room old es space n shelf Size = RenderWhen g room old Size
+PageWhen g room old es space n shelf (Score fault) = RenderWhen g room old (Score fault)
+PageWhen g room old es space n shelf Page = Passed g room old × (pageFits es space ≡ false)
+PageWhen g room old es space n shelf (EditFrame i) = PageBegun g room old es space × ReachesEdit old es i × (frameRight es i ≡ false)
+PageWhen g room old es space n shelf (Edit fault) = PageBegun g room old es space × EditFaultWhen old es fault
+PageWhen g room old es space n shelf (NotThere i) =
+    PageBegun g room old es space × Judged old es i × (isInsert es i ≡ false)
+    × ((j : ℕ) → j < countOf (scoreAfter old es i) → bytesAt (scoreAfter old es i) j ≡ recordOf es i → ⊥)
+PageWhen g room old es space n shelf (Full i) = PageBegun g room old es space × Judged old es i × (isInsert es i ≡ true) × (countOf (scoreAfter old es i) ≡ 4096)
+PageWhen g room old es space n shelf StartEntry =
+    PageBegun g room old es space × ((i : ℕ) → i < editsIn es → editRefusals (scoreAfter old es i) es i ≡ [])
+    × ((m : ℕ) × (planOf old (newScoreOf old es) n ≡ From m) × (isStart (newScoreOf old es) m shelf ≡ false))
+PageWhen g room old es space n shelf (NewScore fault) = ⊥
+PageWhen g room old es space n shelf Argument = ⊥
+PageWhen g room old es space n shelf GivenState = ⊥
+
+-- ---- what is claimed of each call
 pub record RenderExactly (g : Settings) (s : List ℕ) (b : Buffers) : Type 0 where
   pub refused : (why : Refusal) → Exactly (renderOf g s b .result .answer ≡ Refused why) (RenderWhen g (roomIn b) s why)
   pub done : Exactly (renderOf g s b .result .answer ≡ Done (samplesIn b)) (Passed g (roomIn b) s)
@@ -106,3 +169,11 @@ pub record RerenderExactly (g : Settings) (old new : List ℕ) (b : Buffers) : T
       (rerenderOf g old new b .result ≡ Done (countFor g old new (planOf old new (samplesIn b)) b))
       (Passed g (roomIn b) old × (verdictOf new ≡ Accepted (countOf new)) × ((m : ℕ) → planOf old new (samplesIn b) ≡ From m → isStart new m (b .stored) ≡ true))
   pub as-it-came : (why : Refusal) → rerenderOf g old new b .result ≡ Refused why → rerenderOf g old new b ≡ leaves (Refused why) b
+
+pub record PageExactly (g : Settings) (old es : List ℕ) (b : Buffers) (space : List ℕ) : Type 0 where
+  pub refused : (why : Refusal) → Exactly (editOf g old es b space .result .answer ≡ Refused why) (PageWhen g (roomIn b) old es space (samplesIn b) (b .stored) why)
+  pub done : Exactly
+      (editOf g old es b space .result .answer ≡ Done (countFor g old (newScoreOf old es) (planOf old (newScoreOf old es) (samplesIn b)) b))
+      (PageBegun g (roomIn b) old es space × ((i : ℕ) → i < editsIn es → editRefusals (scoreAfter old es i) es i ≡ [])
+      × ((m : ℕ) → planOf old (newScoreOf old es) (samplesIn b) ≡ From m → isStart (newScoreOf old es) m (b .stored) ≡ true))
+  pub as-it-came : (why : Refusal) → editOf g old es b space .result .answer ≡ Refused why → editOf g old es b space ≡ rewrites (paged (Refused why) 0) b space

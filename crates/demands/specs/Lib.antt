@@ -2,6 +2,7 @@ pub mod Demand1
 pub mod Chain
 pub mod Demand3
 pub mod Edits
+pub mod Pages
 pub mod Peaks
 pub mod Tremolo
 pub mod NeverNegative

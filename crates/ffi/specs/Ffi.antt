@@ -7,7 +7,8 @@
 -- code of the LFO's waveform that is none. 02, R-9: "A setting chooses joined or struck"; 0 is struck, 1 joined, and
 -- any other number is refused with 6. 02, R-3: "7 also when the summary has not one entry a section", which is lent in
 -- two slices.
--- Beyond 01: render, re-render, continuing call, fresh state and listing, on slices of f64 and u64 too.
+-- Beyond 01: render, re-render, continuing call, fresh state and listing, on slices of f64 and u64 too. 02, R-6: a page
+-- of edits, which is lent a buffer for the new score too.
 -- Each outcome is that of the call of the crate below, with its answer packed into one word, and what is left in every
 -- lent buffer. Definitions only.
 use mathlib.Core.Bool.{Bool, cond, _&&_}
@@ -27,6 +28,8 @@ use Rattle.answers.specs.Order.{unless, firstOf}
 use Rattle.answers.specs.Value.{valueOr}
 use Rattle.floats.specs.Double.{zero64}
 use Rattle.listing.specs.Listing.{listingOf}
+use Rattle.page.specs.declared.Paged.{Paged}
+use Rattle.page.specs.Page.{Rewritten, rewrites, editOf}
 use Rattle.render.specs.Calls.{renderOf, continueRefusals}
 use Rattle.rerender.specs.Rerender.{rerenderOf}
 use Rattle.score.specs.Below.{countBelow}
@@ -47,7 +50,7 @@ use Rattle.ffi.specs.declared.Manner.{Manner}
 use Rattle.ffi.specs.declared.Manner.the-variants as manner
 use Rattle.ffi.specs.declared.Choice.{Choice}
 use Rattle.ffi.specs.declared.Choice.the-variants.{Known, Unknown}
-use Rattle.ffi.specs.Packed.{packedOf}
+use Rattle.ffi.specs.Packed.{packedOf, packedPage}
 
 -- ---- what a call leaves: the word that it answers, and the buffers that it was lent
 -- a call that is lent words or bytes alone
@@ -151,6 +154,14 @@ rerendered o = leaves (packedOf (o .result)) (o .left)
 abbrev pub rerenderFor : Choice → List ℕ → List ℕ → Buffers → Outcome ℕ
 rerenderFor (Known g) old new b = rerendered (rerenderOf g old new b)
 rerenderFor Unknown old new b = keptOf b Setting
+
+-- ---- a page of edits
+abbrev pub edited : Rewritten Paged → Rewritten ℕ
+edited o = rewrites (packedPage (o .result)) (o .left) (o .score)
+
+abbrev pub editFor : Choice → List ℕ → List ℕ → Buffers → List ℕ → Rewritten ℕ
+editFor (Known g) old es b space = edited (editOf g old es b space)
+editFor Unknown old es b space = rewrites (packedOf (Refused Setting)) b space
 
 -- ---- continue: the state comes in thirteen words, and the state after the part is left in them
 -- the words are an entry, with as many records acted as the score has below p; thirteen words that are no state, and

@@ -1,17 +1,21 @@
 // What C sees: the calls of the crates below, on numbers and slices, each with its answer in one word. 01 asks for the
-// check of a score and for single samples; render, re-render, continuing call, fresh state and listing go beyond 01. A
+// check of a score and for single samples; render, re-render, page of edits, continuing call, fresh state and listing
+// go beyond 01. A
 // slice is a pointer and a length in C; include/gavberin.h declares every function here, with the caller's duties,
 // which no function here can test. Left out: the ported calls of phase, voice, envelope, oscillator and LFO, and the
 // end state of a render.
 ghost use mathlib.Core.Path.{_≡_};
 ghost use Rattle.sections.specs.Outcome.{lends, leaves};
-ghost use Rattle.ffi.specs.Packed.{packedOf};
+ghost use Rattle.page.specs.Page.{rewrites};
+ghost use Rattle.ffi.specs.Packed.{wordOf, packedOf, packedPage};
 ghost use Rattle.ffi.specs.Version.{version};
-ghost use Rattle.ffi.specs.Ffi.{fills, continues, shapeOf, mannerOf, asks, choiceOf, checkOf, singleOf, renderFor, rerenderFor, continueIn, continueFor, freshFor, listFor};
+ghost use Rattle.ffi.specs.Ffi.{fills, continues, shapeOf, mannerOf, asks, choiceOf, checkOf, singleOf, renderFor, rerenderFor, editFor, continueIn, continueFor, freshFor, listFor};
 use answers::Answer;
+use answers::Numbers;
 use answers::Refusal;
 use answers::Value;
 use envelope::Adsr;
+use page::Paged;
 use shelf::ENTRY_WORDS;
 use state::Keying;
 use state::Settings;
@@ -19,7 +23,7 @@ use tremolo::Lfo;
 use waveform::Waveform;
 
 // GAV_VERSION of the header.
-const VERSION: u32 = 4;
+const VERSION: u32 = 5;
 
 // What a host asks for, in its own numbers.
 pub struct Asked {
@@ -55,7 +59,7 @@ pub enum Choice {
     Unknown,
 }
 
-// The version of the calls' arguments and of a state's number of words, which a host must be written for.
+// The version of the calls, their arguments and a state's number of words, which a host must be written for.
 #[no_mangle]
 pub extern "C" fn gav_version() -> u32
     ensures { λ r. ⌜ r ≡ version ⌝ }
@@ -180,6 +184,61 @@ pub extern "C" fn gav_rerender(
     packed(rerender::rerender(settings, old, new, out, shelf, magnitudes, numbers))
 }
 
+// The edits of a list, made one after the other on the old score, and one re-render of the old score into the new one;
+// the new score is written to the front of `new_score`.
+#[no_mangle]
+pub extern "C" fn gav_edit(
+    rate: u32,
+    code: u32,
+    duty: f64,
+    attack: f64,
+    decay: f64,
+    sustain: f64,
+    release: f64,
+    lfo_code: u32,
+    lfo_duty: f64,
+    lfo_frequency: f64,
+    lfo_depth: f64,
+    joined: u32,
+    old: &[u8],
+    edits: &[u8],
+    out: &mut [f64],
+    shelf: &mut [u64],
+    magnitudes: &mut [f64],
+    numbers: &mut [u64],
+    new_score: &mut [u8],
+) -> u64
+    ensures { λ r. ⌜ rewrites r (lends (now (out .exit)) (now (shelf .exit)) (now (magnitudes .exit)) (now (numbers .exit))) (now («new_score» .exit)) ≡ editFor (choiceOf (asks rate code duty attack decay sustain release «lfo_code» «lfo_duty» «lfo_frequency» «lfo_depth» joined)) (now (old .entry)) (now (edits .entry)) (lends (now (out .entry)) (now (shelf .entry)) (now (magnitudes .entry)) (now (numbers .entry))) (now («new_score» .entry)) ⌝ }
+{
+    let choice = choice_of(Asked {
+        rate,
+        code,
+        duty,
+        attack,
+        decay,
+        sustain,
+        release,
+        lfo_code,
+        lfo_duty,
+        lfo_frequency,
+        lfo_depth,
+        joined,
+    });
+    let Choice::Known(settings) = choice else {
+        return packed(Answer::Refused(Refusal::Setting));
+    };
+    packed_page(page::edit(
+        settings,
+        old,
+        edits,
+        out,
+        shelf,
+        magnitudes,
+        numbers,
+        new_score,
+    ))
+}
+
 // The next part of the output, from the state in thirteen words; when done, the words are those of the state after the
 // part.
 #[no_mangle]
@@ -252,7 +311,28 @@ pub extern "C" fn gav_list(score: &[u8], text: &mut [u8]) -> u64
 fn packed(answer: Answer) -> u64
     ensures { λ r. ⌜ r ≡ packedOf answer ⌝ }
 {
-    let numbers = answers::in_numbers(answer);
+    word_of(answers::in_numbers(answer))
+}
+
+// The answer of a page in one word; when done, the bytes of the new score stand in the place's bits.
+fn packed_page(paged: Paged) -> u64
+    ensures { λ r. ⌜ r ≡ packedPage paged ⌝ }
+{
+    let answer = paged.answer;
+    let bytes = paged.bytes;
+    match answer {
+        Answer::Done(count) => word_of(Numbers {
+            number: 0,
+            place: bytes,
+            count,
+        }),
+        Answer::Refused(_) => packed(answer),
+    }
+}
+
+fn word_of(numbers: Numbers) -> u64
+    ensures { λ r. ⌜ r ≡ wordOf numbers ⌝ }
+{
     let place = numbers.place as u64 % 0x100_0000;
     let count = numbers.count as u64 % 0x1_0000_0000;
     numbers.number as u64 + 256 * place + 0x1_0000_0000 * count

@@ -1,0 +1,1 @@
+-- Laws on what this crate defines, in the order to read them.
