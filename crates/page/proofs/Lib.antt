@@ -1,9 +1,11 @@
 -- Laws on what this crate defines, in the order to read them.
 -- an edit of an accepted score leaves an accepted score
 pub mod Taken
+-- bytes moved by ten in a buffer, and its front afterwards
+pub mod Shifts
 -- the record of an edit, judged as a score of one record
 pub mod Judging
--- the call, refusal by refusal, beside a re-render
-pub mod Calls
 -- the edits on the room, one after the other
 pub mod Steps
+-- the call, refusal by refusal, beside a re-render
+pub mod Calls

@@ -4,6 +4,7 @@ use mathlib.Core.Path.{_≡_}
 use mathlib.Core.List.{List, [], _++_}
 use Prim.Native.Nat.{ℕ, _+_, _-_, _*_, _≤_}
 use lib.ListN.{length, take, drop}
+use lib.Seq.{paste}
 use Rattle.answers.specs.Order.{firstOf}
 use Rattle.answers.specs.declared.Refusal.{Refusal}
 use Rattle.answers.specs.declared.ScoreFault.{ScoreFault}
@@ -43,11 +44,11 @@ putAt b k xs = take k b ++ xs ++ drop (k + length xs) b
 
 -- of a buffer b whose first n bytes are a score: the bytes from index k on ten further, the ten at k as they were
 unfoldable pub openedOf : List ℕ → ℕ → ℕ → List ℕ
-openedOf b k n = take (k + 10) b ++ take (n - k) (drop k b) ++ drop (n + 10) b
+openedOf b k n = paste b (k + 10) (drop k b) (n - k)
 
 -- the ten bytes at k left out: those behind them ten sooner, and the last ten of the score as they were
 unfoldable pub closedOf : List ℕ → ℕ → ℕ → List ℕ
-closedOf b k n = take k b ++ take (n - (k + 10)) (drop (k + 10) b) ++ drop (n - 10) b
+closedOf b k n = paste b k (drop (k + 10) b) (n - (k + 10))
 
 -- refusals, and the score of a room after an edit or all of them: the first refusal, or the score's length, and then it
 -- is at the front of the room
