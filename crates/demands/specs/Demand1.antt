@@ -5,10 +5,11 @@
 -- index"; "A refusal .. hands back state by value as it came, and writes nowhere". 02, R-3: "7 also when the summary
 -- has not one entry a section". 02, R-6: the order of a page's refusals, which specs/Page.antt of `page` quotes.
 -- For each call a table says when each of its refusals is given; a refusal that the call never gives has the condition
--- ⊥. Definitions only.
+-- ⊥. The number and place of each refusal stand in specs/Numbers.antt of `answers`. Definitions only.
 use mathlib.Core.Path.{_≡_}
 use mathlib.Core.Bool.{Bool, true, false, _&&_}
 use mathlib.Core.List.{List, []}
+use mathlib.Core.Logic.{_⊎_}
 use Prim.Native.Nat.{ℕ, _%_, _<_}
 use lib.Dec.{leb, eqb}
 use lib.ListN.{length}
@@ -19,7 +20,7 @@ use Rattle.answers.specs.declared.Refusal.the-variants.{Score, NewScore, Settin
 use Rattle.answers.specs.declared.ScoreFault.{ScoreFault}
 use Rattle.answers.specs.declared.ScoreFault.the-variants.{Length, Mark, Kind, Field, Order}
 use Rattle.judging.specs.Judging.{Passed, partFits}
-use Rattle.page.specs.Page.{editsIn, frameRight, isInsert, recordOf, scoreAfter, newScoreOf, editRefusals, pageFits, rewrites, paged, editOf}
+use Rattle.page.specs.Page.{editsIn, editByte, recordOf, scoreAfter, newScoreOf, editRefusals, rewrites, paged, editOf}
 use Rattle.render.specs.Calls.{says, renderOf, leavesPart, isGiven, continueOf}
 use Rattle.rerender.specs.declared.Plan.the-variants.{From}
 use Rattle.rerender.specs.Rerender.{planOf, isStart, countFor, rerenderOf}
@@ -108,10 +109,22 @@ RerenderWhen g room old new n shelf Page = ⊥
 RerenderWhen g room old new n shelf (Edit fault) = ⊥
 
 -- ---- a page of edits
--- the list and the buffer are right, and so is all that a render of the old score is judged by
+-- the list has whole edits, and the buffer is right
+pub record PageSized (es space : List ℕ) : Type 0 where
+  pub whole-edits : length es % 14 ≡ 0
+  pub bytes : length space ≡ 40960
+
+-- and so is all that a render of the old score is judged by
 pub record PageBegun (g : Settings) (room : Bool) (old es space : List ℕ) : Type 0 where
   pub passed : Passed g room old
-  pub sized : pageFits es space ≡ true
+  pub sized : PageSized es space
+
+-- mark 45 44, code 1 or 2, filler 0
+pub record Framed (es : List ℕ) (i : ℕ) : Type 0 where
+  pub mark-one : editByte es i 0 ≡ 0x45
+  pub mark-two : editByte es i 1 ≡ 0x44
+  pub code : (editByte es i 2 ≡ 1) ⊎ (editByte es i 2 ≡ 2)
+  pub filler : editByte es i 3 ≡ 0
 
 -- edit i exists, and every edit before it is made
 pub record ReachesEdit (old es : List ℕ) (i : ℕ) : Type 0 where
@@ -121,15 +134,15 @@ pub record ReachesEdit (old es : List ℕ) (i : ℕ) : Type 0 where
 -- edit i is reached, and neither its frame nor its record is at fault
 pub record Judged (old es : List ℕ) (i : ℕ) : Type 0 where
   pub reached : ReachesEdit old es i
-  pub framed : frameRight es i ≡ true
+  pub framed : Framed es i
   pub right : allRight (recordOf es i) 0 ≡ true
 
 -- when a fault of a record is the first of the page: no length, no order
 abbrev pub EditFaultWhen : List ℕ → List ℕ → ScoreFault → Type 0
 EditFaultWhen old es Length = ⊥
-EditFaultWhen old es (Mark i) = ReachesEdit old es i × (frameRight es i ≡ true) × (markRight (recordOf es i) 0 ≡ false)
-EditFaultWhen old es (Kind i) = ReachesEdit old es i × (frameRight es i ≡ true) × (markRight (recordOf es i) 0 ≡ true) × (kindRight (recordOf es i) 0 ≡ false)
-EditFaultWhen old es (Field i) = ReachesEdit old es i × (frameRight es i ≡ true) × (markRight (recordOf es i) 0 ≡ true) × (kindRight (recordOf es i) 0 ≡ true) × (fieldsRight (recordOf es i) 0 ≡ false)
+EditFaultWhen old es (Mark i) = ReachesEdit old es i × Framed es i × (markRight (recordOf es i) 0 ≡ false)
+EditFaultWhen old es (Kind i) = ReachesEdit old es i × Framed es i × (markRight (recordOf es i) 0 ≡ true) × (kindRight (recordOf es i) 0 ≡ false)
+EditFaultWhen old es (Field i) = ReachesEdit old es i × Framed es i × (markRight (recordOf es i) 0 ≡ true) × (kindRight (recordOf es i) 0 ≡ true) × (fieldsRight (recordOf es i) 0 ≡ false)
 EditFaultWhen old es (Order i) = ⊥
 
 -- when a page gives each refusal; 34: no record of the score has the bytes; 35: the score has 4,096 records; 8 where an
@@ -138,13 +151,13 @@ abbrev pub PageWhen : Settings → Bool → List ℕ → List ℕ → List ℕ �
 PageWhen g room old es space n shelf Setting = RenderWhen g room old Setting
 PageWhen g room old es space n shelf Size = RenderWhen g room old Size
 PageWhen g room old es space n shelf (Score fault) = RenderWhen g room old (Score fault)
-PageWhen g room old es space n shelf Page = Passed g room old × (pageFits es space ≡ false)
-PageWhen g room old es space n shelf (EditFrame i) = PageBegun g room old es space × ReachesEdit old es i × (frameRight es i ≡ false)
+PageWhen g room old es space n shelf Page = Passed g room old × (PageSized es space → ⊥)
+PageWhen g room old es space n shelf (EditFrame i) = PageBegun g room old es space × ReachesEdit old es i × (Framed es i → ⊥)
 PageWhen g room old es space n shelf (Edit fault) = PageBegun g room old es space × EditFaultWhen old es fault
 PageWhen g room old es space n shelf (NotThere i) =
-    PageBegun g room old es space × Judged old es i × (isInsert es i ≡ false)
+    PageBegun g room old es space × Judged old es i × (editByte es i 2 ≡ 2)
     × ((j : ℕ) → j < countOf (scoreAfter old es i) → bytesAt (scoreAfter old es i) j ≡ recordOf es i → ⊥)
-PageWhen g room old es space n shelf (Full i) = PageBegun g room old es space × Judged old es i × (isInsert es i ≡ true) × (countOf (scoreAfter old es i) ≡ 4096)
+PageWhen g room old es space n shelf (Full i) = PageBegun g room old es space × Judged old es i × (editByte es i 2 ≡ 1) × (countOf (scoreAfter old es i) ≡ 4096)
 PageWhen g room old es space n shelf StartEntry =
     PageBegun g room old es space × ((i : ℕ) → i < editsIn es → editRefusals (scoreAfter old es i) es i ≡ [])
     × ((m : ℕ) × (planOf old (newScoreOf old es) n ≡ From m) × (isStart (newScoreOf old es) m shelf ≡ false))

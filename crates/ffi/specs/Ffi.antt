@@ -155,9 +155,9 @@ abbrev pub rerenderFor : Choice → List ℕ → List ℕ → Buffers → Outcom
 rerenderFor (Known g) old new b = rerendered (rerenderOf g old new b)
 rerenderFor Unknown old new b = keptOf b Setting
 
--- ---- a page of edits
+-- ---- a page of edits: unknown settings are refused with 6, before anything else is judged
 abbrev pub edited : Rewritten Paged → Rewritten ℕ
-edited o = rewrites (packedPage (o .result)) (o .left) (o .score)
+edited o = rewrites (packedPage (o .result)) (o .left) (o .space)
 
 abbrev pub editFor : Choice → List ℕ → List ℕ → Buffers → List ℕ → Rewritten ℕ
 editFor (Known g) old es b space = edited (editOf g old es b space)

@@ -19,7 +19,7 @@ wordOf n = n .number + 256 * (n .place % 16777216) + 4294967296 * (n .count % 42
 unfoldable pub packedOf : Answer → ℕ
 packedOf answer = wordOf (numbersOf answer)
 
--- a page of edits: when done, the bytes of the new score stand in the place's bits
+-- a page of edits: when done, the bytes of the new score stand in the place's bits, so a host reads the number first
 abbrev pub pagedNumbers : Answer → ℕ → Numbers
 pagedNumbers (Done n) bytes = record { number = 0; place = bytes; count = n }
 pagedNumbers (Refused why) bytes = numbersOf (Refused why)

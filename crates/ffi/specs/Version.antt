@@ -4,7 +4,7 @@
 use Prim.Native.Nat.{ℕ}
 
 -- version 1: seven settings, and a state of twelve words; version 2, with 02's R-7: eleven, and thirteen words; version
--- 3, with R-9: twelve settings; version 4, with R-3: render and re-render are lent a summary; version 5, with R-6: a page
--- of edits
+-- 3, with R-9: twelve settings; version 4, with R-3: render and re-render are lent a summary; version 5, with R-6: a
+-- page of edits
 abbrev pub version : ℕ
 version = 5

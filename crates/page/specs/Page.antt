@@ -8,7 +8,8 @@
 -- 8. The whole list is refused."
 -- Each edit is judged and made on the score that the edits before it leave, so a refusal of edit i counts only where
 -- all edits before it are made: the list of refusals below has them in that order, and its first one decides.
--- Wider than 02: an edit can be read from any list of bytes, and a byte past the end of the list is 0. Definitions only.
+-- Wider than 02: mark, code and filler can be read from any list of bytes, where a byte past the end is 0; a record
+-- past the end has fewer bytes. Such lists are refused with 36. Definitions only.
 use mathlib.Core.Bool.{Bool, cond, _&&_, _||_}
 use mathlib.Core.List.{List, [], _++_, map}
 use Prim.Native.Nat.{ℕ, zero, suc, _+_, _*_, _/_, _%_}
@@ -53,7 +54,7 @@ abbrev pub recordOf : List ℕ → ℕ → List ℕ
 recordOf es i = take 10 (drop (i * 14 + 4) es)
 
 -- ---- an edit made
--- after all records at the position of the record r or lower
+-- after all records of an accepted score at the position of the record r or lower
 unfoldable pub insertedOf : List ℕ → List ℕ → List ℕ
 insertedOf s r = let k = countBelow s (positionAt r 0 + 1) * 10 in take k s ++ r ++ drop k s
 
@@ -97,10 +98,10 @@ refusalsFrom old es (suc k) i = editRefusals (scoreAfter old es i) es i ++ refus
 pub record Rewritten (R : Type 0) : Type 0 where
   pub result : R
   pub left : Buffers
-  pub score : List ℕ
+  pub space : List ℕ
 
 abbrev pub rewrites : {R : Type 0} → R → Buffers → List ℕ → Rewritten R
-rewrites r b space = record { result = r; left = b; score = space }
+rewrites r b space = record { result = r; left = b; space = space }
 
 abbrev pub paged : Answer → ℕ → Paged
 paged answer bytes = record { answer = answer; bytes = bytes }
