@@ -7,12 +7,11 @@ use mathlib.Core.Logic.{⊎-elim}
 use Prim.Native.Nat.{ℕ, zero, suc, _+_, _*_, _-_, _≤_, _<_}
 use native.Mathlib.Nat.{eq-or-lt-of-le}
 use native.Mathlib.Omega.{arith}
-use lib.Dec.{ltb, leb}
+use lib.Dec.{ltb}
 use lib.ListN.{length, getD, take, drop, length-append, length-drop, List·getD-append}
 use lib.Seq.{getD-take, getD-drop, getD-append-add, length-take-le}
 use borrow.Author.Tests.{ltb-true, le-leb}
 use Rattle.answers.specs.Order.{unless}
-use Rattle.answers.specs.declared.Refusal.{Refusal}
 use Rattle.answers.specs.declared.Refusal.the-variants.{EditFrame, NotThere, Full, Edit}
 use Rattle.answers.specs.declared.ScoreFault.the-variants.{Mark, Kind, Field}
 use Rattle.answers.proofs.Order.{passed, none-both, none-map}
@@ -22,7 +21,7 @@ use Rattle.score.specs.Score.{markRight, kindRight, fieldsRight, allRight, inOr
 use Rattle.score.specs.Below.{countBelow, Sorted, Cut}
 use Rattle.score.specs.Apart.{firstEqual}
 use Rattle.score.proofs.Codec.{both, Right, tests-right}
-use Rattle.score.proofs.Verdicts.{Fine, AllFine, accepted-all, all-accepted}
+use Rattle.score.proofs.Verdicts.{accepted-all, all-accepted}
 use Rattle.score.proofs.Cuts.{lt-or-ge, accepted-count, accepted-few, accepted-length, accepted-sorted, sorted-le, count-cut}
 use Rattle.page.specs.Page.{editsIn, frameRight, isInsert, recordOf, insertedOf, removedOf, editedBy, scoreAfter, recordFaults, heldRefusals, editRefusals, refusalsFrom}
 use Rattle.page.specs.Inner.{IsAccepted}
