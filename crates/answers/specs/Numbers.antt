@@ -31,7 +31,8 @@ faultPlace (Kind i) = i
 faultPlace (Field i) = i
 faultPlace (Order i) = i
 
--- the old or only score has the numbers of its fault, the new score these numbers plus 16, the record of an edit plus 48
+-- the old or only score has the numbers of its fault, the new score these numbers plus 16, the record of an edit plus
+-- 48
 abbrev pub refusalNumber : Refusal → ℕ
 refusalNumber (Score fault) = faultNumber fault
 refusalNumber (NewScore fault) = faultNumber fault + 16
@@ -65,7 +66,8 @@ refusalPlace (Edit fault) = faultPlace fault
 abbrev pub refusalCount : Refusal → ℕ
 refusalCount r = 0
 
--- done has number 0, place 0, and as its count the samples written
+-- done has number 0, place 0, and as its count the samples written; what C sees of a page of edits that is done has the
+-- bytes of its score there (specs/Packed.antt of `ffi`)
 abbrev pub numbersOf : Answer → Numbers
 numbersOf (Done n) = record { number = 0; place = 0; count = n }
 numbersOf (Refused r) = record { number = refusalNumber r; place = refusalPlace r; count = refusalCount r }

@@ -20,11 +20,11 @@ use Rattle.score.proofs.Codec.{Right, join-bytes, most-of-byte, encode-
 use Rattle.score.proofs.Verdicts.{AllFine, accepted-all, all-accepted}
 
 -- ---- the encoding of a list of records
-encode-append : (rs qs : List Record) → encodeAll (rs ++ qs) ≡ encodeAll rs ++ encodeAll qs
+pub encode-append : (rs qs : List Record) → encodeAll (rs ++ qs) ≡ encodeAll rs ++ encodeAll qs
 encode-append [] qs = refl
 encode-append (r ∷ rs) qs = rw (encode-append rs qs, append-assoc (encodeOf r) (encodeAll rs) (encodeAll qs)) refl
 
-length-encode : (rs : List Record) → length (encodeAll rs) ≡ length rs * 10
+pub length-encode : (rs : List Record) → length (encodeAll rs) ≡ length rs * 10
 length-encode [] = refl
 length-encode (r ∷ rs) = let h : length (encodeAll rs) ≡ length rs * 10 = length-encode rs in omega arith
 

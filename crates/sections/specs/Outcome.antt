@@ -1,7 +1,7 @@
 -- What a call is lent, and what it leaves: an output, its shelf and its summary. 02, R-3: "7 also when the summary has
 -- not one entry a section".
--- Used for the sections, a render and a re-render, and for those calls as C makes them; a continuing call is lent other
--- buffers and has an outcome of its own. Definitions only.
+-- Used for the sections, a render and a re-render, and for those calls as C makes them; a page of edits is lent one
+-- buffer more, a continuing call others, and both have outcomes of their own. Definitions only.
 use mathlib.Core.Bool.{Bool}
 use mathlib.Core.List.{List}
 use Prim.Native.Nat.{ℕ, _*_}
