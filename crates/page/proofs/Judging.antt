@@ -25,7 +25,7 @@ pub ten-bytes : (es : List ℕ) (i : ℕ) → i < editsIn es → length (recordO
 ten-bytes es i h = length-take-le 10 (drop (i * 14 + 4) es) (rw (length-drop (i * 14 + 4) es) (omega arith))
 
 -- the faults of a score of one record
-faults-placed : (r : List ℕ) (i : ℕ) → length r ≡ 10 → recordFaults r i ≡ map (λ (f : ScoreFault). placedAt f i) (faultsOf r)
+pub faults-placed : (r : List ℕ) (i : ℕ) → length r ≡ 10 → recordFaults r i ≡ map (λ (f : ScoreFault). placedAt f i) (faultsOf r)
 unfolding recordFaults faultsOf faultsFrom faultsAt inOrder
 faults-placed r i ten = rw ten (go (markRight r 0) (kindRight r 0) (fieldsRight r 0))
   where

@@ -9,3 +9,5 @@ pub mod Judging
 pub mod Steps
 -- the call, refusal by refusal, beside a re-render
 pub mod Calls
+-- what a list of one edit does, said of records
+pub mod Records
