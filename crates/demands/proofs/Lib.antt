@@ -25,10 +25,14 @@ pub mod First
 pub mod Demand3
 -- any number of edits leave what one render of the last score leaves
 pub mod Edits
+-- a page of edits is one re-render, and leaves what its edits leave one at a time
+pub mod Pages
 -- the summary: what it tells, that it stays right, and that every sample made is finite
 pub mod Peaks
 -- an edit that meets demand 3's premises, and two that meet those of `AnyEdits`, over rubbish
 pub mod Example
+-- a page of a remove and an insert at one position, which stops early
+pub mod PagesExample
 -- between two reductions the tremolo's LFO is the ported block, and depth 0 is no tremolo
 pub mod Tremolo
 -- no phase is ever negative where it is reduced: 01's branch for a negative remainder is never taken
