@@ -1,7 +1,7 @@
 -- Demand 1: each refusal of render, continuing call and re-render is given exactly when its row holds and no earlier
 -- row does, and leaves all as it came. Assumes nothing.
 use mathlib.Core.Path.{_≡_, refl, subst}
-use mathlib.Core.Bool.{Bool, true}
+use mathlib.Core.Bool.{Bool, true, false}
 use mathlib.Core.List.{List, [], _++_}
 use mathlib.Core.Logic.{⊎-elim}
 use Prim.Native.Nat.{ℕ}
@@ -9,7 +9,7 @@ use lib.ListN.{length}
 use lib.Ieee.{Float}
 use Rattle.answers.specs.Order.{unless}
 use Rattle.answers.specs.declared.Refusal.{Refusal}
-use Rattle.answers.specs.declared.Refusal.the-variants.{Score, NewScore, Setting, Size, StartEntry, Argument, GivenState}
+use Rattle.answers.specs.declared.Refusal.the-variants.{Score, NewScore, Setting, Size, StartEntry, GivenState}
 use Rattle.answers.proofs.Order.{passed, none-both, Leads, leads-append, leads-after, leads-parts, leads-unless}
 use Rattle.sections.specs.Outcome.{Buffers, samplesIn, roomIn}
 use Rattle.judging.specs.Judging.{refusalsOf, Passed, newRefusalsOf, partFits}
@@ -29,17 +29,13 @@ use Rattle.demands.specs.Demand1.{RenderWhen, ContinueWhen, RerenderWhen
 
 -- ---- 6, 7 and the faults of the old or only score
 module _ (g : Settings) (room : Bool) (s : List ℕ) where
-  none : Passed g room s → refusalsOf g room s ≡ []
-  none p = none-refused g room s (countOf s) (p .settings) (p .sized) (p .accepted)
+  pub render-none : Passed g room s → refusalsOf g room s ≡ []
+  render-none p = none-refused g room s (countOf s) (p .settings) (p .sized) (p .accepted)
 
-  render-first : (why : Refusal) → RenderWhen g room s why → Leads why (refusalsOf g room s)
+  pub render-first : (why : Refusal) → RenderWhen g room s why → Leads why (refusalsOf g room s)
   render-first Setting h = six-first g room s h
   render-first Size h = seven-first g room s (h .0) (h .1)
   render-first (Score fault) h = score-first g room s (h .0) (h .1) fault (h .2)
-  render-first (NewScore fault) h = absurd h
-  render-first StartEntry h = absurd h
-  render-first Argument h = absurd h
-  render-first GivenState h = absurd h
 
 pub render-exactly : (g : Settings) (s : List ℕ) (b : Buffers) → RenderExactly g s b
 render-exactly g s b =
@@ -50,7 +46,7 @@ render-exactly g s b =
         only-when = λ e. judged-first g room s (RenderWhen g room s) (λ a. a) (λ a b. (a, b)) (λ a b fault v. (a, b, v)) why (c .refused why e);
         whenever = λ h. c .is-refused why (render-first g room s why h);
       };
-      done = record { only-when = λ e. all-passed g room s (c .done (samplesIn b) e); whenever = λ h. c .is-done (none g room s h) };
+      done = record { only-when = λ e. all-passed g room s (c .done (samplesIn b) e); whenever = λ h. c .is-done (render-none g room s h) };
       as-it-came = c .keeps;
     }
 
@@ -69,13 +65,10 @@ module _ (g : Settings) (room : Bool) (s : List ℕ) (given : Bool) where
       (leads-parts why judged tenth h)
 
   continue-first : (why : Refusal) → ContinueWhen g room s given why → Leads why (judged ++ tenth)
-  continue-first GivenState h = leads-after GivenState judged tenth (none g room s (h .0)) (rw (h .1) refl)
+  continue-first GivenState h = leads-after GivenState judged tenth (render-none g room s (h .0)) (rw (h .1) refl)
   continue-first Setting h = leads-append Setting judged tenth (render-first g room s Setting h)
   continue-first Size h = leads-append Size judged tenth (render-first g room s Size h)
   continue-first (Score fault) h = leads-append (Score fault) judged tenth (render-first g room s (Score fault) h)
-  continue-first (NewScore fault) h = absurd h
-  continue-first StartEntry h = absurd h
-  continue-first Argument h = absurd h
 
 pub continue-exactly : (g : Settings) (s : List ℕ) (v : State) (p : ℕ) (part : List Float) → ContinueExactly g s v p part
 continue-exactly g s v p part =
@@ -86,23 +79,23 @@ continue-exactly g s v p part =
       refused = λ why. record { only-when = λ e. continue-only g room s given why (c .refused why e); whenever = λ h. c .is-refused why (continue-first g room s given why h) };
       done = record {
         only-when = λ e. (let b = none-both (refusalsOf g room s) (unless given GivenState) (c .done (length part) e) in (all-passed g room s (b .0), passed given GivenState (b .1)));
-        whenever = λ h. c .is-done (rw (none g room s (h .0), h .1) refl);
+        whenever = λ h. c .is-done (rw (render-none g room s (h .0), h .1) refl);
       };
       as-it-came = c .keeps;
     }
 
 -- ---- then the new score's faults, and 8
 module _ (g : Settings) (old new : List ℕ) (b : Buffers) where
-  abbrev n : ℕ
+  abbrev pub n : ℕ
   n = samplesIn b
 
-  abbrev shelf : List ℕ
+  abbrev pub shelf : List ℕ
   shelf = b .stored
 
   abbrev room : Bool
   room = roomIn b
 
-  abbrev plan : Plan
+  abbrev pub plan : Plan
   plan = planOf old new n
 
   abbrev When : Refusal → Type 0
@@ -111,45 +104,43 @@ module _ (g : Settings) (old new : List ℕ) (b : Buffers) where
   abbrev tests : List Refusal
   tests = checks g old new (roomIn b)
 
-  abbrev eighth : List Refusal
+  abbrev pub eighth : List Refusal
   eighth = startRefusals new plan shelf
 
-  -- an entry is read, and a re-render cannot start from it
-  start-only : (why : Refusal) → Passed g room old → verdictOf new ≡ Accepted (countOf new) → Leads why eighth → When why
-  start-only why p a h = go plan refl h
+  -- P holds of 8 where an entry is read and a re-render cannot start from it
+  pub start-only : (P : Refusal → Type 0) → ((m : ℕ) → planOf old new n ≡ From m → isStart new m shelf ≡ false → P StartEntry) → (why : Refusal) → Leads why eighth → P why
+  start-only P eight why h = go plan refl h
     where
-      go : (q : Plan) → planOf old new n ≡ q → Leads why (startRefusals new q shelf) → When why
+      go : (q : Plan) → planOf old new n ≡ q → Leads why (startRefusals new q shelf) → P why
       go Nothing e h = absurd h
-      go (From m) e h = let u = leads-unless why (isStart new m shelf) StartEntry h in subst When (u .1) (p, a, (m, e, u .0))
+      go (From m) e h = let u = leads-unless why (isStart new m shelf) StartEntry h in subst P (u .1) (eight m e (u .0))
 
   rerender-only : (why : Refusal) → Leads why (rerenderRefusals g old new b) → When why
   rerender-only why h =
       ⊎-elim
       (λ l. ⊎-elim (λ l. judged-first g room old When (λ a. a) (λ a b. (a, b)) (λ a b fault v. (a, b, v)) why l)
       (λ l. newly-first new When (λ fault v. (all-passed g room old (l .0), v)) why (l .1)) (leads-parts why (refusalsOf g room old) (newRefusalsOf new) l))
-      (λ l. let b = none-both (refusalsOf g room old) (newRefusalsOf new) (l .0) in start-only why (all-passed g room old (b .0)) (new-passed new (b .1)) (l .1))
+      (λ l. let b = none-both (refusalsOf g room old) (newRefusalsOf new) (l .0) in start-only When (λ m e f. (all-passed g room old (b .0), new-passed new (b .1), (m, e, f))) why (l .1))
       (leads-parts why tests eighth h)
 
   none-tested : Passed g room old → verdictOf new ≡ Accepted (countOf new) → tests ≡ []
-  none-tested p a = rw (none g room old p, none-newly new (countOf new) a) refl
+  none-tested p a = rw (render-none g room old p, none-newly new (countOf new) a) refl
 
   early : (why : Refusal) → RenderWhen g room old why → Leads why (rerenderRefusals g old new b)
   early why h = leads-append why tests eighth (leads-append why (refusalsOf g room old) (newRefusalsOf new) (render-first g room old why h))
 
   rerender-first : (why : Refusal) → When why → Leads why (rerenderRefusals g old new b)
-  rerender-first (NewScore fault) h = leads-append (NewScore fault) tests eighth (leads-after (NewScore fault) (refusalsOf g room old) (newRefusalsOf new) (none g room old (h .0)) (new-first new fault (h .1)))
+  rerender-first (NewScore fault) h = leads-append (NewScore fault) tests eighth (leads-after (NewScore fault) (refusalsOf g room old) (newRefusalsOf new) (render-none g room old (h .0)) (new-first new fault (h .1)))
   rerender-first StartEntry h = leads-after StartEntry tests eighth (none-tested (h .0) (h .1)) (rw (h .2 .1, h .2 .2) refl)
   rerender-first Setting h = early Setting h
   rerender-first Size h = early Size h
   rerender-first (Score fault) h = early (Score fault) h
-  rerender-first Argument h = absurd h
-  rerender-first GivenState h = absurd h
 
   -- no entry is read, or a re-render can start from it
-  starts : eighth ≡ [] → (m : ℕ) → planOf old new n ≡ From m → isStart new m shelf ≡ true
+  pub starts : eighth ≡ [] → (m : ℕ) → planOf old new n ≡ From m → isStart new m shelf ≡ true
   starts e m q = let none : unless (isStart new m shelf) StartEntry ≡ [] = rw q at e in passed (isStart new m shelf) StartEntry none
 
-  none-eighth : ((m : ℕ) → planOf old new n ≡ From m → isStart new m shelf ≡ true) → eighth ≡ []
+  pub none-eighth : ((m : ℕ) → planOf old new n ≡ From m → isStart new m shelf ≡ true) → eighth ≡ []
   none-eighth f = go plan refl
     where
       go : (q : Plan) → planOf old new n ≡ q → startRefusals new q shelf ≡ []

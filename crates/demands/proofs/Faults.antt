@@ -39,42 +39,41 @@ module _ (s : List ℕ) (i : ℕ) where
   right-alone : faultsAt s i ≡ [] → (allRight s i ≡ true) × (inOrder s i ≡ true)
   right-alone e = let f = none-fine s i e in (rw (right-mark s i (f .right), right-kind s i (f .right), right-fields s i (f .right)) refl, f .ordered)
 
--- ---- the first fault of k records from record i on
-from-first : (s : List ℕ) (P : ScoreFault → Type 0) (k i : ℕ)
-    → ((j : ℕ) → i ≤ j → j < i + k → ((l : ℕ) → i ≤ l → l < j → faultsAt s l ≡ []) → (f : ScoreFault) → Leads f (faultsAt s j) → P f) → (f : ScoreFault) → Leads f (faultsFrom s k i) → P f
-unfolding faultsFrom
-from-first s P zero i step f h = absurd h
-from-first s P (suc k) i step f h =
-    ⊎-elim (λ l. step i (omega arith) (omega arith) (λ m a b. absurd (clash (omega arith))) f l)
-    (λ l. from-first s P k (suc i) (λ j a b c. step j (omega arith) (omega arith) (λ m x y. ⊎-elim (λ q. rw (← q) (l .0)) (λ z. c m z y) (eq-or-lt-of-le x))) f (l .1))
-    (leads-parts f (faultsAt s i) (faultsFrom s k (suc i)) h)
+-- ---- lists one after the other: `from k i` is `each i`, `each (i + 1)` and so on, k of them
+module _ {A : Type 0} (each : ℕ → List A) (from : ℕ → ℕ → List A) (ends : (i : ℕ) → from zero i ≡ []) (goes : (k i : ℕ) → from (suc k) i ≡ each i ++ from k (suc i)) where
+  -- P holds of the first element where P holds of the first of each list before which all are empty
+  pub from-first : (P : A → Type 0) (k i : ℕ) → ((j : ℕ) → i ≤ j → j < i + k → ((l : ℕ) → i ≤ l → l < j → each l ≡ []) → (f : A) → Leads f (each j) → P f) → (f : A) → Leads f (from k i) → P f
+  from-first P zero i step f h = absurd (subst (Leads f) (ends i) h)
+  from-first P (suc k) i step f h =
+      ⊎-elim (λ l. step i (omega arith) (omega arith) (λ m a b. absurd (clash (omega arith))) f l)
+      (λ l. from-first P k (suc i) (λ j a b c. step j (omega arith) (omega arith) (λ m x y. ⊎-elim (λ q. rw (← q) (l .0)) (λ z. c m z y) (eq-or-lt-of-le x))) f (l .1))
+      (leads-parts f (each i) (from k (suc i)) (subst (Leads f) (goes k i) h))
 
-from-leads : (s : List ℕ) (f : ScoreFault) (d k i : ℕ) → d < k → ((j : ℕ) → i ≤ j → j < i + d → faultsAt s j ≡ []) → Leads f (faultsAt s (i + d)) → Leads f (faultsFrom s k i)
-unfolding faultsFrom
-from-leads s f zero (suc k) i h b l = let e : i + 0 ≡ i = omega arith in leads-append f (faultsAt s i) (faultsFrom s k (suc i)) (rw e at l)
-from-leads s f (suc d) (suc k) i h b l =
-    let e : i + suc d ≡ suc i + d = omega arith in
-    leads-after f (faultsAt s i) (faultsFrom s k (suc i)) (b i (omega arith) (omega arith)) (from-leads s f d k (suc i) (omega arith) (λ j x y. b j (omega arith) (omega arith)) (rw e at l))
-from-leads s f d zero i h b l = absurd (clash (omega arith))
+  pub from-leads : (f : A) (d k i : ℕ) → d < k → ((j : ℕ) → i ≤ j → j < i + d → each j ≡ []) → Leads f (each (i + d)) → Leads f (from k i)
+  from-leads f zero (suc k) i h b l = let e : i + 0 ≡ i = omega arith in rw (goes k i) (leads-append f (each i) (from k (suc i)) (rw e at l))
+  from-leads f (suc d) (suc k) i h b l =
+      let e : i + suc d ≡ suc i + d = omega arith in
+      rw (goes k i) (leads-after f (each i) (from k (suc i)) (b i (omega arith) (omega arith)) (from-leads f d k (suc i) (omega arith) (λ j x y. b j (omega arith) (omega arith)) (rw e at l)))
+  from-leads f d zero i h b l = absurd (clash (omega arith))
 
 -- ---- the first fault of a score
 module _ (s : List ℕ) where
   only-when : (f : ScoreFault) → Leads f (faultsOf s) → FaultWhen s f
-  unfolding faultsOf
+  unfolding faultsOf faultsFrom
   only-when f h =
       ⊎-elim (λ l. let u = leads-unless f (isSized s) Length l in subst (FaultWhen s) (u .1) (u .0))
-      (λ l. from-first s (FaultWhen s) (countOf s) 0
+      (λ l. from-first (faultsAt s) (faultsFrom s) (λ i. refl) (λ k i. refl) (FaultWhen s) (countOf s) 0
       (λ j a b c. (
       let r : Reaches s j = record { sized = passed (isSized s) Length (l .0); there = omega arith; before = λ m x. right-alone s m (c m (omega arith) x) } in
       at-first s j (FaultWhen s) (λ e. (r, e)) (λ e p. (r, e, p)) (λ e p q. (r, e, p, q)) (λ e p q o. (r, rw (e, p, q) refl, o)))) f (l .1))
       (leads-parts f (unless (isSized s) Length) (faultsFrom s (countOf s) 0) h)
 
   reached : (i : ℕ) → Reaches s i → (f : ScoreFault) → Leads f (faultsAt s i) → verdictOf s ≡ Faulty f
-  unfolding faultsOf verdictOf
+  unfolding faultsOf faultsFrom verdictOf
   reached i r f h =
       let here : Leads f (faultsAt s (0 + i)) = rw (zero-add i) h in
       leads-first f (faultsOf s) Faulty (Accepted (countOf s))
-      (rw (r .sized) (from-leads s f i (countOf s) 0 (r .there) (λ j a b. (let x = r .before j (omega arith) in right-none s j (x .0) (x .1))) here))
+      (rw (r .sized) (from-leads (faultsAt s) (faultsFrom s) (λ i. refl) (λ k i. refl) f i (countOf s) 0 (r .there) (λ j a b. (let x = r .before j (omega arith) in right-none s j (x .0) (x .1))) here))
 
   whenever : (f : ScoreFault) → FaultWhen s f → verdictOf s ≡ Faulty f
   unfolding faultsAt faultsOf verdictOf

@@ -3,6 +3,8 @@
 pub mod Faults
 -- demand 1: each refusal of a call exactly when its row holds first, and then all is left as it came
 pub mod Demand1
+-- the same of a page of edits
+pub mod PageRefusals
 -- buffers cut at a section
 pub mod Cut
 -- what a render leaves, before a section, from one on, and between two

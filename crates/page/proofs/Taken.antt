@@ -231,23 +231,33 @@ module _ (s : List ℕ) (c : ℕ) (h : IsAccepted s) (inside : c < countOf s) wh
   removed-accepted = risen-accepted (removedOf s c) (countOf s - 1) (record { size = closed-size s c kept-whole inside; few = omega (arith, accepted-few s (countOf s) h); right = removed-right; rising = removed-rising })
 
 -- ---- the edits of a list
+-- a record has no fault of its own exactly where it passes its tests
+pub faults-right : (r : List ℕ) (i : ℕ) → recordFaults r i ≡ [] → allRight r 0 ≡ true
+unfolding recordFaults
+faults-right r i h =
+    let b = none-both (unless (markRight r 0) (Mark i) ++ unless (kindRight r 0) (Kind i)) (unless (fieldsRight r 0) (Field i)) h in
+    let a = none-both (unless (markRight r 0) (Mark i)) (unless (kindRight r 0) (Kind i)) (b .0) in
+    rw (passed (markRight r 0) _ (a .0), passed (kindRight r 0) _ (a .1), passed (fieldsRight r 0) _ (b .1)) refl
+
+pub right-faults : (r : List ℕ) (i : ℕ) → allRight r 0 ≡ true → recordFaults r i ≡ []
+unfolding recordFaults
+right-faults r i h =
+    let a = both (markRight r 0 && kindRight r 0) (fieldsRight r 0) h in
+    let b = both (markRight r 0) (kindRight r 0) (a .0) in
+    rw (b .0, b .1, a .1) refl
+
 -- what is known of edit i where it is not refused
 record Free (s es : List ℕ) (i : ℕ) : Type 0 where
   good : allRight (recordOf es i) 0 ≡ true
   held : heldRefusals s es i ≡ []
 
 none-free : (s es : List ℕ) (i : ℕ) → editRefusals s es i ≡ [] → Free s es i
-unfolding editRefusals recordFaults
+unfolding editRefusals
 none-free s es i none =
-    let r = recordOf es i in
-    let mark = unless (markRight r 0) (Mark i) in
-    let kind = unless (kindRight r 0) (Kind i) in
-    let fields = unless (fieldsRight r 0) (Field i) in
-    let a = none-both (unless (frameRight es i) (EditFrame i) ++ map Edit (recordFaults r i)) (heldRefusals s es i) none in
-    let b = none-both (unless (frameRight es i) (EditFrame i)) (map Edit (recordFaults r i)) (a .0) in
-    let c = none-both (mark ++ kind) fields (none-map Edit (recordFaults r i) (b .1)) in
-    let d = none-both mark kind (c .0) in
-    record { good = rw (passed (markRight r 0) _ (d .0), passed (kindRight r 0) _ (d .1), passed (fieldsRight r 0) _ (c .1)); held = a .1 }
+    let faults = recordFaults (recordOf es i) i in
+    let a = none-both (unless (frameRight es i) (EditFrame i) ++ map Edit faults) (heldRefusals s es i) none in
+    let b = none-both (unless (frameRight es i) (EditFrame i)) (map Edit faults) (a .0) in
+    record { good = faults-right (recordOf es i) i (none-map Edit faults (b .1)); held = a .1 }
 
 pub edit-accepted : (s es : List ℕ) (i : ℕ) → i < editsIn es → IsAccepted s → editRefusals s es i ≡ [] → IsAccepted (editedBy s es i)
 unfolding heldRefusals
