@@ -25,7 +25,8 @@ use Rattle.sections.specs.Outcome.{Buffers, samplesIn, roomIn, Lent, Outcome}
 use Rattle.sections.proofs.Room.{room-in}
 use Rattle.score.specs.Record.{countOf}
 use Rattle.score.specs.Score.{markRight, kindRight, fieldsRight}
-use Rattle.score.specs.Apart.{firstEqual}
+use Rattle.score.specs.Apart.{differenceOf, firstEqual}
+use Rattle.score.proofs.Agree.{self-equal}
 use Rattle.score.proofs.Parted.{clash}
 use Rattle.score.proofs.Verdicts.{accepted-faults, none-accepted}
 use Rattle.state.specs.declared.Settings.{Settings}
@@ -33,7 +34,7 @@ use Rattle.state.specs.Settings.{settingsOk}
 use Rattle.judging.specs.Judging.{refusalsOf, Passed, mostSamples}
 use Rattle.judging.proofs.Refusals.{all-passed, none-refused}
 use Rattle.rerender.specs.declared.Plan.{Plan}
-use Rattle.rerender.specs.declared.Plan.the-variants.{Nothing, From}
+use Rattle.rerender.specs.declared.Plan.the-variants.{Nothing}
 use Rattle.rerender.specs.Rerender as rerender
 use Rattle.rerender.specs.Rerender.{planOf, outcomeOf, startRefusals, countFor, rerenderOf}
 use Rattle.rerender.proofs.Cases.{plan-equal, plan-late}
@@ -41,7 +42,8 @@ use Rattle.page.specs.declared.Paged.{Paged}
 use Rattle.page.specs.Page.{editsIn, editByte, frameRight, isInsert, recordOf, insertedOf, removedOf, editedBy, scoreAfter, newScoreOf, recordFaults, heldRefusals, editRefusals, Rewritten, rewrites, paged, pageFits, firstRefusals, keptOf, turnedOver, editOf}
 use Rattle.page.specs.Inner.{IsAccepted, turnOf}
 use Rattle.page.proofs.Taken.{accepted-bytes, after-accepted, made-none}
-use Rattle.page.proofs.Calls.{edit-turns, turn-is}
+use Rattle.page.proofs.Calls.{outcome-done, edit-turns, turn-is}
+use Rattle.page.proofs.Records.{insert-made, insert-is, remove-made, remove-is}
 use Rattle.demands.specs.Demand3.{Taken, BuffersOf, leftIn}
 use Rattle.demands.specs.Demand3 as demand3
 use Rattle.demands.specs.Edits.{editsFrom, lastScore, AllTaken}
@@ -62,11 +64,6 @@ new-taken : (old es : List ℕ) → Taken old → AllMade old es → Taken (newS
 new-taken old es a made = after-taken old es a made (editsIn es) (omega arith)
 
 -- ---- one page, whatever output, shelf and summary hold
--- a run is done
-run-counts : (g : Settings) (old new : List ℕ) (plan : Plan) (b : Buffers) → outcomeOf g old new plan b .result ≡ Done (countFor g old new plan b)
-run-counts g old new Nothing b = refl
-run-counts g old new (From m) b = refl
-
 -- the same refusals decide a re-render and a page
 beside : (new space : List ℕ) (b : Buffers) (o : Outcome Answer) (count : ℕ) → o .result ≡ Done count → (xs : List Refusal)
     → BesideRerender new space (firstOf xs (rerender.keptOf b) o) (firstOf xs (keptOf b space) (turnedOver o new space))
@@ -98,7 +95,7 @@ module _ (g : Settings) (old es : List ℕ) (b : Buffers) (space : List ℕ) (fi
   one-rerender =
       subst (λ (o : Rewritten Paged). BesideRerender new space (rerenderOf g old new b) o) (sym turns)
       (subst (λ (c : Outcome Answer). BesideRerender new space c (firstOf starts (keptOf b space) (turnedOver (outcomeOf g old new plan b) new space))) (sym re-renders)
-      (beside new space b (outcomeOf g old new plan b) (countFor g old new plan b) (run-counts g old new plan b) starts))
+      (beside new space b (outcomeOf g old new plan b) (countFor g old new plan b) (outcome-done g old new b plan) starts))
 
   -- where the re-render is done
   page-done : (count : ℕ) → rerenderOf g old new b .result ≡ Done count → editOf g old es b space ≡ turnedOver (rerenderOf g old new b) new space
@@ -140,7 +137,7 @@ module _ (g : Settings) (ok : settingsOk g ≡ true) (w : T (fits binary64 (g .a
     answered : o .result ≡ allPaged g old pages n
     holds : o .left ≡ wholeOf g (scoreOver old pages) n
     -- the last score is at the front where there is a page, or where the first one was
-    front : (0 < length pages) ⊎ (take (length old) space ≡ old) → take (length (scoreOver old pages)) (o .score) ≡ scoreOver old pages
+    front : (0 < length pages) ⊎ (take (length old) space ≡ old) → take (length (scoreOver old pages)) (o .space) ≡ scoreOver old pages
 
   all-pages : (old : List ℕ) (pages : List (List ℕ)) (space : List ℕ) → Taken old → AllWhole old pages → length space ≡ 40960 → ManyPages old pages space (pagesFrom g old pages (wholeOf g old n) space)
   unfolding pagesFrom scoreOver allPaged
@@ -158,10 +155,10 @@ module _ (g : Settings) (ok : settingsOk g ≡ true) (w : T (fits binary64 (g .a
       (record { answered = ap (λ (l : List Paged). oncePaged g old new n ∷ l) (more .answered); holds = more .holds; front = λ h. more .front (inr (front-new new space)) })
     where
       andOver : Paged → Rewritten (List Paged) → Rewritten (List Paged)
-      andOver r d = rewrites (r ∷ d .result) (d .left) (d .score)
+      andOver r d = rewrites (r ∷ d .result) (d .left) (d .space)
 
       andPages : List (List ℕ) → Rewritten Paged → Rewritten (List Paged)
-      andPages rest c = andOver (c .result) (pagesFrom g (frontOf c) rest (c .left) (c .score))
+      andPages rest c = andOver (c .result) (pagesFrom g (frontOf c) rest (c .left) (c .space))
 
 -- ---- an edit alone in a page
 -- its place is in no test
@@ -314,7 +311,7 @@ module _ (g : Settings) (old : List ℕ) (x : Begins g old) (n : ℕ) (r : Buffe
         record {
           answered = ap (λ (o : Rewritten Paged). o .result) left-page;
           are-rendered = λ q. ap (λ (o : Rewritten Paged). o .left) left-page ∙ sym (left-is g (x .settings) edited (new-taken old es (x .old-taken) (page .all-made)) n q);
-          score-is = ap (λ (o : Rewritten Paged). o .score) left-page;
+          score-is = ap (λ (o : Rewritten Paged). o .space) left-page;
         }
 
     -- from edit 0 on all edits are made
@@ -345,19 +342,21 @@ module _ (g : Settings) (old : List ℕ) (x : Begins g old) (n : ℕ) (r : Buffe
           last-is = last;
           same-left = by .are-rendered r ∙ as-left (scoreOver old pages) last;
           same-score = λ l.
-              ap (λ (s : List ℕ). take (length s) (chain .score)) (sym last) ∙ by .front-is (omega (arith, l, singles-many es (editsIn es) 0)) ∙ last
+              ap (λ (s : List ℕ). take (length s) (chain .space)) (sym last) ∙ by .front-is (omega (arith, l, singles-many es (editsIn es) 0)) ∙ last
               ∙ sym (ap (take (length edited)) (at-once .score-is) ∙ front-new edited space);
         }
 
 pub pages-of-edits : PagesOfEdits
 pages-of-edits =
     record {
+      insert-is = λ old front back r g few v low high. record { all-made = insert-made old front back r g few v low high; score-is = insert-is old front back r g few v low high };
+      remove-is = λ old front back r g first. record { all-made = remove-made old front back r g first; score-is = remove-is old front back r g first };
       new-taken = new-taken;
       at-once = λ g old es space x page room n r. at-once g old x n r es space page room;
       one-at-a-time = λ g old es space x page room n r. one-at-a-time g old x n r es space page room;
       page-by-page = λ g old pages space x c room n r. pages-left g old x n r pages space c room;
       pages-of-one = λ g old es space x page room n r. pages-of-one g old x n r es space page room;
       is-one-rerender = one-rerender;
-      equal = λ g old es b space first made e. nothing-done g old es b space first made (plan-equal old (newScoreOf old es) (samplesIn b) e);
+      equal = λ g old es b space first made e. nothing-done g old es b space first made (plan-equal old (newScoreOf old es) (samplesIn b) (ap (differenceOf old) e ∙ self-equal old));
       late = λ g old es b space first made p e h. nothing-done g old es b space first made (plan-late old (newScoreOf old es) (samplesIn b) p e h);
     }

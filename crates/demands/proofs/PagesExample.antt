@@ -145,10 +145,10 @@ at-once : AtOnce trembling two swap 8192 paper swapCall
 at-once = pages-of-edits .at-once trembling two swap paper swap-begins swap-whole paper-long 8192 lentOnes
 
 -- half of the samples are made again; the offs stand in the other order at the front of the buffer
-pub a-page : (swapCall .result ≡ paged (Done 4096) 20) × (swapCall .score ≡ swapped ++ drop 20 paper)
+pub a-page : (swapCall .result ≡ paged (Done 4096) 20) × (swapCall .space ≡ swapped ++ drop 20 paper)
 a-page = (
   at-once .answered ∙ ap (λ (s : List ℕ). oncePaged trembling two s 8192) swaps ∙ swap-once,
-  at-once .score-is ∙ ap (λ (s : List ℕ). s ++ drop (length s) paper) swaps,
+  at-once .space-is ∙ ap (λ (s : List ℕ). s ++ drop (length s) paper) swaps,
 )
 
 -- what the page leaves is what its two edits leave one at a time, as re-renders and as pages

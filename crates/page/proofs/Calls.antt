@@ -1,18 +1,17 @@
 -- The call, refusal by refusal: 6, 7, the old score's faults and 36, then the edits, then 8; and what one re-render
 -- leaves, with the new score written or not. Assumes nothing.
 use mathlib.Core.Path.{_≡_, refl, sym, ap, _∙_}
-use mathlib.Core.Bool.{Bool, true, _&&_}
+use mathlib.Core.Bool.{true}
 use mathlib.Core.List.{List, [], _∷_, _++_}
-use Prim.Native.Nat.{ℕ, _+_, _%_}
+use Prim.Native.Nat.{ℕ, _+_}
 use native.Mathlib.Omega.{arith}
-use lib.Dec.{eqb}
 use lib.ListN.{length, drop}
 use Rattle.answers.specs.Order.{unless, firstOf}
 use Rattle.answers.specs.declared.Answer.{Answer}
 use Rattle.answers.specs.declared.Answer.the-variants.{Done, Refused}
 use Rattle.answers.specs.declared.Refusal.{Refusal}
 use Rattle.answers.specs.declared.Refusal.the-variants.{Page}
-use Rattle.answers.proofs.Order.{first-append, Leads, leads-first, done-none, refused-leads, none-both, passed, Decided, decided}
+use Rattle.answers.proofs.Order.{first-append, leads-first, done-none, refused-leads, none-both, passed, Decided, decided}
 use Rattle.score.proofs.Parted.{clash}
 use Rattle.state.specs.declared.Settings.{Settings}
 use Rattle.sections.specs.Outcome.{Buffers, samplesIn, roomIn, Outcome, leaves}

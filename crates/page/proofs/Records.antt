@@ -1,17 +1,13 @@
 -- What a list of one edit does to a score, said of records: an insert puts its record behind those at its position or
 -- lower, a remove takes out the first record that is the same. Assumes nothing.
 use mathlib.Core.Path.{_≡_, refl, sym, ap, _∙_}
-use mathlib.Core.Bool.{true}
-use mathlib.Core.List.{List, [], _∷_, _++_, map, append-assoc}
+use mathlib.Core.List.{List, [], _∷_, _++_, append-assoc}
 use mathlib.Core.Logic.{⊎-elim}
 use Prim.Native.Nat.{ℕ, zero, suc, _+_, _*_, _-_, _≤_, _<_}
 use native.Mathlib.Omega.{arith}
-use lib.Dec.{ltb}
-use lib.ListN.{length, getD, take, drop, length-append, List·getD-append}
+use lib.ListN.{length, getD, take, length-append, List·getD-append}
 use lib.Seq.{take-at, drop-at, drop-append-add, getD-append-add, getD-at}
 use borrow.Author.Tests.{lt-ltb}
-use Rattle.answers.specs.declared.Refusal.the-variants.{Edit}
-use Rattle.answers.specs.declared.ScoreFault.{ScoreFault}
 use Rattle.score.specs.declared.Record.{Record}
 use Rattle.score.specs.declared.Verdict.the-variants.{Accepted}
 use Rattle.score.specs.Record.{countOf, positionAt, decodeOf, encodeOf, Valid, blank, encodeAll}

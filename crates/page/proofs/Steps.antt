@@ -1,6 +1,6 @@
 -- The edits on the room, one after the other: what a step says, and one turn of the loop. Assumes nothing.
 use mathlib.Core.Path.{_≡_, refl, sym, ap, _∙_}
-use mathlib.Core.Bool.{Bool, true, false, cond}
+use mathlib.Core.Bool.{true, false}
 use mathlib.Core.List.{List, [], _∷_, _++_, map}
 use Prim.Native.Nat.{ℕ, suc, _+_, _-_, _≤_, _<_}
 use native.Mathlib.Numerals.{add-one}
@@ -11,13 +11,13 @@ use Rattle.answers.specs.Order.{unless, firstOf}
 use Rattle.answers.specs.declared.Answer.the-variants.{Done, Refused}
 use Rattle.answers.specs.declared.Refusal.{Refusal}
 use Rattle.answers.specs.declared.Refusal.the-variants.{EditFrame, NotThere, Full, Edit}
-use Rattle.answers.proofs.Order.{first-append, Leads, leads-first, leads-append, done-none, refused-leads}
+use Rattle.answers.proofs.Order.{Leads, leads-first, leads-append, done-none, refused-leads}
 use Rattle.score.specs.Record.{countOf}
 use Rattle.score.specs.Apart.{firstEqual}
 use Rattle.score.proofs.Parted.{clash}
 use Rattle.page.specs.declared.Applied.{Applied}
 use Rattle.page.specs.declared.Applied.the-variants.{Score, Stopped}
-use Rattle.page.specs.Page.{editsIn, frameRight, isInsert, recordOf, insertedOf, removedOf, editedBy, scoreAfter, newScoreOf, recordFaults, heldRefusals, editRefusals, refusalsFrom}
+use Rattle.page.specs.Page.{editsIn, frameRight, isInsert, recordOf, insertedOf, removedOf, editedBy, scoreAfter, recordFaults, heldRefusals, editRefusals, refusalsFrom}
 use Rattle.page.specs.Inner.{IsAccepted, Holds, Steps}
 use Rattle.page.proofs.Taken.{edit-accepted, accepted-bytes}
 

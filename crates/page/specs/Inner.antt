@@ -2,7 +2,7 @@
 -- refusals. No public statement cites these definitions. Definitions only.
 use mathlib.Core.Path.{_≡_}
 use mathlib.Core.List.{List, [], _++_}
-use Prim.Native.Nat.{ℕ, _+_, _-_, _*_, _≤_}
+use Prim.Native.Nat.{ℕ, _+_, _-_, _≤_}
 use lib.ListN.{length, take, drop}
 use lib.Seq.{paste}
 use Rattle.answers.specs.Order.{firstOf}
