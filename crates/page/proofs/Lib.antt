@@ -11,3 +11,5 @@ pub mod Steps
 pub mod Calls
 -- what a list of one edit does, said of records
 pub mod Records
+-- two outcomes of the public function are equal
+pub mod Unique
