@@ -4,7 +4,7 @@ use mathlib.Core.List.{List, [], _∷_, _++_}
 use Prim.Native.Nat.{ℕ, suc, _+_, _-_, _≤_, _<_}
 use native.Mathlib.Omega.{arith}
 use lib.ListN.{length, getD, set, take, drop, length-append, length-drop, List·getD-append}
-use lib.Seq.{paste, paste-zero, paste-suc, length-paste, drop-paste, take-length, drop-cons, getD-take, getD-drop, set-append-left, take-set-lt, take-suc-set, append-snoc, length-take-le}
+use lib.Seq.{paste, paste-zero, paste-suc, drop-paste, take-length, drop-cons, getD-take, getD-drop, set-append-left, take-set-lt, take-suc-set, append-snoc, length-take-le}
 use Rattle.page.specs.Inner.{putAt, openedOf, closedOf}
 
 -- ---- ten further, the last byte first
@@ -14,10 +14,6 @@ module _ (b : List ℕ) (n : ℕ) where
   opened-none = let e : n - n ≡ 0 = omega arith in rw e (paste-zero b (n + 10) (drop n b))
 
   module _ (fits : n + 10 ≤ length b) where
-    pub opened-length : (k : ℕ) → k ≤ n → length (openedOf b k n) ≡ length b
-    unfolding openedOf
-    opened-length k h = length-paste b (k + 10) (drop k b) (n - k) (omega arith) (rw (length-drop k b) (omega arith))
-
     -- byte j is still in its place when it is moved
     opened-suc : (j : ℕ) → j < n → set (openedOf b (suc j) n) (j + 10) (getD (openedOf b (suc j) n) j 0) ≡ openedOf b j n
     unfolding openedOf
@@ -51,11 +47,6 @@ module _ (b : List ℕ) (k : ℕ) where
   pub closed-none : b ≡ closedOf b k (k + 10)
   unfolding closedOf
   closed-none = let e : k + 10 - (k + 10) ≡ 0 = omega arith in rw e (paste-zero b k (drop (k + 10) b))
-
-  module _ (n : ℕ) (low : k + 10 ≤ n) (fits : n ≤ length b) where
-    pub closed-length : length (closedOf b k n) ≡ length b
-    unfolding closedOf
-    closed-length = length-paste b k (drop (k + 10) b) (n - (k + 10)) (omega arith) (rw (length-drop (k + 10) b) (omega arith))
 
   -- byte i + 10 is still in its place when it is moved
   pub closed-more : (c : List ℕ) (i : ℕ) → k ≤ i → i + 10 < length b → c ≡ closedOf b k (i + 10) → set c i (getD c (i + 10) 0) ≡ closedOf b k (i + 1 + 10)
