@@ -6,7 +6,8 @@ use Prim.Native.Nat.{ℕ, suc, _+_, _-_, _≤_, _<_}
 use native.Mathlib.Numerals.{add-one}
 use native.Mathlib.Omega.{arith}
 use lib.Dec.{ltb}
-use lib.ListN.{length, take}
+use lib.ListN.{length, take, drop, length-append, length-drop}
+use lib.Seq.{take-at}
 use Rattle.answers.specs.Order.{unless, firstOf}
 use Rattle.answers.specs.declared.Answer.the-variants.{Done, Refused}
 use Rattle.answers.specs.declared.Refusal.{Refusal}
@@ -17,8 +18,8 @@ use Rattle.score.specs.Apart.{firstEqual}
 use Rattle.score.proofs.Parted.{clash}
 use Rattle.page.specs.declared.Applied.{Applied}
 use Rattle.page.specs.declared.Applied.the-variants.{Score, Stopped}
-use Rattle.page.specs.Page.{editsIn, frameRight, isInsert, recordOf, insertedOf, removedOf, editedBy, scoreAfter, recordFaults, heldRefusals, editRefusals, refusalsFrom}
-use Rattle.page.specs.Inner.{IsAccepted, Holds, Steps}
+use Rattle.page.specs.Page.{editsIn, frameRight, isInsert, recordOf, insertedOf, removedOf, editedBy, scoreAfter, newScoreOf, recordFaults, heldRefusals, editRefusals, refusalsFrom}
+use Rattle.page.specs.Inner.{IsAccepted, Holds, putAt, Steps}
 use Rattle.page.proofs.Taken.{edit-accepted, accepted-bytes}
 
 -- ---- what a step says
@@ -85,7 +86,35 @@ pub record Applying (old es : List ℕ) (n : ℕ) (room : List ℕ) (len i : ℕ
   pub accepted : IsAccepted (scoreAfter old es i)
   pub rest : refusalsFrom old es n 0 ≡ refusalsFrom old es (n - i) i
 
+-- before the first edit the old score is there
+pub applying-begins : (old es : List ℕ) (n : ℕ) (came room : List ℕ) → IsAccepted old → length came ≡ 40960 → room ≡ putAt came 0 old → Applying old es n room (length old) 0
+unfolding scoreAfter
+applying-begins old es n came room accepted whole put =
+    let bytes = accepted-bytes old accepted in
+    let z : 0 + length old ≡ length old = omega arith in
+    let is : room ≡ old ++ drop (length old) came = put ∙ ap (λ (k : ℕ). old ++ drop k came) z in
+    let all : n ≡ n - 0 = omega arith in
+    record {
+      whole = ap length is ∙ length-append old (drop (length old) came) ∙ rw (length-drop (length old) came) (omega (arith, bytes));
+      inside = omega arith;
+      long = refl;
+      front = ap (take (length old)) is ∙ take-at old (drop (length old) came) (length old) refl;
+      accepted = accepted;
+      rest = ap (λ (k : ℕ). refusalsFrom old es k 0) all;
+    }
+
 module _ (old es : List ℕ) (n : ℕ) (room : List ℕ) (len i : ℕ) (a : Applying old es n room len i) where
+  -- after the last edit nothing is left to refuse
+  pub applying-ends : n ≡ editsIn es → n ≤ i → Steps (refusalsFrom old es (editsIn es) 0) (newScoreOf old es) (Score len) room
+  unfolding refusalsFrom
+  applying-ends all end =
+      let last : i ≡ n = omega (arith, a .inside) in
+      let over : n - i ≡ 0 = omega arith in
+      let none : refusalsFrom old es (editsIn es) 0 ≡ [] = ap (λ (k : ℕ). refusalsFrom old es k 0) (sym all) ∙ a .rest ∙ ap (λ (k : ℕ). refusalsFrom old es k i) over in
+      let new : scoreAfter old es i ≡ newScoreOf old es = ap (scoreAfter old es) (last ∙ all) in
+      let long : len ≡ length (newScoreOf old es) = a .long ∙ ap length new in
+      record { told = rw (none, long) refl; whole = a .whole; front = λ e. ap (λ (k : ℕ). take k room) (sym long) ∙ a .front ∙ new }
+
   pub applying-holds : Holds room len
   applying-holds =
       let e = a .front in
