@@ -148,7 +148,7 @@ at-once = pages-of-edits .at-once trembling two swap paper swap-begins swap-whol
 pub a-page : (swapCall .result ≡ paged (Done 4096) 20) × (swapCall .space ≡ swapped ++ drop 20 paper)
 a-page = (
   at-once .answered ∙ ap (λ (s : List ℕ). oncePaged trembling two s 8192) swaps ∙ swap-once,
-  at-once .space-is ∙ ap (λ (s : List ℕ). s ++ drop (length s) paper) swaps,
+  at-once .score-is ∙ ap (λ (s : List ℕ). s ++ drop (length s) paper) swaps,
 )
 
 -- what the page leaves is what its two edits leave one at a time, as re-renders and as pages

@@ -3,15 +3,18 @@
 use mathlib.Core.Path.{_≡_, refl, sym, ap, _∙_}
 use mathlib.Core.Bool.{true}
 use mathlib.Core.List.{List, [], _∷_, _++_}
-use Prim.Native.Nat.{ℕ, _+_}
+use Prim.Native.Nat.{ℕ, _+_, _%_, _≤_}
 use native.Mathlib.Omega.{arith}
-use lib.ListN.{length, drop}
+use lib.Dec.{eqb}
+use lib.ListN.{length, take, drop}
+use borrow.Author.Tests.{eqb-true}
 use Rattle.answers.specs.Order.{unless, firstOf}
 use Rattle.answers.specs.declared.Answer.{Answer}
 use Rattle.answers.specs.declared.Answer.the-variants.{Done, Refused}
 use Rattle.answers.specs.declared.Refusal.{Refusal}
 use Rattle.answers.specs.declared.Refusal.the-variants.{Page}
 use Rattle.answers.proofs.Order.{first-append, leads-first, done-none, refused-leads, none-both, passed, Decided, decided}
+use Rattle.score.proofs.Codec.{both}
 use Rattle.score.proofs.Parted.{clash}
 use Rattle.state.specs.declared.Settings.{Settings}
 use Rattle.sections.specs.Outcome.{Buffers, samplesIn, roomIn, Outcome, leaves}
@@ -24,7 +27,11 @@ use Rattle.rerender.specs.Rerender as rerendering
 use Rattle.rerender.proofs.Cases.{checks-pass}
 use Rattle.page.specs.declared.Paged.{Paged}
 use Rattle.page.specs.Page.{editsIn, newScoreOf, refusalsFrom, Rewritten, rewrites, paged, pageFits, firstRefusals, pageRefusals, keptOf, turnedOver, editOf}
-use Rattle.page.specs.Inner.{IsAccepted, putAt, turnOf, editIn}
+use Rattle.page.specs.Inner.{IsAccepted, putAt, Steps, turnOf, editIn}
+use Rattle.page.specs.declared.Applied.{Applied}
+use Rattle.page.specs.declared.Applied.the-variants.{Score, Stopped}
+use Rattle.page.proofs.Taken.{after-accepted, accepted-bytes, none-made}
+use Rattle.page.proofs.Steps.{step-stopped, step-none, step-length, step-front}
 
 -- ---- the re-render
 -- where nothing before 8 refuses, 8 alone does
@@ -70,6 +77,36 @@ module _ (g : Settings) (old new : List ℕ) (b : Buffers) (space : List ℕ) (p
   unfolding turnOf
   turn-done k r ys w =
       after-done (outcomeOf g old new plan b) _ (outcome-done g old new b plan) b new space (startRefusals new plan (b .stored)) a c (e ∙ turn-is g old new b p accepted) k r ys (w ∙ put-front space new)
+
+-- ---- the edits in the room, and then that
+module _ (old es : List ℕ) (accepted : IsAccepted old) (a : Applied) (room : List ℕ) (s : Steps (refusalsFrom old es (editsIn es) 0) (newScoreOf old es) a room) where
+  module _ (len : ℕ) (e : a ≡ Score len) where
+    front-is : take len room ≡ newScoreOf old es
+    front-is = step-front _ _ a room s len e
+
+    pub made-accepted : IsAccepted (take len room)
+    made-accepted =
+        rw front-is
+        (after-accepted old es accepted (editsIn es) (omega arith) (λ i l. none-made old es (editsIn es) 0 (step-none _ _ a room s len e) i (omega arith) (omega arith)))
+
+    pub made-long : len ≡ length (take len room)
+    made-long = sym (step-length _ _ a room s len e) ∙ ap length (sym front-is)
+
+    made-bytes : length (take len room) ≤ 40960
+    made-bytes = accepted-bytes (take len room) made-accepted
+
+    pub made-inside : len ≤ length room
+    made-inside = omega (arith, made-long, made-bytes, s .whole)
+
+    pub made-fits : (space : List ℕ) → pageFits es space ≡ true → length (take len room) ≤ length space
+    made-fits space f = let whole : length space ≡ 40960 = eqb-true _ _ (both (eqb (length es % 14) 0) (eqb (length space) 40960) f .1) in omega (arith, made-bytes)
+
+  module _ (g : Settings) (b : Buffers) (space : List ℕ) where
+    pub edit-in-stops : (why : Refusal) → a ≡ Stopped why → rewrites (paged (Refused why) 0) b space ≡ editIn g old es b space
+    edit-in-stops why e = sym (leads-first why (refusalsFrom old es (editsIn es) 0) (keptOf b space) (turnOf g old (newScoreOf old es) b space) (step-stopped _ _ a room s why e))
+
+    pub edit-in-turns : (len : ℕ) → a ≡ Score len → turnOf g old (take len room) b space ≡ editIn g old es b space
+    edit-in-turns len e = rw (step-none _ _ a room s len e, front-is len e) refl
 
 -- ---- the refusals before the edits
 module _ (g : Settings) (old es : List ℕ) (b : Buffers) (space : List ℕ) where

@@ -12,8 +12,7 @@ use Rattle.page.specs.Page.{Rewritten, rewrites, editOf}
 pub same-rewritten : {R : Type 0} (o : Rewritten R) (r t : R) (ys zs : List Float) (ws vs : List ℕ) (ms ns : List Float) (is js : List ℕ) (xs us : List ℕ)
     → rewrites r (lends ys ws ms is) xs ≡ o → rewrites t (lends zs vs ns js) us ≡ o → (r ≡ t) × (ys ≡ zs) × (ws ≡ vs) × (ms ≡ ns) × (is ≡ js) × (xs ≡ us)
 same-rewritten {R} o r t ys zs ws vs ms ns is js xs us p q =
-    let e : rewrites r (lends ys ws ms is) xs ≡ rewrites t (lends zs vs ns js) us = p ∙ sym q in
-    (
+    let e : rewrites r (lends ys ws ms is) xs ≡ rewrites t (lends zs vs ns js) us = p ∙ sym q in (
       ap (λ (x : Rewritten R). x .result) e,
       ap (λ (x : Rewritten R). x .left .heard) e,
       ap (λ (x : Rewritten R). x .left .stored) e,
