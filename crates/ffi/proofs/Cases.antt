@@ -20,6 +20,8 @@ use Rattle.floats.specs.Double.{zero64}
 use Rattle.judging.specs.Judging.{refusalsOf, partFits}
 use Rattle.listing.specs.Listing.{listingOf}
 use Rattle.listing.specs.Outcome.{Listed}
+use Rattle.page.specs.declared.Paged.{Paged}
+use Rattle.page.specs.Page.{rewrites, editOf}
 use Rattle.render.specs.declared.Rendered.{Rendered}
 use Rattle.render.specs.Calls.{renderOf, PartOutcome, leavesPart, isGiven, continueRefusals, madePart, continueOf}
 use Rattle.render.proofs.Outcomes.{continue-decided}
@@ -39,9 +41,19 @@ use Rattle.ffi.specs.declared.Shape.{Shape}
 use Rattle.ffi.specs.declared.Shape.the-variants as shape
 use Rattle.ffi.specs.declared.Choice.{Choice}
 use Rattle.ffi.specs.declared.Choice.the-variants.{Known, Unknown}
-use Rattle.ffi.specs.Packed.{packedOf}
+use Rattle.ffi.specs.Packed.{wordOf, packedOf, packedPage}
 use Rattle.ffi.proofs.Lines.{listing-starts}
-use Rattle.ffi.specs.Ffi.{fills, Continued, continues, singleFor, rendered, renderFor, rerendered, rerenderFor, isGivenIn, madeIn, keptIn, continueIn, continueFor, freshFor, listRoom, listFor}
+use Rattle.ffi.specs.Ffi.{fills, Continued, continues, singleFor, rendered, renderFor, rerendered, rerenderFor, edited, editFor, isGivenIn, madeIn, keptIn, continueIn, continueFor, freshFor, listRoom, listFor}
+
+-- ---- the word of a page
+module _ (p : Paged) (word : ℕ) where
+  pub page-done : (n : ℕ) → p .answer ≡ Done n → word ≡ wordOf (record { number = 0; place = p .bytes; count = n }) → word ≡ packedPage p
+  unfolding packedPage
+  page-done n e q = rw (q, e) refl
+
+  pub page-refused : (why : Refusal) → p .answer ≡ Refused why → word ≡ packedOf (p .answer) → word ≡ packedPage p
+  unfolding packedOf packedPage
+  page-refused why e q = rw (q, e) refl
 
 -- ---- a single sample
 pub single-known : (x : Shape) (phase dt : Float) {w : Waveform} → x ≡ shape.Known w → sampleOf w phase dt ≡ singleFor x phase dt
@@ -50,13 +62,16 @@ single-known x phase dt e = rw e refl
 pub single-unknown : (x : Shape) (phase dt : Float) → x ≡ shape.Unknown → valueOr (unless false Setting) zero64 ≡ singleFor x phase dt
 single-unknown x phase dt e = rw e refl
 
--- ---- render, re-render and continue
+-- ---- render, re-render, page of edits and continue
 module _ (choice : Choice) (g : Settings) (e : choice ≡ Known g) where
   pub render-known : (s : List ℕ) (b c : Buffers) (r : Rendered) → leaves r c ≡ renderOf g s b → (word : ℕ) → word ≡ packedOf (r .answer) → leaves word c ≡ renderFor choice s b
   render-known s b c r x word p = rw (e, p) (ap rendered x)
 
   pub rerender-known : (old new : List ℕ) (b c : Buffers) (said : Answer) → leaves said c ≡ rerenderOf g old new b → (word : ℕ) → word ≡ packedOf said → leaves word c ≡ rerenderFor choice old new b
   rerender-known old new b c said x word p = rw (e, p) (ap rerendered x)
+
+  pub edit-known : (old es : List ℕ) (b c : Buffers) (space left : List ℕ) (r : Paged) → rewrites r c left ≡ editOf g old es b space → (word : ℕ) → word ≡ packedPage r → rewrites word c left ≡ editFor choice old es b space
+  edit-known old es b c space left r x word p = rw (e, p) (ap edited x)
 
   pub continue-known : (s ws : List ℕ) (p : ℕ) (part : List Float) (o : Continued ℕ) → o ≡ continueIn g s ws p part → o ≡ continueFor choice s ws p part
   continue-known s ws p part o x = rw e x
@@ -67,6 +82,9 @@ module _ (choice : Choice) (e : choice ≡ Unknown) (word : ℕ) (q : word ≡ p
 
   pub rerender-unknown : (old new : List ℕ) (b : Buffers) → leaves word b ≡ rerenderFor choice old new b
   rerender-unknown old new b = rw (e, q) refl
+
+  pub edit-unknown : (old es : List ℕ) (b : Buffers) (space : List ℕ) → rewrites word b space ≡ editFor choice old es b space
+  edit-unknown old es b space = rw (e, q) refl
 
   pub continue-unknown : (s ws : List ℕ) (p : ℕ) (part : List Float) → continues word part ws ≡ continueFor choice s ws p part
   continue-unknown s ws p part = rw (e, q) refl

@@ -9,14 +9,16 @@ use native.Mathlib.Omega.{arith}
 use borrow.Author.Tests.{ne-eqb}
 use lib.Dec.{eqb}
 use lib.Ieee.{Float, binary64, ofBits, neg, add, sub, mul, div, le, lt, eq}
+use Rattle.answers.specs.declared.Answer.{Answer}
 use Rattle.answers.specs.declared.Answer.the-variants.{Done, Refused}
-use Rattle.answers.specs.declared.Refusal.the-variants.{Score, NewScore, Setting, Argument}
-use Rattle.answers.specs.declared.ScoreFault.the-variants.{Kind, Order}
+use Rattle.answers.specs.declared.Refusal.the-variants.{Score, NewScore, Setting, Argument, EditFrame, NotThere, Full, Page, Edit}
+use Rattle.answers.specs.declared.ScoreFault.the-variants.{Kind, Field, Order}
 use Rattle.floats.specs.Double.{zero64, half}
 use Rattle.floats.specs.Floor.{floorOf}
 use Rattle.answers.specs.Value.{valueOr}
+use Rattle.page.specs.Page.{paged}
 use Rattle.polyblep.specs.Polyblep.{roundedBlampOf, roundedOf}
-use Rattle.ffi.specs.Packed.{packedOf}
+use Rattle.ffi.specs.Packed.{packedOf, packedPage}
 use Rattle.state.specs.declared.Keying.the-variants.{Struck, Joined}
 use Rattle.waveform.specs.declared.Waveform.the-variants.{Sine, Square, Sawtooth, Triangle, Pulse, RoundedTriangle}
 use Rattle.ffi.specs.declared.Shape.the-variants as shape
@@ -30,6 +32,13 @@ use Rattle.ffi.specs.Ffi.{asks, shapeOf, mannerOf, settingsOf, choiceOf,
 pub words : map packedOf (Done 0 ∷ Done 4096 ∷ Refused (Score (Order 1)) ∷ Refused (NewScore (Kind 3)) ∷ Refused Setting ∷ []) ≡ 0 ∷ 0x1000_0000_0000 ∷ 0x105 ∷ 0x313 ∷ 6 ∷ []
 unfolding packedOf
 words = refl
+
+-- pages: done, with 4,096 samples and a new score of 20 bytes; edit 2 has a wrong
+-- frame; edit 1 removes what is not there; edit 70,000 inserts into 4,096 records; 36; the record of edit 3 has a wrong
+-- field
+pub pages : map (λ (a : Answer). packedPage (paged a 20)) (Done 4096 ∷ Refused (EditFrame 2) ∷ Refused (NotThere 1) ∷ Refused (Full 70000) ∷ Refused Page ∷ Refused (Edit (Field 3)) ∷ []) ≡ 0x1000_0000_1400 ∷ 0x221 ∷ 0x122 ∷ 0x111_7023 ∷ 0x24 ∷ 0x334 ∷ []
+unfolding packedPage
+pages = refl
 
 abbrev nan : Float
 nan = ofBits binary64 0x7ff8_0000_0000_0000

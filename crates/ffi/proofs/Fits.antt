@@ -1,12 +1,12 @@
 -- Every answer that the desk packs fits its word: its number is below 2^8, its place below 2^24, its count below 2^32.
 -- Assumes nothing.
-use mathlib.Core.Path.{_≡_, subst}
-use mathlib.Core.Bool.{Bool, _&&_}
+use mathlib.Core.Path.{_≡_, refl, subst}
+use mathlib.Core.Bool.{Bool, true, false, cond, _&&_}
 use mathlib.Core.List.{List, [], _++_, map}
 use mathlib.Core.Logic.{⊎-elim}
-use Prim.Native.Nat.{ℕ, zero, suc, _+_, _-_, _*_, _%_, _≤_, _<_}
+use Prim.Native.Nat.{ℕ, zero, suc, _+_, _-_, _%_, _≤_, _<_}
 use native.Mathlib.Omega.{arith}
-use lib.Dec.{leb, eqb}
+use lib.Dec.{ltb, leb, eqb}
 use lib.ListN.{length}
 use lib.Ieee.{Float}
 use borrow.Author.Tests.{leb-true}
@@ -15,24 +15,30 @@ use Rattle.sections.proofs.Room.{in-room}
 use Rattle.answers.specs.declared.Answer.{Answer}
 use Rattle.answers.specs.declared.Answer.the-variants.{Done, Refused}
 use Rattle.answers.specs.declared.Refusal.{Refusal}
-use Rattle.answers.specs.declared.Refusal.the-variants.{Score, NewScore, Setting, Size, StartEntry, Argument, GivenState}
+use Rattle.answers.specs.declared.Refusal.the-variants.{Score, NewScore, Setting, Size, StartEntry, Argument, GivenState, EditFrame, NotThere, Full, Page, Edit}
 use Rattle.answers.specs.declared.ScoreFault.{ScoreFault}
 use Rattle.answers.specs.declared.ScoreFault.the-variants.{Length, Mark, Kind, Field, Order}
+use Rattle.answers.specs.declared.Numbers.{Numbers}
 use Rattle.answers.specs.declared.Value.{Value}
 use Rattle.answers.specs.Numbers.{faultNumber, faultPlace, refusalNumber, refusalPlace, numbersOf}
 use Rattle.answers.specs.Order.{unless, firstOf}
 use Rattle.answers.specs.Value.{valueOr}
 use Rattle.answers.proofs.Order.{passed, none-both, Leads, first-holds, leads-parts, leads-unless, leads-map}
-use Rattle.judging.specs.Judging.{refusalsOf, newRefusalsOf, mostSamples, partFits}
+use Rattle.judging.specs.Judging.{refusalsOf, Passed, newRefusalsOf, mostSamples, partFits}
 use Rattle.judging.proofs.Refusals.{all-passed}
 use Rattle.domain.specs.Domain.{isPhase}
+use Rattle.page.specs.declared.Paged.{Paged}
+use Rattle.page.specs.Page as page
+use Rattle.page.specs.Page.{editsIn, frameRight, isInsert, recordOf, scoreAfter, newScoreOf, recordFaults, heldRefusals, editRefusals, refusalsFrom, Rewritten, pageFits, firstRefusals, pageRefusals, turnedOver, editOf}
+use Rattle.page.proofs.Taken.{accepted-bytes, after-accepted, none-made}
 use Rattle.render.specs.declared.Rendered.{Rendered}
 use Rattle.render.specs.Calls.{madeOf, renderOf, continueRefusals}
 use Rattle.rerender.specs.declared.Plan.{Plan}
 use Rattle.rerender.specs.declared.Plan.the-variants.{Nothing, From}
-use Rattle.rerender.specs.Rerender.{planOf, isStart, stopOf, outcomeOf, startRefusals, rerenderRefusals, keptOf, rerenderOf}
+use Rattle.rerender.specs.Rerender.{planOf, isStart, stopOf, outcomeOf, startRefusals, rerenderRefusals, keptOf, rerenderOf, countFor}
 use Rattle.rerender.proofs.Cases.{checks, all-checked}
 use Rattle.score.specs.Record.{countOf}
+use Rattle.score.specs.Apart.{firstEqual}
 use Rattle.score.specs.Score.{markRight, kindRight, fieldsRight, inOrder, faultsAt, faultsFrom, faultsOf, answerOf}
 use Rattle.score.proofs.Codec.{both}
 use Rattle.state.specs.declared.Settings.{Settings}
@@ -42,96 +48,118 @@ use Rattle.ffi.specs.declared.Shape.{Shape}
 use Rattle.ffi.specs.declared.Shape.the-variants as shape
 use Rattle.ffi.specs.declared.Choice.{Choice}
 use Rattle.ffi.specs.declared.Choice.the-variants.{Known, Unknown}
+use Rattle.ffi.specs.Packed.{pagedNumbers}
 use Rattle.ffi.specs.Ffi.{shapeOf, singleFor, singleOf, isGivenIn}
 
-pub record Fits (a : Answer) : Type 0 where
-  pub number-fits : numbersOf a .number < 256
-  pub place-fits : numbersOf a .place < 16777216
-  pub count-fits : numbersOf a .count < 4294967296
+pub record Fitting (n : Numbers) : Type 0 where
+  pub number-fits : n .number < 256
+  pub place-fits : n .place < 16777216
+  pub count-fits : n .count < 4294967296
+
+abbrev pub Fits : Answer → Type 0
+Fits a = Fitting (numbersOf a)
 
 -- ---- numbers and places
-fault-number : (f : ScoreFault) → faultNumber f ≤ 5
-fault-number Length = omega arith
-fault-number (Mark i) = omega arith
-fault-number (Kind i) = omega arith
-fault-number (Field i) = omega arith
-fault-number (Order i) = omega arith
+abbrev pub Between : ℕ → ℕ → Type 0
+Between n top = (1 ≤ n) × (n ≤ top)
 
-refusal-number : (r : Refusal) → refusalNumber r < 256
-refusal-number (Score f) = omega (arith, fault-number f)
-refusal-number (NewScore f) = omega (arith, fault-number f)
-refusal-number Setting = omega arith
-refusal-number Size = omega arith
-refusal-number StartEntry = omega arith
-refusal-number Argument = omega arith
-refusal-number GivenState = omega arith
+fault-number : (f : ScoreFault) → Between (faultNumber f) 5
+fault-number Length = (omega arith, omega arith)
+fault-number (Mark i) = (omega arith, omega arith)
+fault-number (Kind i) = (omega arith, omega arith)
+fault-number (Field i) = (omega arith, omega arith)
+fault-number (Order i) = (omega arith, omega arith)
+
+pub refusal-number : (r : Refusal) → Between (refusalNumber r) 53
+refusal-number (Score f) = let b = fault-number f in (b .0, omega (arith, b .1))
+refusal-number (NewScore f) = let b = fault-number f in (omega arith, omega (arith, b .1))
+refusal-number Setting = (omega arith, omega arith)
+refusal-number Size = (omega arith, omega arith)
+refusal-number StartEntry = (omega arith, omega arith)
+refusal-number Argument = (omega arith, omega arith)
+refusal-number GivenState = (omega arith, omega arith)
+refusal-number (EditFrame i) = (omega arith, omega arith)
+refusal-number (NotThere i) = (omega arith, omega arith)
+refusal-number (Full i) = (omega arith, omega arith)
+refusal-number Page = (omega arith, omega arith)
+refusal-number (Edit f) = let b = fault-number f in (omega arith, omega (arith, b .1))
 
 pub done-fits : (n : ℕ) → n < 4294967296 → Fits (Done n)
 done-fits n h = record { number-fits = omega arith; place-fits = omega arith; count-fits = h }
 
-pub refused-fits : (r : Refusal) → refusalPlace r ≤ 4096 → Fits (Refused r)
-refused-fits r h = record { number-fits = refusal-number r; place-fits = omega arith; count-fits = omega arith }
+pub refused-fits : (r : Refusal) → refusalPlace r ≤ 16777215 → Fits (Refused r)
+refused-fits r h = record { number-fits = omega (arith, refusal-number r .1); place-fits = omega arith; count-fits = omega arith }
+
+-- ---- the places in a list of faults or of refusals: that of the first one, which is given, is at most n
+abbrev Low : {A : Type 0} → (A → ℕ) → ℕ → List A → Type 0
+Low {A} place n xs = (why : A) → Leads why xs → place why ≤ n
+
+module _ {A : Type 0} (place : A → ℕ) {n : ℕ} where
+  unless-low : (t : Bool) (x : A) → place x ≤ n → Low place n (unless t x)
+  unless-low t x l why h = subst (λ (y : A). place y ≤ n) (leads-unless why t x h .1) l
+
+  append-low : (xs ys : List A) → Low place n xs → Low place n ys → Low place n (xs ++ ys)
+  append-low xs ys a b why h = ⊎-elim (λ l. a why l) (λ l. b why (l .1)) (leads-parts why xs ys h)
+
+  map-low : {B : Type 0} (f : B → A) (xs : List B) → Low (λ x. place (f x)) n xs → Low place n (map f xs)
+  map-low f xs low why h = let x = leads-map f why xs h in subst (λ (y : A). place y ≤ n) (x .2) (low (x .0) (x .1))
+
+  wider : {m : ℕ} (xs : List A) → m ≤ n → Low place m xs → Low place n xs
+  wider xs l low why h = omega (arith, low why h)
 
 -- ---- the place of a score's fault is at most 4,096
-record-low : (s : List ℕ) (i : ℕ) (f : ScoreFault) → Leads f (faultsAt s i) → faultPlace f ≤ i
+-- the faults of a record alone, whichever of them it has
+alone-low : (mark kind fields : Bool) (i : ℕ) → Low faultPlace i (unless mark (Mark i) ++ unless kind (Kind i) ++ unless fields (Field i))
+alone-low mark kind fields i =
+    append-low faultPlace (unless mark (Mark i) ++ unless kind (Kind i)) (unless fields (Field i))
+    (append-low faultPlace (unless mark (Mark i)) (unless kind (Kind i)) (unless-low faultPlace mark (Mark i) (omega arith)) (unless-low faultPlace kind (Kind i) (omega arith)))
+    (unless-low faultPlace fields (Field i) (omega arith))
+
+record-low : (s : List ℕ) (i : ℕ) → Low faultPlace i (faultsAt s i)
 unfolding faultsAt
-record-low s i f h =
-    let sectionSize = unless (markRight s i) (Mark i) in
-    let kind = unless (kindRight s i) (Kind i) in
-    let fields = unless (fieldsRight s i) (Field i) in
-    ⊎-elim
-    (λ h. ⊎-elim
-    (λ h. ⊎-elim (λ h. here (markRight s i) (Mark i) (omega arith) h) (λ h. here (kindRight s i) (Kind i) (omega arith) (h .1)) (leads-parts f sectionSize kind h))
-    (λ h. here (fieldsRight s i) (Field i) (omega arith) (h .1)) (leads-parts f (sectionSize ++ kind) fields h))
-    (λ h. here (inOrder s i) (Order i) (omega arith) (h .1)) (leads-parts f (sectionSize ++ kind ++ fields) (unless (inOrder s i) (Order i)) h)
-  where
-    here : (t : Bool) (x : ScoreFault) → faultPlace x ≤ i → Leads f (unless t x) → faultPlace f ≤ i
-    here t x l h = subst (λ (y : ScoreFault). faultPlace y ≤ i) (leads-unless f t x h .1) l
+record-low s i =
+    append-low faultPlace (unless (markRight s i) (Mark i) ++ unless (kindRight s i) (Kind i) ++ unless (fieldsRight s i) (Field i)) (unless (inOrder s i) (Order i))
+    (alone-low (markRight s i) (kindRight s i) (fieldsRight s i) i) (unless-low faultPlace (inOrder s i) (Order i) (omega arith))
 
-from-low : (s : List ℕ) (k i : ℕ) (f : ScoreFault) → Leads f (faultsFrom s k i) → faultPlace f ≤ i + k
+from-low : (s : List ℕ) (k i : ℕ) → Low faultPlace (i + k) (faultsFrom s k i)
 unfolding faultsFrom
-from-low s zero i f h = absurd h
-from-low s (suc k) i f h =
-    ⊎-elim (λ h. omega (arith, record-low s i f h)) (λ h. omega (arith, from-low s k (suc i) f (h .1))) (leads-parts f (faultsAt s i) (faultsFrom s k (suc i)) h)
+from-low s zero i = λ f h. absurd h
+from-low s (suc k) i =
+    let later = faultsFrom s k (suc i) in
+    append-low faultPlace (faultsAt s i) later (wider faultPlace (faultsAt s i) (omega arith) (record-low s i)) (wider faultPlace later (omega arith) (from-low s k (suc i)))
 
-fault-low : (s : List ℕ) (f : ScoreFault) → Leads f (faultsOf s) → faultPlace f ≤ 4096
+fault-low : (s : List ℕ) → Low faultPlace 4096 (faultsOf s)
 unfolding faultsOf
 fault-low s f h =
     let sized = eqb (length s % 10) 0 && leb (countOf s) 4096 in
-    ⊎-elim (λ h. subst (λ (y : ScoreFault). faultPlace y ≤ 4096) (leads-unless f sized Length h .1) (omega arith))
+    ⊎-elim (λ h. unless-low faultPlace sized Length (omega arith) f h)
     (λ h. let few : countOf s ≤ 4096 = leb-true _ _ (both (eqb (length s % 10) 0) (leb (countOf s) 4096) (passed sized Length (h .0)) .1) in omega (arith, from-low s (countOf s) 0 f (h .1)))
     (leads-parts f (unless sized Length) (faultsFrom s (countOf s) 0) h)
 
--- ---- so is the place of every refusal in a list
-abbrev Low : List Refusal → Type 0
-Low xs = (why : Refusal) → Leads why xs → refusalPlace why ≤ 4096
+-- ---- the place of a call's refusal fits its bits
+abbrev Placed : List Refusal → Type 0
+Placed xs = Low refusalPlace 16777215 xs
 
-unless-low : (t : Bool) (x : Refusal) → refusalPlace x ≤ 4096 → Low (unless t x)
-unless-low t x l why h = subst (λ (y : Refusal). refusalPlace y ≤ 4096) (leads-unless why t x h .1) l
+score-low : (s : List ℕ) → Placed (map Score (faultsOf s))
+score-low s = map-low refusalPlace Score (faultsOf s) (wider faultPlace (faultsOf s) (omega arith) (fault-low s))
 
-append-low : (xs ys : List Refusal) → Low xs → Low ys → Low (xs ++ ys)
-append-low xs ys a b why h = ⊎-elim (λ l. a why l) (λ l. b why (l .1)) (leads-parts why xs ys h)
-
-score-low : (s : List ℕ) → Low (map Score (faultsOf s))
-score-low s why h = let x = leads-map Score why (faultsOf s) h in subst (λ (y : Refusal). refusalPlace y ≤ 4096) (x .2) (fault-low s (x .0) (x .1))
-
-new-low : (s : List ℕ) → Low (newRefusalsOf s)
+new-low : (s : List ℕ) → Placed (newRefusalsOf s)
 unfolding newRefusalsOf
-new-low s why h = let x = leads-map NewScore why (faultsOf s) h in subst (λ (y : Refusal). refusalPlace y ≤ 4096) (x .2) (fault-low s (x .0) (x .1))
+new-low s = map-low refusalPlace NewScore (faultsOf s) (wider faultPlace (faultsOf s) (omega arith) (fault-low s))
 
-judged-low : (g : Settings) (room : Bool) (s : List ℕ) → Low (refusalsOf g room s)
+judged-low : (g : Settings) (room : Bool) (s : List ℕ) → Placed (refusalsOf g room s)
 unfolding refusalsOf
 judged-low g room s =
-    append-low (unless (settingsOk g) Setting ++ unless room Size) (map Score (faultsOf s))
-    (append-low (unless (settingsOk g) Setting) (unless room Size) (unless-low (settingsOk g) Setting (omega arith)) (unless-low room Size (omega arith)))
+    append-low refusalPlace (unless (settingsOk g) Setting ++ unless room Size) (map Score (faultsOf s))
+    (append-low refusalPlace (unless (settingsOk g) Setting) (unless room Size) (unless-low refusalPlace (settingsOk g) Setting (omega arith)) (unless-low refusalPlace room Size (omega arith)))
     (score-low s)
 
 -- ---- the calls
 -- an answer that is the first of such refusals, or done with a count below 2^32
-first-fits : (xs : List Refusal) → Low xs → (n : ℕ) → (xs ≡ [] → n < 4294967296) → Fits (firstOf xs Refused (Done n))
+first-fits : (xs : List Refusal) → Placed xs → (n : ℕ) → (xs ≡ [] → n < 4294967296) → Fits (firstOf xs Refused (Done n))
 first-fits xs low n h = first-holds Fits xs Refused (Done n) (λ why l. refused-fits why (low why l)) (λ none. done-fits n (h none))
 
-value-fits : (xs : List Refusal) → Low xs → (x : Float) → Fits (valueOr xs x .answer)
+value-fits : (xs : List Refusal) → Placed xs → (x : Float) → Fits (valueOr xs x .answer)
 value-fits xs low x = first-holds (λ (v : Value). Fits (v .answer)) xs _ _ (λ why l. refused-fits why (low why l)) (λ none. done-fits 0 (omega arith))
 
 pub check-fits : (s : List ℕ) → Fits (answerOf s)
@@ -144,7 +172,7 @@ single-fits code phase dt duty = go (shapeOf code duty)
     go : (x : Shape) → Fits (singleFor x phase dt .answer)
     go (shape.Known w) =
         value-fits (unless (isWaveform w) Setting ++ unless (isPhase phase dt) Argument)
-        (append-low (unless (isWaveform w) Setting) (unless (isPhase phase dt) Argument) (unless-low (isWaveform w) Setting (omega arith)) (unless-low (isPhase phase dt) Argument (omega arith))) (valueOf w phase dt)
+        (append-low refusalPlace (unless (isWaveform w) Setting) (unless (isPhase phase dt) Argument) (unless-low refusalPlace (isWaveform w) Setting (omega arith)) (unless-low refusalPlace (isPhase phase dt) Argument (omega arith))) (valueOf w phase dt)
     go shape.Unknown = refused-fits Setting (omega arith)
 
 pub render-fits : (g : Settings) (s : List ℕ) (b : Buffers) → Fits (renderOf g s b .result .answer)
@@ -153,22 +181,100 @@ render-fits g s b =
     first-holds (λ (o : Outcome Rendered). Fits (o .result .answer)) (refusalsOf g (roomIn b) s) _ (madeOf g s (samplesIn b)) (λ why l. refused-fits why (judged-low g (roomIn b) s why l))
     (λ none. done-fits (samplesIn b) (omega (arith, in-room b (all-passed g (roomIn b) s none .sized) .short)))
 
-pub rerender-fits : (g : Settings) (old new : List ℕ) (b : Buffers) → Fits (rerenderOf g old new b .result)
-unfolding rerenderOf stopOf
-rerender-fits g old new b =
-    let plan = planOf old new (samplesIn b) in
-    let tests = checks g old new (roomIn b) in
-    first-holds (λ (o : Outcome Answer). Fits (o .result)) (rerenderRefusals g old new b) (keptOf b) (outcomeOf g old new plan b)
-    (λ why l. refused-fits why (append-low tests (startRefusals new plan (b .stored)) (append-low (refusalsOf g (roomIn b) old) (newRefusalsOf new) (judged-low g (roomIn b) old) (new-low new)) (start-low plan) why l))
-    (λ none. run-fits plan (in-room b (all-checked g old new (roomIn b) (none-both tests (startRefusals new plan (b .stored)) none .0) .fits) .short))
-  where
-    start-low : (q : Plan) → Low (startRefusals new q (b .stored))
-    start-low Nothing why h = absurd h
-    start-low (From m) why h = unless-low (isStart new m (b .stored)) StartEntry (omega arith) why h
+-- a re-render, alone or after the edits of a page
+start-low : (new stored : List ℕ) (q : Plan) → Placed (startRefusals new q stored)
+start-low new stored Nothing = λ why h. absurd h
+start-low new stored (From m) = unless-low refusalPlace (isStart new m stored) StartEntry (omega arith)
 
-    run-fits : (q : Plan) → samplesIn b ≤ mostSamples → Fits (outcomeOf g old new q b .result)
-    run-fits Nothing h = done-fits 0 (omega arith)
-    run-fits (From m) h = done-fits (stopOf g old new m b - m * 4096) (omega arith)
+module _ (g : Settings) (old new : List ℕ) (b : Buffers) where
+  run-says : (q : Plan) → outcomeOf g old new q b .result ≡ Done (countFor g old new q b)
+  run-says Nothing = refl
+  run-says (From m) = refl
+
+  run-count : (q : Plan) → roomIn b ≡ true → countFor g old new q b < 4294967296
+  unfolding stopOf
+  run-count Nothing h = omega arith
+  run-count (From m) h = omega (arith, in-room b h .short)
+
+  pub rerender-fits : Fits (rerenderOf g old new b .result)
+  unfolding rerenderOf
+  rerender-fits =
+      let plan = planOf old new (samplesIn b) in
+      let tests = checks g old new (roomIn b) in
+      let starts = startRefusals new plan (b .stored) in
+      first-holds (λ (o : Outcome Answer). Fits (o .result)) (rerenderRefusals g old new b) (keptOf b) (outcomeOf g old new plan b)
+      (λ why l. refused-fits why (append-low refusalPlace tests starts (append-low refusalPlace (refusalsOf g (roomIn b) old) (newRefusalsOf new) (judged-low g (roomIn b) old) (new-low new)) (start-low new (b .stored) plan) why l))
+      (λ none. rw (run-says plan) (done-fits (countFor g old new plan b) (run-count plan (all-checked g old new (roomIn b) (none-both tests starts none .0) .fits))))
+
+-- ---- a page of fewer than 2^24 edits
+held-low : (s es : List ℕ) (i : ℕ) → Low refusalPlace i (heldRefusals s es i)
+unfolding heldRefusals
+held-low s es i = go (isInsert es i)
+  where
+    go : (t : Bool) → Low refusalPlace i (cond t (unless (ltb (countOf s) 4096) (Full i)) (unless (ltb (firstEqual s (recordOf es i)) (countOf s)) (NotThere i)))
+    go true = unless-low refusalPlace (ltb (countOf s) 4096) (Full i) (omega arith)
+    go false = unless-low refusalPlace (ltb (firstEqual s (recordOf es i)) (countOf s)) (NotThere i) (omega arith)
+
+edit-low : (s es : List ℕ) (i : ℕ) → Low refusalPlace i (editRefusals s es i)
+unfolding editRefusals recordFaults
+edit-low s es i =
+    let r = recordOf es i in
+    let faults = recordFaults r i in
+    append-low refusalPlace (unless (frameRight es i) (EditFrame i) ++ map Edit faults) (heldRefusals s es i)
+    (append-low refusalPlace (unless (frameRight es i) (EditFrame i)) (map Edit faults) (unless-low refusalPlace (frameRight es i) (EditFrame i) (omega arith)) (map-low refusalPlace Edit faults (alone-low (markRight r 0) (kindRight r 0) (fieldsRight r 0) i)))
+    (held-low s es i)
+
+edits-low : (old es : List ℕ) (k i : ℕ) → Low refusalPlace (i + k) (refusalsFrom old es k i)
+unfolding refusalsFrom
+edits-low old es zero i = λ why h. absurd h
+edits-low old es (suc k) i =
+    let now = editRefusals (scoreAfter old es i) es i in
+    let later = refusalsFrom old es k (suc i) in
+    append-low refusalPlace now later (wider refusalPlace now (omega arith) (edit-low (scoreAfter old es i) es i)) (wider refusalPlace later (omega arith) (edits-low old es k (suc i)))
+
+module _ (g : Settings) (old es : List ℕ) (b : Buffers) (space : List ℕ) where
+  abbrev new : List ℕ
+  new = newScoreOf old es
+
+  abbrev plan : Plan
+  plan = planOf old new (samplesIn b)
+
+  abbrev first : List Refusal
+  first = firstRefusals g old es b space
+
+  abbrev edits : List Refusal
+  edits = refusalsFrom old es (editsIn es) 0
+
+  abbrev starts : List Refusal
+  starts = startRefusals new plan (b .stored)
+
+  first-low : Placed first
+  unfolding firstRefusals
+  first-low = append-low refusalPlace (refusalsOf g (roomIn b) old) (unless (pageFits es space) Page) (judged-low g (roomIn b) old) (unless-low refusalPlace (pageFits es space) Page (omega arith))
+
+  page-low : editsIn es < 16777216 → Placed (pageRefusals g old es b space)
+  page-low h = append-low refusalPlace (first ++ edits) starts (append-low refusalPlace first edits first-low (wider refusalPlace edits (omega arith) (edits-low old es (editsIn es) 0))) (start-low new (b .stored) plan)
+
+  -- without a refusal the old score is accepted, and so is the new one, which has at most 40,960 bytes
+  module _ (none : pageRefusals g old es b space ≡ []) where
+    passes : Passed g (roomIn b) old
+    unfolding firstRefusals
+    passes = all-passed g (roomIn b) old (none-both (refusalsOf g (roomIn b) old) (unless (pageFits es space) Page) (none-both first edits (none-both (first ++ edits) starts none .0) .0) .0)
+
+    new-bytes : length new ≤ 40960
+    new-bytes =
+        let made = none-made old es (editsIn es) 0 (none-both first edits (none-both (first ++ edits) starts none .0) .1) in
+        accepted-bytes new (after-accepted old es (passes .accepted) (editsIn es) (omega arith) (λ i l. made i (omega arith) (omega arith)))
+
+  abbrev said : Rewritten Paged → Numbers
+  said o = pagedNumbers (o .result .answer) (o .result .bytes)
+
+  pub edit-fits : editsIn es < 16777216 → Fitting (said (editOf g old es b space))
+  unfolding editOf
+  edit-fits h =
+      first-holds (λ (o : Rewritten Paged). Fitting (said o)) (pageRefusals g old es b space) (page.keptOf b space) (turnedOver (outcomeOf g old new plan b) new space)
+      (λ why l. refused-fits why (page-low h why l))
+      (λ none. rw (run-says g old new b plan) (record { number-fits = omega arith; place-fits = omega (arith, new-bytes none); count-fits = run-count g old new b plan (passes none .sized) }))
 
 -- what a continuing call in words answers
 abbrev pub continueSays : Choice → List ℕ → List ℕ → ℕ → ℕ → Answer
@@ -179,6 +285,6 @@ pub continue-fits : (c : Choice) (s ws : List ℕ) (p n : ℕ) → Fits (continu
 continue-fits (Known g) s ws p n =
     let judged = refusalsOf g (partFits p n) s in
     let given = unless (isGivenIn s p ws) GivenState in
-    first-fits (judged ++ given) (append-low judged given (judged-low g (partFits p n) s) (unless-low (isGivenIn s p ws) GivenState (omega arith))) n
+    first-fits (judged ++ given) (append-low refusalPlace judged given (judged-low g (partFits p n) s) (unless-low refusalPlace (isGivenIn s p ws) GivenState (omega arith))) n
     (λ none. let short : p + n ≤ mostSamples = leb-true (p + n) mostSamples (all-passed g (partFits p n) s (none-both judged given none .0) .sized) in omega arith)
 continue-fits Unknown s ws p n = refused-fits Setting (omega arith)

@@ -9,19 +9,21 @@ use Rattle.sections.specs.Outcome.{Buffers}
 use Rattle.answers.specs.declared.Answer.{Answer}
 use Rattle.answers.specs.declared.Answer.the-variants.{Done, Refused}
 use Rattle.answers.specs.declared.Refusal.the-variants.{Setting, Size, Argument}
+use Rattle.answers.specs.declared.Numbers.{Numbers}
 use Rattle.answers.specs.Numbers.{numbersOf}
 use Rattle.answers.proofs.Order.{first-through}
 use Rattle.listing.specs.Listing.{listingOf}
+use Rattle.page.specs.Page.{editsIn, editOf}
 use Rattle.render.specs.Calls.{renderOf, continueRefusals}
 use Rattle.rerender.specs.Rerender.{rerenderOf}
 use Rattle.score.specs.Score.{answerOf}
 use Rattle.state.specs.declared.Settings.{Settings}
 use Rattle.ffi.specs.declared.Choice.{Choice}
 use Rattle.ffi.specs.declared.Choice.the-variants.{Known, Unknown}
-use Rattle.ffi.specs.Packed.{packedOf, numbersIn}
-use Rattle.ffi.specs.Ffi.{Continued, checkOf, singleOf, rendered, rerendered, isGivenIn, madeIn, keptIn, continueIn, continueFor}
+use Rattle.ffi.specs.Packed.{wordOf, packedOf, pagedNumbers, packedPage, numbersIn}
+use Rattle.ffi.specs.Ffi.{Continued, checkOf, singleOf, rendered, rerendered, edited, isGivenIn, madeIn, keptIn, continueIn, continueFor}
 use Rattle.ffi.proofs.Lines.{listing-fits}
-use Rattle.ffi.proofs.Fits.{Fits, done-fits, refused-fits, check-fits, single-fits, render-fits, rerender-fits, continueSays, continue-fits}
+use Rattle.ffi.proofs.Fits.{Fitting, Fits, done-fits, refused-fits, check-fits, single-fits, render-fits, rerender-fits, edit-fits, continueSays, continue-fits}
 
 -- number, place and count packed into a word, and each read out of it again
 module _ (n p c : ℕ) (a : n < 256) (b : p < 16777216) (d : c < 4294967296) where
@@ -37,16 +39,19 @@ module _ (n p c : ℕ) (a : n < 256) (b : p < 16777216) (d : c < 4294967296) whe
   count-back : w / 4294967296 ≡ c
   count-back = omega arith
 
-pub read-back : (a : Answer) → Fits a → numbersIn (packedOf a) ≡ numbersOf a
-unfolding packedOf
-read-back a f =
-    let n = numbersOf a .number in
-    let p = numbersOf a .place in
-    let c = numbersOf a .count in
+numbers-back : (m : Numbers) → Fitting m → numbersIn (wordOf m) ≡ m
+numbers-back m f =
+    let n = m .number in
+    let p = m .place in
+    let c = m .count in
     let x = f .number-fits in
     let y = f .place-fits in
     let z = f .count-fits in
     rw (number-back n p c x y z, place-back n p c x y z, count-back n p c x y z) refl
+
+pub read-back : (a : Answer) → Fits a → numbersIn (packedOf a) ≡ numbersOf a
+unfolding packedOf
+read-back a f = numbers-back (numbersOf a) f
 
 -- ---- call by call
 pub check-reads : (s : List ℕ) → numbersIn (checkOf s) ≡ numbersOf (answerOf s)
@@ -65,6 +70,12 @@ module _ (g : Settings) where
 
   pub rerender-reads : (old new : List ℕ) (b : Buffers) → numbersIn (rerendered (rerenderOf g old new b) .result) ≡ numbersOf (rerenderOf g old new b .result)
   rerender-reads old new b = read-back (rerenderOf g old new b .result) (rerender-fits g old new b)
+
+  -- a page of fewer than 2^24 edits: the place of a refused edit, and the bytes of the new score
+  pub edit-reads : (old es : List ℕ) (b : Buffers) (space : List ℕ) → editsIn es < 16777216
+      → numbersIn (edited (editOf g old es b space) .result) ≡ pagedNumbers (editOf g old es b space .result .answer) (editOf g old es b space .result .bytes)
+  unfolding packedPage
+  edit-reads old es b space h = let p = editOf g old es b space .result in numbers-back (pagedNumbers (p .answer) (p .bytes)) (edit-fits g old es b space h)
 
 -- a continuing call, also from words that are no state and under unknown settings
 pub continue-says : (c : Choice) (s ws : List ℕ) (p : ℕ) (part : List Float) → continueFor c s ws p part .result ≡ packedOf (continueSays c s ws p (length part))

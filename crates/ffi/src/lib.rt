@@ -1,9 +1,8 @@
 // What C sees: the calls of the crates below, on numbers and slices, each with its answer in one word. 01 asks for the
 // check of a score and for single samples; render, re-render, page of edits, continuing call, fresh state and listing
-// go beyond 01. A
-// slice is a pointer and a length in C; include/gavberin.h declares every function here, with the caller's duties,
-// which no function here can test. Left out: the ported calls of phase, voice, envelope, oscillator and LFO, and the
-// end state of a render.
+// go beyond 01. A slice is a pointer and a length in C; include/gavberin.h declares every function here, with the
+// caller's duties, which no function here can test. Left out: the ported calls of phase, voice, envelope, oscillator
+// and LFO, and the end state of a render.
 ghost use mathlib.Core.Path.{_≡_};
 ghost use Rattle.sections.specs.Outcome.{lends, leaves};
 ghost use Rattle.page.specs.Page.{rewrites};
