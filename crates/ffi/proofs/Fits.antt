@@ -1,6 +1,6 @@
 -- Every answer that the desk packs fits its word: its number is below 2^8, its place below 2^24, its count below 2^32.
 -- Assumes nothing.
-use mathlib.Core.Path.{_≡_, refl, subst}
+use mathlib.Core.Path.{_≡_, subst}
 use mathlib.Core.Bool.{Bool, true, false, cond, _&&_}
 use mathlib.Core.List.{List, [], _++_, map}
 use mathlib.Core.Logic.{⊎-elim}
@@ -31,6 +31,7 @@ use Rattle.page.specs.declared.Paged.{Paged}
 use Rattle.page.specs.Page as page
 use Rattle.page.specs.Page.{editsIn, frameRight, isInsert, recordOf, scoreAfter, newScoreOf, recordFaults, heldRefusals, editRefusals, refusalsFrom, Rewritten, pageFits, firstRefusals, pageRefusals, turnedOver, editOf}
 use Rattle.page.proofs.Taken.{accepted-bytes, after-accepted, none-made}
+use Rattle.page.proofs.Calls.{outcome-done, begun}
 use Rattle.render.specs.declared.Rendered.{Rendered}
 use Rattle.render.specs.Calls.{madeOf, renderOf, continueRefusals}
 use Rattle.rerender.specs.declared.Plan.{Plan}
@@ -187,10 +188,6 @@ start-low new stored Nothing = λ why h. absurd h
 start-low new stored (From m) = unless-low refusalPlace (isStart new m stored) StartEntry (omega arith)
 
 module _ (g : Settings) (old new : List ℕ) (b : Buffers) where
-  run-says : (q : Plan) → outcomeOf g old new q b .result ≡ Done (countFor g old new q b)
-  run-says Nothing = refl
-  run-says (From m) = refl
-
   run-count : (q : Plan) → roomIn b ≡ true → countFor g old new q b < 4294967296
   unfolding stopOf
   run-count Nothing h = omega arith
@@ -204,7 +201,7 @@ module _ (g : Settings) (old new : List ℕ) (b : Buffers) where
       let starts = startRefusals new plan (b .stored) in
       first-holds (λ (o : Outcome Answer). Fits (o .result)) (rerenderRefusals g old new b) (keptOf b) (outcomeOf g old new plan b)
       (λ why l. refused-fits why (append-low refusalPlace tests starts (append-low refusalPlace (refusalsOf g (roomIn b) old) (newRefusalsOf new) (judged-low g (roomIn b) old) (new-low new)) (start-low new (b .stored) plan) why l))
-      (λ none. rw (run-says plan) (done-fits (countFor g old new plan b) (run-count plan (all-checked g old new (roomIn b) (none-both tests starts none .0) .fits))))
+      (λ none. rw (outcome-done g old new b plan) (done-fits (countFor g old new plan b) (run-count plan (all-checked g old new (roomIn b) (none-both tests starts none .0) .fits))))
 
 -- ---- a page of fewer than 2^24 edits
 held-low : (s es : List ℕ) (i : ℕ) → Low refusalPlace i (heldRefusals s es i)
@@ -257,13 +254,15 @@ module _ (g : Settings) (old es : List ℕ) (b : Buffers) (space : List ℕ) whe
 
   -- without a refusal the old score is accepted, and so is the new one, which has at most 40,960 bytes
   module _ (none : pageRefusals g old es b space ≡ []) where
+    before : (first ≡ []) × (edits ≡ [])
+    before = none-both first edits (none-both (first ++ edits) starts none .0)
+
     passes : Passed g (roomIn b) old
-    unfolding firstRefusals
-    passes = all-passed g (roomIn b) old (none-both (refusalsOf g (roomIn b) old) (unless (pageFits es space) Page) (none-both first edits (none-both (first ++ edits) starts none .0) .0) .0)
+    passes = begun g old es b space (before .0) .0
 
     new-bytes : length new ≤ 40960
     new-bytes =
-        let made = none-made old es (editsIn es) 0 (none-both first edits (none-both (first ++ edits) starts none .0) .1) in
+        let made = none-made old es (editsIn es) 0 (before .1) in
         accepted-bytes new (after-accepted old es (passes .accepted) (editsIn es) (omega arith) (λ i l. made i (omega arith) (omega arith)))
 
   abbrev said : Rewritten Paged → Numbers
@@ -274,7 +273,7 @@ module _ (g : Settings) (old es : List ℕ) (b : Buffers) (space : List ℕ) whe
   edit-fits h =
       first-holds (λ (o : Rewritten Paged). Fitting (said o)) (pageRefusals g old es b space) (page.keptOf b space) (turnedOver (outcomeOf g old new plan b) new space)
       (λ why l. refused-fits why (page-low h why l))
-      (λ none. rw (run-says g old new b plan) (record { number-fits = omega arith; place-fits = omega (arith, new-bytes none); count-fits = run-count g old new b plan (passes none .sized) }))
+      (λ none. rw (outcome-done g old new b plan) (record { number-fits = omega arith; place-fits = omega (arith, new-bytes none); count-fits = run-count g old new b plan (passes none .sized) }))
 
 -- what a continuing call in words answers
 abbrev pub continueSays : Choice → List ℕ → List ℕ → ℕ → ℕ → Answer

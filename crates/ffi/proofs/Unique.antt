@@ -47,7 +47,7 @@ gav-edit-unique choice old es b space r t ys zs ws vs ms ns is js left after x y
       ap (λ (o : Rewritten ℕ). o .left .stored) e,
       ap (λ (o : Rewritten ℕ). o .left .summary .magnitudes) e,
       ap (λ (o : Rewritten ℕ). o .left .summary .numbers) e,
-      ap (λ (o : Rewritten ℕ). o .score) e,
+      ap (λ (o : Rewritten ℕ). o .space) e,
     )
 
 pub gav-continue-unique : (choice : Choice) (s ws : List ℕ) (p : ℕ) (part : List Float) (r t : ℕ) (ys zs : List Float) (c d : List ℕ)
