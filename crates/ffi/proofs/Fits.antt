@@ -1,6 +1,6 @@
 -- Every answer that the desk packs fits its word: its number is below 2^8, its place below 2^24, its count below 2^32.
--- Assumes nothing.
-use mathlib.Core.Path.{_≡_, subst}
+-- Of a page of 2^24 edits or more only an answer that is done does. Assumes nothing.
+use mathlib.Core.Path.{_≡_, sym, subst}
 use mathlib.Core.Bool.{Bool, true, false, cond, _&&_}
 use mathlib.Core.List.{List, [], _++_, map}
 use mathlib.Core.Logic.{⊎-elim}
@@ -31,7 +31,7 @@ use Rattle.page.specs.declared.Paged.{Paged}
 use Rattle.page.specs.Page as page
 use Rattle.page.specs.Page.{editsIn, frameRight, isInsert, recordOf, scoreAfter, newScoreOf, recordFaults, heldRefusals, editRefusals, refusalsFrom, Rewritten, pageFits, firstRefusals, pageRefusals, turnedOver, editOf}
 use Rattle.page.proofs.Taken.{accepted-bytes, after-accepted, none-made}
-use Rattle.page.proofs.Calls.{outcome-done, begun}
+use Rattle.page.proofs.Calls.{outcome-done, begun, edit-decided}
 use Rattle.render.specs.declared.Rendered.{Rendered}
 use Rattle.render.specs.Calls.{madeOf, renderOf, continueRefusals}
 use Rattle.rerender.specs.declared.Plan.{Plan}
@@ -203,7 +203,7 @@ module _ (g : Settings) (old new : List ℕ) (b : Buffers) where
       (λ why l. refused-fits why (append-low refusalPlace tests starts (append-low refusalPlace (refusalsOf g (roomIn b) old) (newRefusalsOf new) (judged-low g (roomIn b) old) (new-low new)) (start-low new (b .stored) plan) why l))
       (λ none. rw (outcome-done g old new b plan) (done-fits (countFor g old new plan b) (run-count plan (all-checked g old new (roomIn b) (none-both tests starts none .0) .fits))))
 
--- ---- a page of fewer than 2^24 edits
+-- ---- a page: the place of a refused edit is its index
 held-low : (s es : List ℕ) (i : ℕ) → Low refusalPlace i (heldRefusals s es i)
 unfolding heldRefusals
 held-low s es i = go (isInsert es i)
@@ -262,18 +262,25 @@ module _ (g : Settings) (old es : List ℕ) (b : Buffers) (space : List ℕ) whe
 
     new-bytes : length new ≤ 40960
     new-bytes =
-        let made = none-made old es (editsIn es) 0 (before .1) in
-        accepted-bytes new (after-accepted old es (passes .accepted) (editsIn es) (omega arith) (λ i l. made i (omega arith) (omega arith)))
+        let taken = none-made old es (editsIn es) 0 (before .1) in
+        accepted-bytes new (after-accepted old es (passes .accepted) (editsIn es) (omega arith) (λ i l. taken i (omega arith) (omega arith)))
 
   abbrev said : Rewritten Paged → Numbers
   said o = pagedNumbers (o .result .answer) (o .result .bytes)
 
+  abbrev made : Rewritten Paged
+  made = turnedOver (outcomeOf g old new plan b) new space
+
+  made-fits : pageRefusals g old es b space ≡ [] → Fitting (said made)
+  made-fits none = rw (outcome-done g old new b plan) (record { number-fits = omega arith; place-fits = omega (arith, new-bytes none); count-fits = run-count g old new b plan (passes none .sized) })
+
   pub edit-fits : editsIn es < 16777216 → Fitting (said (editOf g old es b space))
   unfolding editOf
-  edit-fits h =
-      first-holds (λ (o : Rewritten Paged). Fitting (said o)) (pageRefusals g old es b space) (page.keptOf b space) (turnedOver (outcomeOf g old new plan b) new space)
-      (λ why l. refused-fits why (page-low h why l))
-      (λ none. rw (outcome-done g old new b plan) (record { number-fits = omega arith; place-fits = omega (arith, new-bytes none); count-fits = run-count g old new b plan (passes none .sized) }))
+  edit-fits h = first-holds (λ (o : Rewritten Paged). Fitting (said o)) (pageRefusals g old es b space) (page.keptOf b space) made (λ why l. refused-fits why (page-low h why l)) made-fits
+
+  -- however many edits there are
+  pub edit-done-fits : (n : ℕ) → editOf g old es b space .result .answer ≡ Done n → Fitting (said (editOf g old es b space))
+  edit-done-fits n e = let c = edit-decided g old es b space in subst (λ (o : Rewritten Paged). Fitting (said o)) (sym (c .makes n e)) (made-fits (c .done n e))
 
 -- what a continuing call in words answers
 abbrev pub continueSays : Choice → List ℕ → List ℕ → ℕ → ℕ → Answer

@@ -1,4 +1,5 @@
--- What a host reads in a word is what the call answered: number, place and count. Assumes nothing.
+-- What a host reads in a word is what the call answered: number, place and count; of a page that is done, the bytes of
+-- the new score in the place. Assumes nothing.
 use mathlib.Core.Path.{_≡_, refl, sym, ap, _∙_}
 use mathlib.Core.List.{List}
 use Prim.Native.Nat.{ℕ, _+_, _*_, _/_, _%_, _<_}
@@ -13,6 +14,7 @@ use Rattle.answers.specs.declared.Numbers.{Numbers}
 use Rattle.answers.specs.Numbers.{numbersOf}
 use Rattle.answers.proofs.Order.{first-through}
 use Rattle.listing.specs.Listing.{listingOf}
+use Rattle.page.specs.declared.Paged.{Paged}
 use Rattle.page.specs.Page.{editsIn, editOf}
 use Rattle.render.specs.Calls.{renderOf, continueRefusals}
 use Rattle.rerender.specs.Rerender.{rerenderOf}
@@ -23,7 +25,7 @@ use Rattle.ffi.specs.declared.Choice.the-variants.{Known, Unknown}
 use Rattle.ffi.specs.Packed.{wordOf, packedOf, pagedNumbers, packedPage, numbersIn}
 use Rattle.ffi.specs.Ffi.{Continued, checkOf, singleOf, rendered, rerendered, edited, isGivenIn, madeIn, keptIn, continueIn, continueFor}
 use Rattle.ffi.proofs.Lines.{listing-fits}
-use Rattle.ffi.proofs.Fits.{Fitting, Fits, done-fits, refused-fits, check-fits, single-fits, render-fits, rerender-fits, edit-fits, continueSays, continue-fits}
+use Rattle.ffi.proofs.Fits.{Fitting, Fits, done-fits, refused-fits, check-fits, single-fits, render-fits, rerender-fits, edit-fits, edit-done-fits, continueSays, continue-fits}
 
 -- number, place and count packed into a word, and each read out of it again
 module _ (n p c : ℕ) (a : n < 256) (b : p < 16777216) (d : c < 4294967296) where
@@ -71,11 +73,19 @@ module _ (g : Settings) where
   pub rerender-reads : (old new : List ℕ) (b : Buffers) → numbersIn (rerendered (rerenderOf g old new b) .result) ≡ numbersOf (rerenderOf g old new b .result)
   rerender-reads old new b = read-back (rerenderOf g old new b .result) (rerender-fits g old new b)
 
-  -- a page of fewer than 2^24 edits: the place of a refused edit, and the bytes of the new score
-  pub edit-reads : (old es : List ℕ) (b : Buffers) (space : List ℕ) → editsIn es < 16777216
-      → numbersIn (edited (editOf g old es b space) .result) ≡ pagedNumbers (editOf g old es b space .result .answer) (editOf g old es b space .result .bytes)
-  unfolding packedPage
-  edit-reads old es b space h = let p = editOf g old es b space .result in numbers-back (pagedNumbers (p .answer) (p .bytes)) (edit-fits g old es b space h)
+  module _ (old es : List ℕ) (b : Buffers) (space : List ℕ) where
+    abbrev page : Paged
+    page = editOf g old es b space .result
+
+    -- a page of fewer than 2^24 edits; 2^24 edits are 235 million bytes
+    pub edit-reads : editsIn es < 16777216 → numbersIn (edited (editOf g old es b space) .result) ≡ pagedNumbers (page .answer) (page .bytes)
+    unfolding packedPage
+    edit-reads h = numbers-back (pagedNumbers (page .answer) (page .bytes)) (edit-fits g old es b space h)
+
+    -- of any number of edits, where it is done
+    pub edit-done-reads : (n : ℕ) → page .answer ≡ Done n → numbersIn (edited (editOf g old es b space) .result) ≡ record { number = 0; place = page .bytes; count = n }
+    unfolding packedPage
+    edit-done-reads n e = numbers-back (pagedNumbers (page .answer) (page .bytes)) (edit-done-fits g old es b space n e) ∙ ap (λ (a : Answer). pagedNumbers a (page .bytes)) e
 
 -- a continuing call, also from words that are no state and under unknown settings
 pub continue-says : (c : Choice) (s ws : List ℕ) (p : ℕ) (part : List Float) → continueFor c s ws p part .result ≡ packedOf (continueSays c s ws p (length part))
