@@ -11,7 +11,7 @@ import ctypes
 import os
 import sys
 
-VERSION, SECTION, STATE_WORDS = 4, 4096, 13  # GAV_VERSION, GAV_SECTION and GAV_STATE_WORDS of gavberin.h
+VERSION, SECTION, STATE_WORDS = 5, 4096, 13  # GAV_VERSION, GAV_SECTION and GAV_STATE_WORDS of gavberin.h
 WHOLE, NUMBER = ctypes.c_uint32, ctypes.c_double
 
 # The settings in gav_render's order, each with its type and what GAV_SETTINGS_DEFAULT has.

@@ -10,7 +10,7 @@
  * gav_place and gav_count read them, gav_words has words for it). Number 0, GAV_DONE, is done. A refusal has count 0
  * and changes no buffer. The numbers are those of enum gav_answer below. Where several hold, the first in this order is
  * given: 6, 7, the old or only score, the new score, then 8 or 10; 9 after 6. In a score 1 comes first, then record by
- * record 2, 3, 4, 5.
+ * record 2, 3, 4, 5. gav_edit says its own order.
  *
  * The caller's duties, which no call can test:
  *  - a pointer leads to as many elements as its length says, and is null only where that length is 0;
@@ -18,12 +18,14 @@
  *  - a buffer that is written (one whose pointer is not const) overlaps no other of the same call. Those that are only
  *    read may overlap: the old and the new score of a re-render may be one buffer;
  *  - nothing else writes to a buffer during a call, and nothing else reads one that is written;
- *  - a re-render is lent what the last render or re-render left, as gav_rerender says below;
+ *  - a re-render, or a page of edits, is lent what the last call left, as gav_rerender says below;
  *  - the processor's arithmetic is as C starts it: it rounds to nearest, and keeps numbers near 0 as they are.
  *
  * What a call takes: nothing from the heap, no system call, at most 64 KB of stack (measured: 45 KB, and 9 KB but for a
  * sine, of the oscillator or the LFO, over 1,024 samples or more), and time in proportion to the records and samples
- * that it is given. Calls keep nothing between them, so any number of threads may call at once, on buffers of their
+ * that it is given. gav_edit is the exception: it makes the new score in a room of its own before it re-renders, and so
+ * takes at most 128 KB of stack (measured: 86 KB, and 50 KB but for a sine); each edit takes time in proportion to the
+ * records of the score. Calls keep nothing between them, so any number of threads may call at once, on buffers of their
  * own, and the callback of a sound driver may call.
  *
  * A NaN in a lent buffer of doubles that a call leaves as it came is proved to be a NaN afterwards, and not which one:
@@ -73,14 +75,14 @@
 extern "C" {
 #endif
 
-/* The version of what this header declares; gav_version gives the library's. It grows with every change of a call's
- * arguments or of the number of words of a state, so a host and a library of one version fit each other. The shared
- * library's name carries the version: libgavberin.so.4. Since version 2 there is a tremolo; since version 3 notes may
- * be joined; since version 4 a render and a re-render take a summary, and GAV_ROUNDED_TRIANGLE is a waveform of every
- * library (of version 3 some libraries refuse it). It did not grow when re-renders began to stop early: the first
- * libraries of version 4 always go on to n. A host that lends and finds what gav_rerender says is right with both; one
- * that takes n - count for the start is not. */
-#define GAV_VERSION 4
+/* The version of what this header declares; gav_version gives the library's. It grows with every new call, every change
+ * of a call's arguments and every change of the number of words of a state, so a host and a library of one version fit
+ * each other. The shared library's name carries the version: libgavberin.so.5. Since version 2 there is a tremolo;
+ * since version 3 notes may be joined; since version 4 a render and a re-render take a summary, and
+ * GAV_ROUNDED_TRIANGLE is a waveform of every library (of version 3 some libraries refuse it); since version 5 there is
+ * gav_edit, and every library's re-renders stop early (of version 4 some always go on to n). Samples, shelves and
+ * states of versions 4 and 5 are the same. */
+#define GAV_VERSION 5
 
 /* The codes of the waveforms. The rounded triangle is a triangle whose corners are really rounded, so that it buzzes
  * less. Its top is 1 - 4 * dt / 3, where dt is cycles a sample, so that it is softer the higher the note; above half a
@@ -97,13 +99,20 @@ extern "C" {
 #define GAV_STRUCK 0
 #define GAV_JOINED 1
 
+/* The codes of an edit. */
+#define GAV_INSERT 1
+#define GAV_REMOVE 2
+
 #define GAV_STATE_WORDS 13         /* words of a state, and of an entry of a shelf */
 #define GAV_SECTION 4096           /* samples of a section: from one entry of a shelf to the next */
 #define GAV_MARK GAV_SECTION       /* an older name, for hosts that use it */
 #define GAV_MOST_SAMPLES 16777216  /* the most samples of an output */
 #define GAV_LIST_ROOM 102413       /* bytes that every listing fits in */
+#define GAV_SCORE_BYTES 40960      /* bytes of 4,096 records, the most of a score; gav_edit is lent so many for one */
+#define GAV_EDIT_BYTES 14          /* bytes of an edit */
 
-/* The numbers of an answer. The place is the record's index where the number is of a record, else 0. */
+/* The numbers of an answer. The place is the record's index where the number is of a record, the edit's index where it
+ * is of an edit, else 0; but where gav_edit is done it is the bytes of the new score. */
 enum gav_answer {
     GAV_DONE = 0,              /* the count is what the call says below */
     GAV_SCORE_LENGTH = 1,      /* the score's length is no multiple of 10, or it has more than 4,096 records */
@@ -124,7 +133,14 @@ enum gav_answer {
     GAV_NEW_SCORE_MARK = 18,
     GAV_NEW_SCORE_KIND = 19,
     GAV_NEW_SCORE_FIELD = 20,
-    GAV_NEW_SCORE_ORDER = 21
+    GAV_NEW_SCORE_ORDER = 21,
+    GAV_EDIT_FRAME = 33,       /* an edit: its mark is not 45 44 (hex), its code not 1 or 2, or the byte behind not 0 */
+    GAV_EDIT_NOT_THERE = 34,   /* an edit that removes: no record of the score is equal to its own */
+    GAV_EDIT_FULL = 35,        /* an edit that inserts: the score has 4,096 records already */
+    GAV_EDIT_SIZE = 36,        /* edit: the list is no multiple of 14 bytes, or new_score has not 40,960 bytes */
+    GAV_EDIT_RECORD_MARK = 50, /* 50 to 52: as 2 to 4, of an edit's own record */
+    GAV_EDIT_RECORD_KIND = 51,
+    GAV_EDIT_RECORD_FIELD = 52
 };
 
 static inline unsigned gav_number(uint64_t answer) { return (unsigned)(answer & 0xff); }
@@ -158,8 +174,9 @@ uint64_t gav_check_score(const uint8_t *score, size_t score_len);
 double gav_sample(uint32_t code, double phase, double dt, double duty);
 uint64_t gav_sample_says(uint32_t code, double phase, double dt, double duty);
 
-/* The settings, which the three calls below take first, one by one and in this order. A host that keeps the settings in
- * a struct calls gav_render_with, gav_rerender_with and gav_continue_with, each of which follows its call.
+/* The settings, which the four calls below take first, one by one and in this order. A host that keeps the settings in
+ * a struct calls gav_render_with, gav_rerender_with, gav_edit_with and gav_continue_with, each of which follows its
+ * call.
  * rate:    samples a second, 8,000 to 192,000; else 6
  * code:    GAV_SINE to GAV_PULSE, 0 to 4, or GAV_ROUNDED_TRIANGLE, 6; any other is refused with 6
  * duty:    the fraction of a cycle that a pulse is high, 0 to 1; else 6. Read for GAV_PULSE alone
@@ -192,7 +209,7 @@ struct gav_settings {
  * have no tremolo, 0 Hz and depth 0, and struck notes. */
 #define GAV_SETTINGS_DEFAULT {48000, GAV_SAWTOOTH, 0.5, 0.01, 0.1, 0.7, 0.3, GAV_SINE, 0.5, 0.0, 0.0, GAV_STRUCK}
 
-/* The settings of a struct one by one, as the three calls take them. */
+/* The settings of a struct one by one, as the four calls take them. */
 #define GAV_SETTINGS_OF(s) \
     (s)->rate, (s)->code, (s)->duty, (s)->attack, (s)->decay, (s)->sustain, (s)->release, (s)->lfo_code, \
     (s)->lfo_duty, (s)->lfo_frequency, (s)->lfo_depth, (s)->joined
@@ -257,6 +274,45 @@ static inline uint64_t gav_rerender_with(const struct gav_settings *s, const uin
                                          size_t numbers_len) {
     return gav_rerender(GAV_SETTINGS_OF(s), old, old_len, new_, new_len, out, n, shelf, words, magnitudes,
                         magnitudes_len, numbers, numbers_len);
+}
+
+/* Makes a page of edits at once: the edits of a list on the old score, one after the other, and then a single re-render
+ * of the old score into the new one, as gav_rerender makes it.
+ * An edit is GAV_EDIT_BYTES bytes: a mark 45 44 (hex), GAV_INSERT or GAV_REMOVE (1 or 2), 00, and a record of a score.
+ * Each edit is made on the score that those before it leave:
+ *    insert  puts the record after all records at its position or lower
+ *    remove  takes out the first record that is equal to it, all ten bytes; so the velocity of an off counts too
+ * A remove and an insert of one record bring it behind the others at its position, and so do an insert and a remove.
+ * Done, the place, bits 8 to 31 of the answer, is the bytes of the new score, which gav_place gives: they stand at the
+ * front of new_score, and the rest of that buffer stays as it came. The count is the re-render's, from its start to its
+ * stop. Where the list is empty, or its edits undo each other, or the first change lies at n or later, the score is
+ * written and nothing else: no entry is read, and the count is 0.
+ * The caller's duty is that of gav_rerender. Where samples, shelf and summary are as a gav_render of the old score
+ * leaves them, under the same settings and n, all three and the score are afterwards those of the edits made one at a
+ * time, each followed by its gav_rerender. Only the count is that of the one pass.
+ * The whole list is refused where one of its edits is, and nothing is written, new_score neither. The numbers, of which
+ * the first in this order is given: 6; 7; 1 to 5, of the old score; 36; then edit by edit, with the edit's index as
+ * place, 33, 50, 51, 52, and 34 or 35, each judged on the score that the edits before it leave; last 8. So of an insert
+ * into 4,096 records and a later edit with a wrong mark the insert is told, 35. The place of edit 16,777,216 and of
+ * those after it is cut to its lower 24 bits. 17 to 21 do not come: edits leave a score that is accepted.
+ * old, old_len:     the score that out, shelf and summary were rendered of
+ * edits, edits_len: the list, any number of edits; 36 where the bytes are no multiple of GAV_EDIT_BYTES
+ * out, n; shelf, words; magnitudes, magnitudes_len, numbers, numbers_len: as for gav_rerender
+ * new_score, new_score_len: GAV_SCORE_BYTES bytes exactly, however short the score will be; else 36. They overlap no
+ *                   other buffer, old neither: a host that edits again copies the score, or has two buffers that take
+ *                   turns */
+uint64_t gav_edit(uint32_t rate, uint32_t code, double duty, double attack, double decay, double sustain,
+                  double release, uint32_t lfo_code, double lfo_duty, double lfo_frequency, double lfo_depth,
+                  uint32_t joined, const uint8_t *old, size_t old_len, const uint8_t *edits, size_t edits_len,
+                  double *out, size_t n, uint64_t *shelf, size_t words, double *magnitudes, size_t magnitudes_len,
+                  uint64_t *numbers, size_t numbers_len, uint8_t *new_score, size_t new_score_len);
+
+static inline uint64_t gav_edit_with(const struct gav_settings *s, const uint8_t *old, size_t old_len,
+                                     const uint8_t *edits, size_t edits_len, double *out, size_t n, uint64_t *shelf,
+                                     size_t words, double *magnitudes, size_t magnitudes_len, uint64_t *numbers,
+                                     size_t numbers_len, uint8_t *new_score, size_t new_score_len) {
+    return gav_edit(GAV_SETTINGS_OF(s), old, old_len, edits, edits_len, out, n, shelf, words, magnitudes,
+                    magnitudes_len, numbers, numbers_len, new_score, new_score_len);
 }
 
 /* Renders the next part, from a state; it has no shelf and no summary. Parts of any lengths, one after the other from

@@ -2,7 +2,7 @@
  * "refused NUMBER at place PLACE: ", and before what it can tell of the record, the settings or the files. */
 #include "gavberin.h"
 
-/* The words for a score's faults are shared by the old or only score and the new one. */
+/* The words for a score's faults are shared by the old or only score, the new one and an edit's record. */
 #define LENGTH "'s length is no multiple of 10 bytes, or above 4,096 records"
 #define MARK " does not begin with the mark 56 4E (hex)"
 #define KIND " is of a kind that is not 1 (on), 2 (off) or 3 (reset)"
@@ -10,6 +10,7 @@
 #define ORDER " has a position below that of the record before it"
 #define RECORD "a record"
 #define NEW_RECORD "a record of the new score"
+#define EDIT_RECORD "the record of an edit"
 
 static const struct {
     unsigned number;
@@ -36,6 +37,13 @@ static const struct {
     {GAV_NEW_SCORE_KIND, NEW_RECORD KIND},
     {GAV_NEW_SCORE_FIELD, NEW_RECORD FIELD},
     {GAV_NEW_SCORE_ORDER, NEW_RECORD ORDER},
+    {GAV_EDIT_FRAME, "an edit does not begin with the mark 45 44 (hex), 1 (insert) or 2 (remove), and a byte 0"},
+    {GAV_EDIT_NOT_THERE, "an edit removes a record that the score does not have"},
+    {GAV_EDIT_FULL, "an edit inserts a record into a score that has 4,096 already"},
+    {GAV_EDIT_SIZE, "the list of edits is no multiple of 14 bytes, or the room for the new score is not 40,960 bytes"},
+    {GAV_EDIT_RECORD_MARK, EDIT_RECORD MARK},
+    {GAV_EDIT_RECORD_KIND, EDIT_RECORD KIND},
+    {GAV_EDIT_RECORD_FIELD, EDIT_RECORD FIELD},
 };
 
 const char *gav_words(uint64_t answer) {
