@@ -282,7 +282,7 @@ static inline uint64_t gav_rerender_with(const struct gav_settings *s, const uin
  * Each edit is made on the score that those before it leave:
  *    insert  puts the record after all records at its position or lower
  *    remove  takes out the first record that is equal to it, all ten bytes; so the velocity of an off counts too
- * A remove and an insert of one record bring it behind the others at its position, and so do an insert and a remove.
+ * A remove and an insert of a record that is there, in either order, bring it behind the others at its position.
  * Done, the place, bits 8 to 31 of the answer, is the bytes of the new score, which gav_place gives: they stand at the
  * front of new_score, and the rest of that buffer stays as it came. The count is the re-render's, from its start to its
  * stop. Where the list is empty, or its edits undo each other, or the first change lies at n or later, the score is

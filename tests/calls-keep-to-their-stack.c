@@ -1,6 +1,7 @@
 /* How much stack each call of gavberin.h takes. A call runs on a thread whose stack is painted; what is no longer paint
  * afterwards was used. The stack is far larger than what is allowed, so that a call which takes too much is told and
- * does not crash. Prints the bytes of each call, long sines apart, and exits with 1 where one is above GAV's 64 KB. */
+ * does not crash. Then it runs once more, on a thread whose stack is just what is allowed. Prints the bytes of each
+ * call, long sines and pages of edits apart, and exits with 1 where one is above GAV's 64 KB, or 128 KB of a page. */
 #include "gavberin.h"
 
 #include <math.h>
@@ -10,6 +11,7 @@
 #include <string.h>
 
 #define ALLOWED 65536
+#define ALLOWED_OF_PAGES 131072
 #define ROOM (1024 * 1024)
 #define PAINT 0xA7
 #define RECORDS 4096
@@ -25,6 +27,7 @@ static uint64_t shelf[GAV_MOST_SAMPLES / GAV_SECTION * GAV_STATE_WORDS], state[G
 static double magnitudes[GAV_MOST_SAMPLES / GAV_SECTION];
 static uint64_t numbers[GAV_MOST_SAMPLES / GAV_SECTION];
 static uint8_t score[10 * RECORDS], edited[10 * RECORDS], released[10 * RECORDS], text[GAV_LIST_ROOM];
+static uint8_t made[GAV_SCORE_BYTES], first[2 * GAV_EDIT_BYTES], last[2 * GAV_EDIT_BYTES], wrong[2 * GAV_EDIT_BYTES];
 static struct gav_settings settings = GAV_SETTINGS_DEFAULT;
 
 /* A call with its arguments; what it answers has to be that number, so that it did the work and was not refused early.
@@ -125,6 +128,56 @@ static uint64_t rerender_start(void) {
     return rerender_of(score, score, 0);
 }
 
+/* After a render. */
+static uint64_t edit_by(const uint8_t *edits, size_t len, size_t new_len) {
+    return gav_edit_with(&settings, score, sizeof score, edits, len, out, N, shelf, gav_shelf_words(N), magnitudes,
+                         gav_sections(N), numbers, gav_sections(N), made, new_len);
+}
+/* A page on the render of a waveform: of the first record, after which all is made again, or of the last. */
+static uint64_t page_of(uint32_t code, const uint8_t *edits) {
+    uint64_t said = render_of(code, N);
+    return gav_number(said) ? said : edit_by(edits, sizeof first, sizeof made);
+}
+static uint64_t page_first(uint32_t code) { return page_of(code, first); }
+static uint64_t page_sine(void) { return page_of(GAV_SINE, first); }
+static uint64_t page_late_sine(void) { return page_of(GAV_SINE, last); }
+static uint64_t page_sines(void) { return tremolo_of(GAV_SINE, GAV_SINE, page_first); }
+static uint64_t page_of_sine(void) { return tremolo_of(GAV_SINE, GAV_TRIANGLE, page_first); }
+static uint64_t page_lfo_sine(void) { return tremolo_of(GAV_SAWTOOTH, GAV_SINE, page_first); }
+static uint64_t page_square(void) { return page_of(GAV_SQUARE, first); }
+static uint64_t page_sawtooth(void) { return page_of(GAV_SAWTOOTH, first); }
+static uint64_t page_triangle(void) { return page_of(GAV_TRIANGLE, first); }
+static uint64_t page_rounded(void) { return page_of(GAV_ROUNDED_TRIANGLE, first); }
+static uint64_t page_pulse(void) { return page_of(GAV_PULSE, first); }
+static uint64_t page_pulses(void) { return tremolo_of(GAV_PULSE, GAV_PULSE, page_first); }
+static uint64_t page_joined(void) { return keying_of(GAV_JOINED, page_first); }
+static uint64_t page_late(void) { return page_of(GAV_SAWTOOTH, last); }
+static uint64_t page_empty(void) { return edit_by(first, 0, sizeof made); }
+static uint64_t page_keying(void) { return keying_of(GAV_JOINED + 1, page_first); }
+static uint64_t page_odd(void) { return edit_by(first, 13, sizeof made); }
+static uint64_t page_short(void) { return edit_by(first, sizeof first, sizeof made - 1); }
+static uint64_t page_full(void) { return edit_by(first + GAV_EDIT_BYTES, GAV_EDIT_BYTES, sizeof made); }
+static uint64_t page_not_there(void) {
+    memcpy(wrong, first, sizeof wrong);
+    memcpy(wrong + GAV_EDIT_BYTES, first, GAV_EDIT_BYTES);
+    wrong[12] = 1;
+    return edit_by(wrong, sizeof wrong, sizeof made);
+}
+/* The second edit with a byte that is wrong: the edit's own bytes, and then its record's. */
+static uint64_t page_wrong(size_t place) {
+    memcpy(wrong, first, sizeof wrong);
+    wrong[GAV_EDIT_BYTES + place] = 0xFF;
+    return edit_by(wrong, sizeof wrong, sizeof made);
+}
+static uint64_t page_frame(void) { return page_wrong(2); }
+static uint64_t page_mark(void) { return page_wrong(4); }
+static uint64_t page_kind(void) { return page_wrong(10); }
+static uint64_t page_field(void) { return page_wrong(11); }
+static uint64_t page_start(void) {
+    memset(shelf, 0xFF, sizeof shelf);
+    return edit_by(first, sizeof first, sizeof made);
+}
+
 /* In parts of so many samples. */
 static uint64_t continue_by(uint32_t code, size_t most) {
     uint64_t said = gav_fresh(state, GAV_STATE_WORDS);
@@ -211,6 +264,48 @@ static const struct call calls[] = {
     {"gav_continue, refused", continue_refused, GAV_GIVEN_STATE},
 };
 
+/* Those that make a score in their own room: a page of edits, which unfolds the sine's wave, and all others. */
+static const struct call long_sine_pages[] = {
+    {"gav_edit, sine", page_sine, 0},
+    {"gav_edit, sine, the last record", page_late_sine, 0},
+    {"gav_edit, sine, with a tremolo of a sine", page_sines, 0},
+    {"gav_edit, sine, with a tremolo of a triangle", page_of_sine, 0},
+    {"gav_edit, sawtooth, with a tremolo of a sine", page_lfo_sine, 0},
+};
+
+static const struct call pages[] = {
+    {"gav_edit, square", page_square, 0},
+    {"gav_edit, sawtooth", page_sawtooth, 0},
+    {"gav_edit, triangle", page_triangle, 0},
+    {"gav_edit, rounded triangle", page_rounded, 0},
+    {"gav_edit, pulse", page_pulse, 0},
+    {"gav_edit, pulse, with a tremolo of a pulse", page_pulses, 0},
+    {"gav_edit, sawtooth, joined", page_joined, 0},
+    {"gav_edit, the last record", page_late, 0},
+    {"gav_edit, no edit", page_empty, 0},
+    {"gav_edit, a refused keying", page_keying, GAV_SETTING},
+    {"gav_edit, a refused list", page_odd, GAV_EDIT_SIZE},
+    {"gav_edit, a refused room", page_short, GAV_EDIT_SIZE},
+    {"gav_edit, a full score", page_full, GAV_EDIT_FULL},
+    {"gav_edit, nothing equal", page_not_there, GAV_EDIT_NOT_THERE},
+    {"gav_edit, a wrong code", page_frame, GAV_EDIT_FRAME},
+    {"gav_edit, a record's wrong mark", page_mark, GAV_EDIT_RECORD_MARK},
+    {"gav_edit, a record's wrong kind", page_kind, GAV_EDIT_RECORD_KIND},
+    {"gav_edit, a record's wrong note", page_field, GAV_EDIT_RECORD_FIELD},
+    {"gav_edit, no state", page_start, GAV_START_ENTRY},
+};
+
+/* A record of the score removed, and one with another note or velocity put in its place. */
+static void make_page(uint8_t *edits, const uint8_t *record) {
+    static const uint8_t remove[] = {0x45, 0x44, GAV_REMOVE, 0}, insert[] = {0x45, 0x44, GAV_INSERT, 0};
+    memcpy(edits, remove, sizeof remove);
+    memcpy(edits + sizeof remove, record, 10);
+    edits += GAV_EDIT_BYTES;
+    memcpy(edits, insert, sizeof insert);
+    memcpy(edits + sizeof insert, record, 10);
+    edits[sizeof insert + 7]++;
+}
+
 /* 4,096 records, 24 samples apart: keys down and up, and now and then a reset. */
 static void make_scores(void) {
     for (uint32_t i = 0; i < RECORDS; i++) {
@@ -226,11 +321,13 @@ static void make_scores(void) {
     edited[sizeof edited - 4] = 1;
     memcpy(released, score, sizeof score);
     released[10 * RELEASE + 8] = 9;
+    make_page(first, score);
+    make_page(last, score + sizeof score - 10);
 }
 
-/* Takes more than a call may, to see that it is told. */
+/* Takes more than any call may, to see that it is told. */
 static uint64_t waste(void) {
-    volatile unsigned char much[ALLOWED + 1000];
+    volatile unsigned char much[ALLOWED_OF_PAGES + 1000];
     for (size_t i = 0; i < sizeof much; i++) much[i] = 1;
     return much[0] == 1 ? 0 : 1;
 }
@@ -243,13 +340,14 @@ static void *on_thread(void *given) {
     return &said;
 }
 
-/* The bytes of stack that a call took, from the frame that made it down. */
-static size_t measure(const struct call *call) {
+/* Makes a call on a thread whose stack is the upper bytes of the room; how many are no longer paint, from the frame
+ * that made it down. */
+static size_t run(const struct call *call, size_t size) {
     pthread_attr_t attributes;
     pthread_t thread;
     void *said;
     memset(stack, PAINT, sizeof stack);
-    if (pthread_attr_init(&attributes) || pthread_attr_setstack(&attributes, stack, sizeof stack) ||
+    if (pthread_attr_init(&attributes) || pthread_attr_setstack(&attributes, stack + sizeof stack - size, size) ||
         pthread_create(&thread, &attributes, on_thread, (void *)(uintptr_t)call) || pthread_join(thread, &said)) {
         printf("no thread could be run\n");
         exit(1);
@@ -264,24 +362,39 @@ static size_t measure(const struct call *call) {
     return (size_t)(entered - low);
 }
 
-static size_t measure_all(const struct call *list, size_t n) {
-    size_t most = 0;
+/* On a stack with room for more, and then on one of what is allowed: its bytes lie at the room's end, so that one byte
+ * written below them is seen. */
+static int keeps_to(const struct call *call, size_t allowed, size_t *used) {
+    *used = run(call, sizeof stack);
+    if (*used > allowed) return 0;
+    run(call, allowed);
+    return stack[sizeof stack - allowed - 1] == PAINT;
+}
+
+/* Whether all keep to what is allowed. */
+static int measure_all(const struct call *list, size_t n, size_t allowed) {
+    size_t most = 0, used, kept = 0;
     for (size_t i = 0; i < n; i++) {
-        size_t used = measure(&list[i]);
-        printf("%6zu bytes  %s%s\n", used, list[i].name, used > ALLOWED ? ": TOO MUCH" : "");
+        const int keeps = keeps_to(&list[i], allowed, &used);
+        printf("%6zu bytes  %s%s\n", used, list[i].name, keeps ? "" : ": TOO MUCH");
         if (used > most) most = used;
+        kept += keeps;
     }
     printf("at most %zu bytes, %zu KB\n", most, (most + 1023) / 1024);
-    return most;
+    return kept == n;
 }
 
 int main(void) {
     static const struct call wasteful = {"a wasteful call", waste, 0};
+    size_t used;
     make_scores();
-    if (measure(&wasteful) <= ALLOWED) {
-        printf("a wasteful call is measured at %zu bytes: the measure is wrong\n", measure(&wasteful));
+    if (keeps_to(&wasteful, ALLOWED_OF_PAGES, &used)) {
+        printf("a wasteful call is measured at %zu bytes: the measure is wrong\n", used);
         return 1;
     }
-    const size_t unfolding = measure_all(long_sines, LEN(long_sines)), other = measure_all(calls, LEN(calls));
-    return unfolding > ALLOWED || other > ALLOWED;
+    const int unfolding = measure_all(long_sines, LEN(long_sines), ALLOWED);
+    const int other = measure_all(calls, LEN(calls), ALLOWED);
+    const int unfolding_pages = measure_all(long_sine_pages, LEN(long_sine_pages), ALLOWED_OF_PAGES);
+    const int other_pages = measure_all(pages, LEN(pages), ALLOWED_OF_PAGES);
+    return !(unfolding && other && unfolding_pages && other_pages);
 }
