@@ -41,21 +41,22 @@ static bool field_words(const uint8_t *record, struct why *why) {
     return refuse(why, "its last byte is %u, and not 0", record[9]);
 }
 
-/* What is wrong with a record: the second to the fifth of a score's five numbers. */
-static bool record_words(unsigned number, const struct score *score, size_t place, struct why *why) {
-    const uint8_t *record = score->at + RECORD_BYTES * place;
+/* What is wrong with a record by itself: the second to the fourth of a score's five numbers. */
+static bool record_words(unsigned number, const uint8_t *record, struct why *why) {
     switch (number) {
     case 1:
         return refuse(why, "it begins with the bytes %02X %02X (hex), and not with the mark 56 4E", record[0],
                       record[1]);
     case 2:
         return refuse(why, "its kind is %u, and not 1 (on), 2 (off) or 3 (reset)", record[6]);
-    case 3:
-        return field_words(record, why);
     default:
-        return refuse(why, "its position, sample %u, is below that of the record before it, sample %u",
-                      position_of(score, place), position_of(score, place - 1));
+        return field_words(record, why);
     }
+}
+
+static bool order_words(const struct score *score, size_t place, struct why *why) {
+    return refuse(why, "its position, sample %u, is below that of the record before it, sample %u",
+                  position_of(score, place), position_of(score, place - 1));
 }
 
 /* The five numbers of a score. */
@@ -64,7 +65,7 @@ static void score_words(const struct refusal *r, const struct score *score, stru
     if (score && r->number == 0) {
         length_words(score, why);
     } else if (score && first + RECORD_BYTES <= score->len && (r->number < 4 || place > 0)) {
-        record_words(r->number, score, place, why);
+        r->number < 4 ? record_words(r->number, score->at + first, why) : order_words(score, place, why);
         preface(why, "record %zu, bytes %zu to %zu: ", place, first, first + RECORD_BYTES - 1);
     } else {
         refuse(why, "%s", gav_words(r->said));
@@ -105,6 +106,44 @@ static const char *entry_words(const struct refusal *r, struct why *why) {
     return r->asked->shelf_path;
 }
 
+/* The record of the edit at the place; NULL where the list has none there. */
+static const uint8_t *record_of_edit(const struct refusal *r) {
+    const struct bytes *edits = r->asked->edits;
+    size_t after = GAV_EDIT_BYTES * (r->place + 1);
+    return edits && after <= edits->len ? edits->at + after - RECORD_BYTES : NULL;
+}
+
+/* An edit is judged on the score that the edits before it leave. */
+static const char *left_words(const struct refusal *r) { return r->place > 0 ? " that the edits before it leave" : ""; }
+
+static const char *not_there_words(const struct refusal *r, struct why *why) {
+    const uint8_t *record = record_of_edit(r);
+    const char *kind = record ? kind_name(record[6]) : NULL;
+    if (kind) {
+        refuse(why, "%u %s %u %u is no record of the score%s", get_u32(record + 2), kind, record[7], record[8],
+               left_words(r));
+    }
+    return NULL;
+}
+
+static const char *full_words(const struct refusal *r, struct why *why) {
+    refuse(why, "the score%s has %u records already, and no more are held", left_words(r), MOST_RECORDS);
+    return NULL;
+}
+
+/* The second to the fourth of a score's numbers, of an edit's record. */
+static const char *edit_record_words(const struct refusal *r, struct why *why) {
+    const uint8_t *record = record_of_edit(r);
+    if (record) record_words(r->number + 1, record, why);
+    return NULL;
+}
+
+bool is_of_edit(uint64_t said) {
+    unsigned number = gav_number(said);
+    return (number >= GAV_EDIT_FRAME && number <= GAV_EDIT_FULL) ||
+           (number >= GAV_EDIT_RECORD_MARK && number <= GAV_EDIT_RECORD_FIELD);
+}
+
 /* Which function has words for which numbers; the other numbers get the library's words. */
 static const struct range {
     unsigned first, last;
@@ -112,7 +151,8 @@ static const struct range {
 } ranges[] = {
     {.first = 1, .last = 5, .words = old_score_words},   {.first = 6, .last = 6, .words = setting_words},
     {.first = 7, .last = 7, .words = size_words},        {.first = 8, .last = 8, .words = entry_words},
-    {.first = 17, .last = 21, .words = new_score_words},
+    {.first = 17, .last = 21, .words = new_score_words}, {.first = 34, .last = 34, .words = not_there_words},
+    {.first = 35, .last = 35, .words = full_words},      {.first = 50, .last = 52, .words = edit_record_words},
 };
 
 bool accepted(uint64_t said, const struct asked *asked, struct why *why) {

@@ -114,12 +114,15 @@ bool draft_publish(struct draft *draft, struct why *why);
 /* Frees the draft, and removes the file if it was not published. */
 void draft_drop(struct draft *draft);
 
-/* The two files of a sound, locked together; the shelf's path is NULL where there is none. */
-struct pair {
-    struct draft wav, shelf;
+/* The files that go with a sound, in the order in which they are locked and take their names. */
+enum file { SCORE_FILE, WAV_FILE, SHELF_FILE, GROUP_FILES };
+
+/* Those of them that are written, locked together. */
+struct group {
+    struct draft of[GROUP_FILES];
 };
 
-#define NO_PAIR ((struct pair){.wav = NO_DRAFT, .shelf = NO_DRAFT})
+#define NO_GROUP ((struct group){.of = {NO_DRAFT, NO_DRAFT, NO_DRAFT}})
 
 /* What a file will hold. A file without bytes (at is NULL) stays as it is. Where there is a source (else NULL), an
    open file, it had the same bytes in the same places when it was read, but for those from byte `first` to before byte
@@ -130,11 +133,12 @@ struct content {
     size_t first, end;
 };
 
-bool pair_open(struct pair *pair, const char *wav_path, const char *shelf_path, struct why *why);
-/* Writes both files, then gives them their names, the WAV first; refused where the draft has not all of those bytes,
-   since a source was written to after it was read. */
-bool pair_write(struct pair *pair, const struct content *wav, const struct content *shelf, struct why *why);
-void pair_drop(struct pair *pair);
+/* A path is NULL where there is no such file. */
+bool group_open(struct group *group, const char *const paths[GROUP_FILES], struct why *why);
+/* Writes the files, then gives them their names; refused where a draft has not all of its bytes, since a source was
+   written to after it was read. */
+bool group_write(struct group *group, const struct content contents[GROUP_FILES], struct why *why);
+void group_drop(struct group *group);
 
 /* score.c: a score as the desk holds it, and its records past the end. */
 
@@ -145,7 +149,10 @@ struct score {
 };
 
 bool read_score(const char *path, struct score *score, struct why *why);
+void put_record(uint8_t *at, uint32_t position, unsigned kind, unsigned note, unsigned velocity);
 void add_record(struct score *score, uint32_t position, unsigned kind, unsigned note, unsigned velocity);
+/* The name of a kind of record; NULL where no kind has the number. */
+const char *kind_name(unsigned kind);
 uint32_t position_of(const struct score *score, size_t record);
 bool same_score(const struct score *one, const struct score *other);
 /* The index of the first record in which two scores differ; of equal ones their number of records. */
@@ -218,24 +225,73 @@ bool read_whole(const char *name, const char *unit, const char *text, uint64_t m
 
 /* answers.c: what the library says, in words. */
 
-/* What a call was given, and the paths of it, NULL where there is none. A call's only score is the old one. */
+/* What a call was given, and the paths of it, NULL where there is none. A call's only score is the old one. edits: a
+   list of them. */
 struct asked {
     const char *old_path, *new_path, *shelf_path;
     const struct score *old_score, *new_score;
+    const struct bytes *edits;
     const struct gav_settings *settings;
     size_t samples;
 };
 
-/* Whether the answer is done. A refusal is kept in words, which begin with the path of the file that is wrong. */
+/* Whether the answer is done. A refusal is kept in words, which begin with the path of the file that is wrong; those of
+   an edit begin with no path. */
 bool accepted(uint64_t said, const struct asked *asked, struct why *why);
+/* Whether an answer is the refusal of an edit, whose index is the place. */
+bool is_of_edit(uint64_t said);
 /* Whether the library accepts a score; path is NULL where the words shall name no file. */
 bool check_score(const char *path, const struct score *score, struct why *why);
 
-/* score_text.c: a score from the text that the lister prints. */
+/* text.c: the lines of a text, their words, and a record in words. */
 
 #define MOST_TEXT 4194304u
+/* One word more than any good line has; more are not counted. */
+#define MOST_WORDS 6u
+
+struct word {
+    const uint8_t *at;
+    size_t len;
+};
+
+/* The rest of a text, and the number of the line that was read last, counted from 1. */
+struct lines {
+    const uint8_t *at, *end;
+    size_t line;
+};
+
+/* Refused where the text is too long. */
+bool lines_of(const uint8_t *text, size_t len, struct lines *lines, struct why *why);
+/* The words of the next line, up to its comment; how many there are. */
+size_t next_line(struct lines *lines, struct word words[MOST_WORDS]);
+bool is_word(struct word word, const char *text);
+/* A word for a message: its first 32 bytes, with '?' for a byte that cannot be printed. */
+#define SHOWN_ROOM 33u
+const char *shown_word(struct word word, char room[SHOWN_ROOM]);
+bool whole_number(struct word word, const char *what, const char *unit, uint64_t most, uint64_t *value,
+                  struct why *why);
+/* What a record looks like, and whether so many words have that form. */
+#define RECORD_FORM "POSITION on|off|reset NOTE VELOCITY"
+bool is_record(const struct word *words, size_t count);
+/* The bytes of such a record; what is wrong with them together, the library tells. */
+bool record_of_words(const struct word *words, size_t count, uint8_t record[RECORD_BYTES], struct why *why);
+
+/* score_text.c: a score from the text that the lister prints. */
 
 bool score_of_text(const uint8_t *text, size_t len, struct score *score, struct why *why);
+
+/* edits_text.c: edits from text, a line each. */
+
+/* The edits as the library takes them, and the line of each. */
+struct edits {
+    struct bytes list;
+    size_t count, room;
+    size_t *line_of;
+};
+
+/* To be freed by edits_free, refused or not. */
+bool edits_of_text(const uint8_t *text, size_t len, struct edits *edits, struct why *why);
+void edits_free(struct edits *edits);
 
 /* voice.c: the library's calls on what the desk holds, and the memory that they are lent. */
 
@@ -260,6 +316,9 @@ struct state voice_fresh(void);
 uint64_t voice_render(const struct gav_settings *s, const struct score *score, struct sound *sound);
 uint64_t voice_rerender(const struct gav_settings *s, const struct score *before, const struct score *after,
                         struct sound *sound);
+/* The edits of a list, made on a score; done, `after` is the new one. */
+uint64_t voice_edit(const struct gav_settings *s, const struct score *before, const struct bytes *edits,
+                    struct sound *sound, struct score *after);
 uint64_t voice_continue(const struct gav_settings *s, const struct score *score, struct state *state, size_t position,
                         double *part, size_t samples);
 
@@ -366,11 +425,11 @@ size_t export_clips(const struct export *export, const double *at, size_t sample
 /* The version of the file: another layout, or other samples for the same score, is another version. */
 #define SHELF_VERSION 6u
 
-/* What the file has beside its sections. */
+/* What the file has beside its sections. voice: the version of the voice that made a file which was read. */
 struct shelf_file {
     struct gav_settings settings;
     size_t samples;
-    unsigned bits;
+    unsigned bits, voice;
     struct score score;
 };
 
@@ -390,6 +449,40 @@ uint64_t section_sum(const struct wav *wav, const uint8_t *file, size_t section)
 /* The peak of a section that the shelf has beside the entry, of the samples as the voice made them. */
 struct peak shelf_peak(const uint8_t *file, size_t section);
 
+/* rework.c: the WAV and the shelf of a score made those of another one, for rerender and edit. */
+
+/* The verb fills in the paths, score_path where the new score is written too, else NULL; and makes the new sound of the
+   one that was loaded, and the new score. The files are as they were read, the WAV still open, and the shelf as it will
+   be. Samples `from` to before `to` are rendered again; where none are, both are the end. foreign: how many of the
+   sections rendered again were of another sound, neither the old score's nor the new one's. */
+struct rework {
+    const char *input_path, *score_path, *wav_path, *shelf_path;
+    struct score after;
+    struct shelf_file about;
+    struct wav wav;
+    struct bytes wav_file, shelf_file, new_shelf;
+    int wav_fd;
+    struct group group;
+    struct sound sound;
+    bool equal;
+    size_t from, to, foreign;
+};
+
+/* Without files, to be freed by rework_free; NULL where there is no memory. */
+struct rework *rework_new(struct why *why);
+void rework_free(struct rework *r);
+/* Whether the paths are of different files; what is read is not written over. */
+bool rework_apart(const struct rework *r, struct why *why);
+/* Locks the files that will be written, and reads the WAV and the shelf. */
+bool rework_load(struct rework *r, struct why *why);
+/* What a call of the voice is asked from the old score on. */
+struct asked rework_asked(const struct rework *r);
+/* So many samples were made by the voice, of the score `after`. */
+void rework_made(struct rework *r, size_t count);
+/* Refused where a section that is not rendered again is not the shelf's; else writes the files. */
+bool rework_write(struct rework *r, struct why *why);
+void rework_tell(struct rework *r);
+
 /* The verbs, a file each. */
 
 /* settings: the verb takes the options of a sound, and its help ends with them. */
@@ -399,8 +492,8 @@ struct verb {
     bool (*run)(char **given, struct why *why);
 };
 
-extern const struct verb check_verb, list_verb, make_verb, render_verb, rerender_verb, play_verb, verify_verb,
-    info_verb, peaks_verb, chart_verb;
+extern const struct verb check_verb, list_verb, make_verb, render_verb, rerender_verb, edit_verb, play_verb,
+    verify_verb, info_verb, peaks_verb, chart_verb;
 
 /* from_zero.c: a WAV, and the render of its score from sample zero beside it, for verify and chart. */
 

@@ -240,10 +240,13 @@ void draft_drop(struct draft *draft) {
     if (waits) sigprocmask(SIG_SETMASK, &waited, NULL);
 }
 
-bool pair_open(struct pair *pair, const char *wav_path, const char *shelf_path, struct why *why) {
-    *pair = NO_PAIR;
-    /* Every desk locks the WAV first, so that of two desks at one pair one gets both files. */
-    return draft_open(&pair->wav, wav_path, why) && (!shelf_path || draft_open(&pair->shelf, shelf_path, why));
+bool group_open(struct group *group, const char *const paths[GROUP_FILES], struct why *why) {
+    *group = NO_GROUP;
+    /* Every desk locks the WAV before the shelf, so that of two desks at one pair one gets both files. */
+    for (size_t i = 0; i < GROUP_FILES; i++) {
+        if (paths[i] && !draft_open(&group->of[i], paths[i], why)) return false;
+    }
+    return true;
 }
 
 /* What is copied is what the source has then, and another program may have written to it since it was read: only what
@@ -279,29 +282,40 @@ static bool write_one(struct draft *draft, const struct content *content, struct
            draft_seal(draft, why);
 }
 
-/* Neither file takes its name where the draft of one was removed or replaced. */
-static bool both_kept(const struct pair *pair, const struct bytes *wav, const struct bytes *shelf, struct why *why) {
-    return (!wav->at || is_kept(&pair->wav, why)) && (!shelf->at || is_kept(&pair->shelf, why));
+/* No file takes its name where the draft of one was removed or replaced. */
+static bool all_kept(const struct group *group, const struct content *contents, struct why *why) {
+    for (size_t i = 0; i < GROUP_FILES; i++) {
+        if (contents[i].bytes.at && !is_kept(&group->of[i], why)) return false;
+    }
+    return true;
 }
 
-/* Where the shelf cannot take its name after the WAV has, the old score's shelf stays; its sums show that the WAV is
-   not its own, and the same edit can be made again. */
-static bool publish_both(struct pair *pair, const struct bytes *wav, const struct bytes *shelf, struct why *why) {
-    if ((!wav->at || draft_publish(&pair->wav, why)) && (!shelf->at || draft_publish(&pair->shelf, why))) return true;
-    if (pair->wav.temporary || !shelf->at || !pair->shelf.temporary) return false;
-    return preface(why,
-                   "%s is the new score's already, and %s is not; the same call can be made again: ", pair->wav.path,
-                   pair->shelf.path);
+/* Where a file cannot take its name after another has, the same call can be made again, since the shelf takes its name
+   last: it is still the old score's, and its sums show that a new WAV is not its own. */
+static bool publish_all(struct group *group, const struct content *contents, struct why *why) {
+    const struct draft *has = NULL, *lacks = NULL;
+    bool all = true;
+    for (size_t i = 0; i < GROUP_FILES; i++) {
+        struct draft *draft = &group->of[i];
+        if (!contents[i].bytes.at) continue;
+        all = all && draft_publish(draft, why);
+        if (!draft->temporary) has = draft;
+        if (draft->temporary && !lacks) lacks = draft;
+    }
+    if (all || !has || !lacks) return all;
+    return preface(why, "%s is %s already, and %s is not; the same call can be made again: ", has->path,
+                   has == &group->of[SCORE_FILE] ? "the new score" : "the new score's", lacks->path);
 }
 
-bool pair_write(struct pair *pair, const struct content *wav, const struct content *shelf, struct why *why) {
+bool group_write(struct group *group, const struct content contents[GROUP_FILES], struct why *why) {
     /* A signal that came while the sound was made ends the program after the drop. */
     if (told_to_end()) return refuse(why, "told to end; nothing is written");
-    return write_one(&pair->wav, wav, why) && write_one(&pair->shelf, shelf, why) &&
-           both_kept(pair, &wav->bytes, &shelf->bytes, why) && publish_both(pair, &wav->bytes, &shelf->bytes, why);
+    for (size_t i = 0; i < GROUP_FILES; i++) {
+        if (!write_one(&group->of[i], &contents[i], why)) return false;
+    }
+    return all_kept(group, contents, why) && publish_all(group, contents, why);
 }
 
-void pair_drop(struct pair *pair) {
-    draft_drop(&pair->shelf);
-    draft_drop(&pair->wav);
+void group_drop(struct group *group) {
+    for (size_t i = GROUP_FILES; i-- > 0;) draft_drop(&group->of[i]);
 }

@@ -109,7 +109,7 @@ static bool tell_shelf(const char *path, const struct bytes *file, struct why *w
     if (!shelf_look(file->at, file->len, &about, why)) return false;
     size_t entries = gav_sections(about.samples);
     put_name("version");
-    printf("%u of the file, %u of the voice\n", SHELF_VERSION, (unsigned)gav_version());
+    printf("%u of the file, %u of the voice\n", SHELF_VERSION, about.voice);
     put_name("settings");
     put_settings(stdout, &about.settings);
     printf("\n");

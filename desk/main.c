@@ -7,7 +7,7 @@
 #include <unistd.h>
 
 static const struct verb *const verbs[] = {
-    &check_verb, &list_verb,   &make_verb, &render_verb, &rerender_verb,
+    &check_verb, &list_verb,   &make_verb, &render_verb, &rerender_verb, &edit_verb,
     &play_verb,  &verify_verb, &info_verb, &peaks_verb,  &chart_verb,
 };
 

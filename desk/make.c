@@ -41,7 +41,7 @@ const struct verb make_verb = {
         "desk make TEXT -o SCORE\n"
         "Makes a score from what `desk list` prints, a line for each record:\n"
         "  POSITION on|off|reset NOTE VELOCITY\n"
-        "An on with VELOCITY 0 acts as an off of its note.\n"
+        "An on with VELOCITY 0 acts as an off of its note. A reset's NOTE and VELOCITY, which are 0, may be left out.\n"
         "A # begins a comment; empty lines are skipped. A first line `records N` may be left out; where it is given,\n"
         "N is compared. A bad line is named by its number, counted from 1. TEXT may be - for standard input.\n",
     .run = run_make,

@@ -11,8 +11,8 @@ struct render {
     struct export export;
     struct shelf_file about;
     struct sound sound;
-    struct pair pair;
-    struct content wav, shelf;
+    struct group group;
+    struct content files[GROUP_FILES];
 };
 
 static bool is_pipe(const struct render *r) { return strcmp(r->wav_path, "-") == 0; }
@@ -69,17 +69,20 @@ static bool make_files(struct render *r, struct why *why) {
     about->bits = r->export.bits;
     export_apply(&r->export, r->sound.at, about->samples);
     struct wav wav = export_wav(&r->export, about->settings.rate, about->samples);
-    return wav_bytes(&wav, r->sound.at, &r->wav.bytes, why) &&
-           (!r->shelf_path || shelf_bytes(about, &r->sound, &wav, r->wav.bytes.at, &r->shelf.bytes, why));
+    struct bytes *wav_file = &r->files[WAV_FILE].bytes, *shelf_file = &r->files[SHELF_FILE].bytes;
+    return wav_bytes(&wav, r->sound.at, wav_file, why) &&
+           (!r->shelf_path || shelf_bytes(about, &r->sound, &wav, wav_file->at, shelf_file, why));
 }
 
 static bool open_files(struct render *r, struct why *why) {
-    return is_pipe(r) || pair_open(&r->pair, r->wav_path, r->shelf_path, why);
+    const char *const paths[GROUP_FILES] = {[WAV_FILE] = r->wav_path, [SHELF_FILE] = r->shelf_path};
+    return is_pipe(r) || group_open(&r->group, paths, why);
 }
 
 static bool write_files(struct render *r, struct why *why) {
-    if (!is_pipe(r)) return pair_write(&r->pair, &r->wav, &r->shelf, why);
-    if (write_all(STDOUT_FILENO, r->wav.bytes.at, r->wav.bytes.len)) return true;
+    const struct bytes *wav = &r->files[WAV_FILE].bytes;
+    if (!is_pipe(r)) return group_write(&r->group, r->files, why);
+    if (write_all(STDOUT_FILENO, wav->at, wav->len)) return true;
     return refuse(why, "standard output: cannot be written: %s", strerror(errno));
 }
 
@@ -110,14 +113,14 @@ static void tell(const struct render *r) {
 static bool run_render(char **given, struct why *why) {
     struct render *r = calloc(1, sizeof *r);
     if (!r) return refuse(why, "no memory for %zu bytes", sizeof *r);
-    r->pair = NO_PAIR;
+    r->group = NO_GROUP;
     bool done = read_render(given, r, why) && open_files(r, why) && render_sound(r, why) && make_files(r, why) &&
                 write_files(r, why);
     if (done) tell(r);
-    pair_drop(&r->pair);
+    group_drop(&r->group);
     sound_free(&r->sound);
-    free(r->wav.bytes.at);
-    free(r->shelf.bytes.at);
+    free(r->files[WAV_FILE].bytes.at);
+    free(r->files[SHELF_FILE].bytes.at);
     free(r);
     return done;
 }
@@ -133,7 +136,8 @@ const struct verb render_verb = {
             "An export, by --bits 16 or 24 or by --gain, is for other programs: it has no shelf, since a re-render\n"
             "would go on without its rounding or its gain.\n"
             "  -o OUT.wav       the WAV: one channel; - for standard output: desk render SCORE -o - | aplay\n"
-            "  --shelf FILE     what `desk rerender` needs beside the WAV: states, peaks, settings, length and score\n"
+            "  --shelf FILE     what edits need beside the WAV: states, peaks, settings, length and score; see\n"
+            "                   `desk rerender --help` and `desk edit --help`\n"
             "  --bits 32|64     floats of so many bits (32)\n"
             "  --bits 16|24     an export: whole numbers, rounded to the nearest; what is above 1 is clipped\n"
             "  --gain DB        an export: louder, or softer where DB is below 0; -200 to 200 dB\n",

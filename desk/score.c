@@ -7,8 +7,7 @@ bool read_score(const char *path, struct score *score, struct why *why) {
     return read_into(path, score->at, sizeof score->at, &score->len, why);
 }
 
-void add_record(struct score *score, uint32_t position, unsigned kind, unsigned note, unsigned velocity) {
-    uint8_t *at = score->at + score->len;
+void put_record(uint8_t *at, uint32_t position, unsigned kind, unsigned note, unsigned velocity) {
     at[0] = 0x56;
     at[1] = 0x4E;
     put_u32(at + 2, position);
@@ -16,7 +15,16 @@ void add_record(struct score *score, uint32_t position, unsigned kind, unsigned 
     at[7] = (uint8_t)note;
     at[8] = (uint8_t)velocity;
     at[9] = 0;
+}
+
+void add_record(struct score *score, uint32_t position, unsigned kind, unsigned note, unsigned velocity) {
+    put_record(score->at + score->len, position, kind, note, velocity);
     score->len += RECORD_BYTES;
+}
+
+const char *kind_name(unsigned kind) {
+    static const char *const names[] = {NULL, "on", "off", "reset"};
+    return kind < COUNT_OF(names) ? names[kind] : NULL;
 }
 
 uint32_t position_of(const struct score *score, size_t record) {

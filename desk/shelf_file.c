@@ -4,7 +4,7 @@
        0        "GAVSHELF"
        1        the version of this file, 6: in version 5 there were no peaks, in version 4 there was no setting for
                 joined notes, and in version 3 an on with velocity 0 struck its key
-       2        the version of the voice
+       2        the version of the voice that made it
        3        N, the samples of the sound
        4        bits of a sample in the WAV, 32 or 64
        5        bytes of the score
@@ -21,7 +21,7 @@
 #include <stdlib.h>
 #include <string.h>
 
-enum word { MAGIC, VERSION, VOICE, SAMPLES, BITS, SCORE_LEN, ENTRY_WORDS, BESIDE_WORDS };
+enum head { MAGIC, VERSION, VOICE, SAMPLES, BITS, SCORE_LEN, ENTRY_WORDS, BESIDE_WORDS };
 /* The words of a section: the entry, then these. */
 enum beside { SUM = GAV_STATE_WORDS, MAGNITUDE, NUMBER };
 
@@ -29,6 +29,9 @@ enum beside { SUM = GAV_STATE_WORDS, MAGNITUDE, NUMBER };
 #define SECTION_WORDS (GAV_STATE_WORDS + SHELF_BESIDE_WORDS)
 
 static const char magic[] = "GAVSHELF";
+
+/* The first version of the voice that makes of a score what this one makes: version 5 only has a call more. */
+#define FIRST_VOICE 4u
 
 size_t section_end(size_t samples, size_t section) {
     size_t first = section * GAV_SECTION;
@@ -105,7 +108,7 @@ static bool look_at_version(uint64_t version, struct why *why) {
 }
 
 /* What shows a whole shelf of this desk: the magic word, the version, the length, the sum, then the voice's version. */
-static bool look_at_heads(const uint8_t *file, size_t len, struct why *why) {
+static bool look_at_heads(const uint8_t *file, size_t len, struct shelf_file *about, struct why *why) {
     if (!shelf_begins(file, len)) {
         return refuse(why, "it is no shelf of the desk: it does not begin with %s", magic);
     }
@@ -116,7 +119,8 @@ static bool look_at_heads(const uint8_t *file, size_t len, struct why *why) {
         return refuse(why, "it is damaged or cut short: the sum of its %zu bytes is not the one at its end", len);
     }
     uint64_t voice = get_u64(file + 8 * VOICE);
-    if (voice == gav_version()) return true;
+    about->voice = (unsigned)voice;
+    if (voice >= FIRST_VOICE && voice <= gav_version()) return true;
     return refuse(why, "it is a shelf of voice %llu, and this desk has voice %u: render again with `desk render`",
                   (unsigned long long)voice, (unsigned)gav_version());
 }
@@ -155,7 +159,7 @@ static bool look_at_peaks(const uint8_t *file, size_t samples, struct why *why) 
 }
 
 bool shelf_look(const uint8_t *file, size_t len, struct shelf_file *about, struct why *why) {
-    if (!look_at_heads(file, len, why) || !look_at_sizes(file, len, about, why)) return false;
+    if (!look_at_heads(file, len, about, why) || !look_at_sizes(file, len, about, why)) return false;
     if (!get_setting_words(file, &about->settings, why) || !look_at_peaks(file, about->samples, why)) return false;
     memcpy(about->score.at, file + score_at(about->samples), about->score.len);
     return check_score(NULL, &about->score, why) ? true : preface(why, "it is damaged: its score is ");

@@ -43,6 +43,15 @@ uint64_t voice_rerender(const struct gav_settings *s, const struct score *before
                              sound->words, sound->magnitudes, sound->sections, sound->numbers, sound->sections);
 }
 
+uint64_t voice_edit(const struct gav_settings *s, const struct score *before, const struct bytes *edits,
+                    struct sound *sound, struct score *after) {
+    uint64_t said = gav_edit_with(s, before->at, before->len, edits->at, edits->len, sound->at, sound->samples,
+                                  sound->shelf, sound->words, sound->magnitudes, sound->sections, sound->numbers,
+                                  sound->sections, after->at, GAV_SCORE_BYTES);
+    after->len = gav_number(said) == GAV_DONE ? gav_place(said) : 0;
+    return said;
+}
+
 uint64_t voice_continue(const struct gav_settings *s, const struct score *score, struct state *state, size_t position,
                         double *part, size_t samples) {
     return gav_continue_with(s, score->at, score->len, state->words, GAV_STATE_WORDS, position, part, samples);
