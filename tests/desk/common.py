@@ -158,6 +158,44 @@ def listing(score):
     return f"records {len(lines)}\n" + "".join(lines)
 
 
+def edit_line(insert, edit):
+    """An edit as text: whether it inserts, and its record."""
+    _, position, kind, note, velocity, _ = records_of(edit)[0]
+    return f"{'+' if insert else '-'} {position} {WORDS[kind]} {note} {velocity}\n"
+
+
+def edits_text(edits):
+    return "".join(edit_line(*edit) for edit in edits)
+
+
+def after_edit(score, insert, edit):
+    """The score after one edit, by 02's words, or the number that it is refused with."""
+    records = [score[at : at + 10] for at in range(0, len(score), 10)]
+    _, place, kind, note, velocity, _ = records_of(edit)[0]
+    if kind == 3 and (note or velocity):
+        return 52
+    if insert:
+        if len(records) == 4096:
+            return 35
+        last = max((i for i, (_, position, *_) in enumerate(records_of(score), 1) if position <= place), default=0)
+        records.insert(last, edit)
+    elif edit in records:
+        records.remove(edit)
+    else:
+        return 34
+    return b"".join(records)
+
+
+def edits_between(one, other):
+    """Edits that make one score the other: at each position where they differ, all records out and then in."""
+    at = [{}, {}]
+    for sounds, score in zip(at, (one, other)):
+        for i, (_, position, *_) in enumerate(records_of(score)):
+            sounds.setdefault(position, []).append(score[10 * i : 10 * i + 10])
+    places = sorted(place for place in {*at[0], *at[1]} if at[0].get(place) != at[1].get(place))
+    return [(insert, edit) for place in places for insert in (False, True) for edit in at[insert].get(place, [])]
+
+
 def random_score(dice, records, step=lambda dice: dice.choice([0, 0, 1, 63, 64, 255, 4096, dice.randrange(10**5)])):
     position, score = 0, b""
     for _ in range(records):
