@@ -7,6 +7,8 @@
 #include <string.h>
 
 #define ROOM 65536u
+/* For the text of a list of edits: two of each record of the longest listing. */
+#define EDITS_ROOM (3u * GAV_LIST_ROOM)
 
 /* The chances of a run. */
 struct dice {
@@ -84,6 +86,30 @@ static size_t make_text(struct dice *dice, uint8_t *room) {
     return damage(dice, room, gav_count(answer), GAV_LIST_ROOM + ROOM);
 }
 
+/* Appends an edit of a line of a list. */
+static size_t add_edit(uint8_t *room, size_t len, char sign, const uint8_t *line, size_t line_len) {
+    room[len] = (uint8_t)sign;
+    room[len + 1] = ' ';
+    memcpy(room + len + 2, line, line_len);
+    return len + 2 + line_len;
+}
+
+/* The records of a score, each put in; some are taken out again, and a few are taken out that are not there. */
+static size_t make_edits(struct dice *dice, uint8_t *room) {
+    static struct score score;
+    static uint8_t text[GAV_LIST_ROOM];
+    size_t len = 0, next;
+    random_score(dice, &score);
+    size_t end = gav_count(gav_list(score.at, score.len, text, GAV_LIST_ROOM));
+    for (size_t at = 0; at < end; at = next) {
+        next = (size_t)((uint8_t *)memchr(text + at, '\n', end - at) - text) + 1;
+        if (at == 0) continue; /* the number of records */
+        if (roll(dice, 200)) len = add_edit(room, len, '+', text + at, next - at);
+        if (roll(dice, 3) == 0) len = add_edit(room, len, '-', text + at, next - at);
+    }
+    return damage(dice, room, len, EDITS_ROOM);
+}
+
 /* The bytes of a good shelf, in a file of its own. */
 static void good_shelf(struct dice *dice, struct bytes *file) {
     static struct shelf_file about;
@@ -150,8 +176,8 @@ static size_t make_wav(struct dice *dice, uint8_t *room) {
 
 int main(int argc, char **argv) {
     static make_input *const makes[READERS] = {
-        [SCORES] = make_score, [TEXTS] = make_text, [SHELVES] = make_shelf, [WAVS] = make_wav};
-    static uint8_t room[GAV_LIST_ROOM + ROOM];
+        [SCORES] = make_score, [TEXTS] = make_text, [SHELVES] = make_shelf, [WAVS] = make_wav, [EDITS] = make_edits};
+    static uint8_t room[EDITS_ROOM];
     if (argc < 2 || argc > 3) return 2;
     uint64_t rounds = strtoull(argv[1], NULL, 10), seed = argc == 3 ? strtoull(argv[2], NULL, 10) : 1;
     uint64_t taken[READERS] = {0}, tried[READERS] = {0};

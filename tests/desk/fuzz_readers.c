@@ -3,10 +3,12 @@
    finds.
 
    Promised is: an accepted score is listed, and the list makes that score; an accepted text makes a score whose list
-   makes it again; an accepted shelf has as many words as its length asks for, the library answers to them, and the desk
-   has words for the answer; each peak of it is a number at a sample of its section, and a re-render makes whole
-   sections, whose peaks are then the samples'; the samples of a WAV lie in it, and are the same after its PEAK chunks
-   are taken out; what is refused is refused in words. */
+   makes it again; an accepted text of edits makes edits of which only an insert into a full score, the removal of a
+   record that is not there and a reset with a note or a velocity are refused, each in words, and the others are made as
+   the fuzzer makes them; an accepted shelf has as many words as its length asks for, the library answers to them, and
+   the desk has words for the answer; each peak of it is a number at a sample of its section, and a re-render makes
+   whole sections, whose peaks are then the samples'; the samples of a WAV lie in it, and are the same after its PEAK
+   chunks are taken out; what is refused is refused in words. */
 #include "fuzz_readers.h"
 
 #include <math.h>
@@ -20,7 +22,7 @@
 #define BETWEEN_LINES 5
 
 const char *const reader_names[READERS] = {
-    [SCORES] = "scores", [TEXTS] = "texts", [SHELVES] = "shelves", [WAVS] = "WAVs"};
+    [SCORES] = "scores", [TEXTS] = "texts", [SHELVES] = "shelves", [WAVS] = "WAVs", [EDITS] = "texts of edits"};
 
 static uint64_t inputs;
 
@@ -96,6 +98,98 @@ static bool take_text(const uint8_t *at, size_t len) {
     }
     hold(is_told(why) && strncmp(why->text, "line ", 5) == 0, "a text is refused without a line");
     return false;
+}
+
+/* An edit, made as 02 says it; 0, or the number that it is refused with. */
+static unsigned make_edit(const uint8_t *edit, struct score *score) {
+    const uint8_t *record = edit + GAV_EDIT_BYTES - RECORD_BYTES;
+    size_t at = 0;
+    if (record[6] == 3 && (record[7] || record[8])) return GAV_EDIT_RECORD_FIELD;
+    if (edit[2] == GAV_INSERT) {
+        if (score->len == MOST_SCORE) return GAV_EDIT_FULL;
+        while (at < score->len && get_u32(score->at + at + 2) <= get_u32(record + 2)) at += RECORD_BYTES;
+        memmove(score->at + at + RECORD_BYTES, score->at + at, score->len - at);
+        memcpy(score->at + at, record, RECORD_BYTES);
+        score->len += RECORD_BYTES;
+        return 0;
+    }
+    while (at < score->len && memcmp(score->at + at, record, RECORD_BYTES) != 0) at += RECORD_BYTES;
+    if (at == score->len) return GAV_EDIT_NOT_THERE;
+    score->len -= RECORD_BYTES;
+    memmove(score->at + at, score->at + at + RECORD_BYTES, score->len - at);
+    return 0;
+}
+
+/* All of them, on a score; the first that is refused is *place. */
+static unsigned make_edits(const struct edits *edits, struct score *score, size_t *place) {
+    for (*place = 0; *place < edits->count; ++*place) {
+        unsigned number = make_edit(edits->list.at + GAV_EDIT_BYTES * *place, score);
+        if (number) return number;
+    }
+    return 0;
+}
+
+/* The first edits of the list that insert, in a score that it can then remove from; so half of the lists find what they
+   remove, and one begins with a score that is full. */
+static void first_score(const struct edits *edits, struct score *score) {
+    size_t place;
+    struct edits some = {.count = 1};
+    score->len = 0;
+    while (edits->count % 5 == 4 && score->len < MOST_SCORE) add_record(score, 5, 1, 60, 1);
+    for (size_t i = 0; i < edits->count; i++) {
+        some.list.at = edits->list.at + GAV_EDIT_BYTES * i;
+        if (some.list.at[2] == GAV_INSERT && i % 2 == 0) make_edits(&some, score, &place);
+    }
+}
+
+/* The library makes them on a sound of no samples, and the desk has words for the answer. */
+static void use_edits(const struct edits *edits) {
+    static struct score before, after, made;
+    const struct gav_settings settings = GAV_SETTINGS_DEFAULT;
+    struct why *why = no_words();
+    struct sound sound;
+    size_t place;
+    if (!sound_make(&sound, 0, why)) return;
+    first_score(edits, &before);
+    made = before;
+    unsigned number = make_edits(edits, &made, &place);
+    uint64_t said = voice_edit(&settings, &before, &edits->list, &sound, &after);
+    struct asked asked = {.old_score = &before, .edits = &edits->list, .settings = &settings};
+    hold(gav_number(said) == number && gav_count(said) == 0, "edits are refused with another number");
+    hold(number == 0 || (gav_place(said) == place && is_of_edit(said)), "edits are refused at another place");
+    hold(accepted(said, &asked, why) == (number == 0), "an answer to edits is told as another");
+    hold(number == 0 || is_told(why), "edits are refused without words");
+    hold(number != 0 || same_score(&made, &after), "edits make another score");
+    sound_free(&sound);
+}
+
+/* Every edit has the bytes around a record, and a line of its own. */
+static void hold_edits(const struct edits *edits, size_t lines) {
+    hold(edits->list.len == GAV_EDIT_BYTES * edits->count, "edits are no whole number");
+    for (size_t i = 0; i < edits->count; i++) {
+        const uint8_t *edit = edits->list.at + GAV_EDIT_BYTES * i;
+        hold(edit[0] == 0x45 && edit[1] == 0x44 && (edit[2] == GAV_INSERT || edit[2] == GAV_REMOVE) && edit[3] == 0 &&
+                 edit[4] == 0x56 && edit[5] == 0x4E && kind_name(edit[10]) && edit[11] <= 127 && edit[12] <= 127 &&
+                 edit[13] == 0,
+             "an edit is none");
+        hold(edits->line_of[i] > (i ? edits->line_of[i - 1] : 0) && edits->line_of[i] <= lines, "an edit's line");
+    }
+}
+
+static bool take_edits(const uint8_t *at, size_t len) {
+    struct edits edits;
+    struct why *why = no_words();
+    size_t lines = 1;
+    for (size_t i = 0; i < len; i++) lines += at[i] == '\n';
+    bool taken = edits_of_text(at, len, &edits, why);
+    if (taken) {
+        hold_edits(&edits, lines);
+        use_edits(&edits);
+    } else {
+        hold(is_told(why) && strncmp(why->text, "line ", 5) == 0, "a text of edits is refused without a line");
+    }
+    edits_free(&edits);
+    return taken;
 }
 
 static void hold_peaks(const uint8_t *file, size_t samples) {
@@ -204,7 +298,7 @@ static bool take_wav(const uint8_t *at, size_t len) {
 
 bool reader_takes(unsigned reader, const uint8_t *at, size_t len) {
     static bool (*const takes[READERS])(const uint8_t *, size_t) = {
-        [SCORES] = take_score, [TEXTS] = take_text, [SHELVES] = take_shelf, [WAVS] = take_wav};
+        [SCORES] = take_score, [TEXTS] = take_text, [SHELVES] = take_shelf, [WAVS] = take_wav, [EDITS] = take_edits};
     uint8_t *copy = exact(at, len);
     inputs++;
     bool taken = takes[reader](copy, len);

@@ -4,7 +4,7 @@
 
 #include "desk.h"
 
-enum { SCORES, TEXTS, SHELVES, WAVS, READERS };
+enum { SCORES, TEXTS, SHELVES, WAVS, EDITS, READERS };
 
 extern const char *const reader_names[READERS];
 
