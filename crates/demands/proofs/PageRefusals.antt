@@ -1,6 +1,6 @@
 -- Demand 1 for a page of edits: each refusal is given exactly when its row holds and no earlier row does, and leaves
 -- all as it came. Assumes nothing.
-use mathlib.Core.Path.{_≡_, refl, sym, subst, _∙_}
+use mathlib.Core.Path.{_≡_, refl, sym, ap, subst, _∙_}
 use mathlib.Core.Bool.{Bool, true, false, cond, _&&_, _||_, true≢false}
 use mathlib.Core.List.{List, [], _++_, map}
 use mathlib.Core.Logic.{_⊎_, inl, inr, ⊎-elim}
@@ -60,10 +60,10 @@ module _ (es : List ℕ) (i : ℕ) where
 
   framed-right : Framed es i → frameRight es i ≡ true
   unfolding frameRight
-  framed-right f = rw (eq-eqb _ _ (f .mark-one), eq-eqb _ _ (f .mark-two), known (f .code), eq-eqb _ _ (f .filler)) refl
+  framed-right f = rw (eq-eqb (editByte es i 0) 0x45 (f .mark-one), eq-eqb (editByte es i 1) 0x44 (f .mark-two), known (f .code), eq-eqb (editByte es i 3) 0 (f .filler)) refl
     where
       known : (editByte es i 2 ≡ 1) ⊎ (editByte es i 2 ≡ 2) → coded ≡ true
-      known c = ⊎-elim (λ e. rw (eq-eqb _ _ e) refl) (λ e. or-right (eqb (editByte es i 2) 1) (eqb (editByte es i 2) 2) (eq-eqb _ _ e)) c
+      known c = ⊎-elim (λ e. rw (eq-eqb (editByte es i 2) 1 e) refl) (λ e. or-right (eqb (editByte es i 2) 1) (eqb (editByte es i 2) 2) (eq-eqb _ _ e)) c
 
   not-framed : (Framed es i → ⊥) → frameRight es i ≡ false
   not-framed h = fails (frameRight es i) (λ e. h (right-framed e))
@@ -72,13 +72,16 @@ module _ (es : List ℕ) (i : ℕ) where
   removes : Framed es i → isInsert es i ≡ false → editByte es i 2 ≡ 2
   removes f e = ⊎-elim (λ one. absurd (true≢false (sym (eq-eqb _ _ one) ∙ e))) (λ two. two) (f .code)
 
+  two : editByte es i 2 ≡ 2 → isInsert es i ≡ false
+  two e = ap (λ (b : ℕ). eqb b 1) e
+
 -- whole edits, and a buffer of the right length
 module _ (es space : List ℕ) where
   fits-sized : pageFits es space ≡ true → PageSized es space
   fits-sized e = let a = both (eqb (length es % 14) 0) (eqb (length space) 40960) e in record { whole-edits = eqb-true _ _ (a .0); bytes = eqb-true _ _ (a .1) }
 
   sized-fits : PageSized es space → pageFits es space ≡ true
-  sized-fits s = rw (eq-eqb _ _ (s .whole-edits), eq-eqb _ _ (s .bytes)) refl
+  sized-fits s = rw (eq-eqb (length es % 14) 0 (s .whole-edits), eq-eqb (length space) 40960 (s .bytes)) refl
 
   not-sized : (PageSized es space → ⊥) → pageFits es space ≡ false
   not-sized h = fails (pageFits es space) (λ e. h (fits-sized e))
@@ -252,9 +255,6 @@ module _ (g : Settings) (old es : List ℕ) (b : Buffers) (space : List ℕ) whe
   fault-early begun (Kind i) h = reached-first begun i (h .0) (Edit (Kind i)) (fault-first (scoreAfter old es i) es i (framed-right es i (h .1)) (Kind i) (rw (h .2, h .3) refl))
   fault-early begun (Field i) h = reached-first begun i (h .0) (Edit (Field i)) (fault-first (scoreAfter old es i) es i (framed-right es i (h .1)) (Field i) (rw (h .2, h .3, h .4) refl))
 
-  two : {i : ℕ} → editByte es i 2 ≡ 2 → isInsert es i ≡ false
-  two e = rw e refl
-
   page-first : (why : Refusal) → PageGives why → Leads why (pageRefusals g old es b space)
   unfolding firstRefusals
   page-first Setting h = judged-early Setting h
@@ -263,7 +263,7 @@ module _ (g : Settings) (old es : List ℕ) (b : Buffers) (space : List ℕ) whe
   page-first Page h = early Page (leads-after Page (refusalsOf g room old) sized (render-none g room old (h .0)) (rw (not-sized es space (h .1)) refl))
   page-first (EditFrame i) h = reached-first (h .0) i (h .1) (EditFrame i) (frame-first (scoreAfter old es i) es i (not-framed es i (h .2)))
   page-first (Edit fault) h = fault-early (h .0) fault (h .1)
-  page-first (NotThere i) h = held-early (h .0) i (h .1) (NotThere i) (absent-first (scoreAfter old es i) es i (two (h .2)) (h .3))
+  page-first (NotThere i) h = held-early (h .0) i (h .1) (NotThere i) (absent-first (scoreAfter old es i) es i (two es i (h .2)) (h .3))
   page-first (Full i) h = held-early (h .0) i (h .1) (Full i) (full-first (scoreAfter old es i) es i (eq-eqb _ _ (h .2)) (h .3))
   page-first StartEntry h = leads-after StartEntry (first ++ edits) eighth (none-before-eighth (h .0) (h .1)) (rw (h .2 .1, h .2 .2) refl)
 
