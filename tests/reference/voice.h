@@ -23,6 +23,7 @@
 
 #define BLOCK 64  /* samples from one reduction to the next where no record acts */
 #define RECORD 10 /* bytes of a record */
+#define EDIT 14   /* bytes of an edit */
 #define MOST_RECORDS 4096
 #define MOST_HELD 16
 #define NO_NOTE 255
@@ -113,6 +114,12 @@ uint64_t reference_continue(const struct gav_settings *settings, const uint8_t *
                             size_t state_words, uint64_t position, double *part, size_t n);
 uint64_t reference_fresh(uint64_t *state, size_t state_words);
 uint64_t reference_list(const uint8_t *score, size_t len, uint8_t *text, size_t text_len);
+
+/* page.c: 02's call for a page of edits. */
+uint64_t reference_edit(const struct gav_settings *settings, const uint8_t *old, size_t old_len, const uint8_t *edits,
+                        size_t edits_len, double *out, size_t n, uint64_t *shelf, size_t words, double *magnitudes,
+                        size_t magnitudes_len, uint64_t *numbers, size_t numbers_len, uint8_t *new_score,
+                        size_t new_score_len);
 
 /* 01's P, the position of the first change between two scores; NOWHERE where they are equal. */
 #define NOWHERE UINT64_MAX

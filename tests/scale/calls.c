@@ -17,17 +17,20 @@ struct calls {
                        double *, size_t, uint64_t *, size_t);
     uint64_t (*rerender)(const struct gav_settings *, const uint8_t *, size_t, const uint8_t *, size_t, double *,
                          size_t, uint64_t *, size_t, double *, size_t, uint64_t *, size_t);
+    uint64_t (*edit)(const struct gav_settings *, const uint8_t *, size_t, const uint8_t *, size_t, double *, size_t,
+                     uint64_t *, size_t, double *, size_t, uint64_t *, size_t, uint8_t *, size_t);
     uint64_t (*go_on)(const struct gav_settings *, const uint8_t *, size_t, uint64_t *, size_t, uint64_t, double *,
                       size_t);
     double (*sample)(uint32_t, double, double, double);
     uint64_t (*sample_says)(uint32_t, double, double, double);
 };
 
-static const struct calls LIBRARY = {"the library",     gav_check_score,   gav_list,   gav_fresh,      gav_render_with,
-                                     gav_rerender_with, gav_continue_with, gav_sample, gav_sample_says};
-static const struct calls REFERENCE = {"the reference",    reference_check_score, reference_list,
-                                       reference_fresh,    reference_render,      reference_rerender,
-                                       reference_continue, reference_sample,      reference_sample_says};
+static const struct calls LIBRARY = {"the library",   gav_check_score,   gav_list,      gav_fresh,
+                                     gav_render_with, gav_rerender_with, gav_edit_with, gav_continue_with,
+                                     gav_sample,      gav_sample_says};
+static const struct calls REFERENCE = {"the reference",  reference_check_score, reference_list, reference_fresh,
+                                       reference_render, reference_rerender,    reference_edit, reference_continue,
+                                       reference_sample, reference_sample_says};
 
 void differ(const struct round *r, const char *format, ...) {
     va_list words;
@@ -59,6 +62,9 @@ static uint64_t make(const struct calls *who, const struct call *c, struct buffe
     case RERENDER:
         return who->rerender(&c->settings, old, b->len[OLD], new_, b->len[NEW], out, n, shelf, words, magnitudes,
                              magnitudes_len, numbers, numbers_len);
+    case EDIT_PAGE:
+        return who->edit(&c->settings, old, b->len[OLD], address(b, EDITS), b->len[EDITS], out, n, shelf, words,
+                         magnitudes, magnitudes_len, numbers, numbers_len, address(b, ROOM), b->len[ROOM]);
     default:
         return who->go_on(&c->settings, old, b->len[OLD], address(b, STATE), c->words, c->position, part, c->samples);
     }
@@ -92,14 +98,14 @@ static void tell(const struct round *r, const char *who, enum lent which, const 
     size_t at = first_other(ours->room[which], due->room[which]);
     if (at < guard || at >= guard + len) differ(r, "%s wrote beside a buffer (number %d of those lent)", who, which);
     if (which == OLD || which == NEW) differ(r, "%s wrote into a score", who);
-    if (which == TEXT) differ(r, "%s: byte %zu of the text is another", who, at - guard);
+    if (which == EDITS) differ(r, "%s wrote into a list of edits", who);
+    if (which == TEXT || which == ROOM)
+        differ(r, "%s: byte %zu of the %s is another", who, at - guard, which == TEXT ? "text" : "lent buffer");
     at = (at - guard) / 8;
     tell_word(r, who, which, at, words_of(ours, which)[at], words_of(due, which)[at]);
 }
 
-/* All that is lent, guards too. */
-static void same_buffers(const struct round *r, const char *who, const struct buffers *ours,
-                         const struct buffers *due) {
+void same_buffers(const struct round *r, const char *who, const struct buffers *ours, const struct buffers *due) {
     for (int i = 0; i < BUFFERS; i++) {
         size_t guards = 2 * (size_t)((uint8_t *)inside(due, i) - due->room[i]);
         if (memcmp(ours->room[i], due->room[i], due->len[i] + guards) != 0) tell(r, who, i, ours, due);
@@ -144,7 +150,7 @@ static uint64_t both(struct round *r, const struct call *c) {
 void call_done(struct round *r, const struct call *c, uint64_t answer, struct written written) {
     same_answer(r, REFERENCE.name, both(r, c), answer);
     same_samples(r, written);
-    if (c->which == RENDER || c->which == RERENDER) expect_peaks(r, written);
+    if (c->which == RENDER || c->which == RERENDER || c->which == EDIT_PAGE) expect_peaks(r, written);
     same_buffers(r, REFERENCE.name, &r->twins, &r->expected);
     r->tally->samples += written.samples;
 }

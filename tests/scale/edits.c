@@ -78,38 +78,44 @@ static void expect(struct round *r, size_t start, size_t stop, const struct hear
 
 /* What became of a re-render; and whether an entry from start to stop was passed though it is the state that is due, or
  * though the scores agree. */
-static void count_stop(struct round *r, const struct score *new_, const struct heard *due, const uint64_t *came,
-                       size_t start, size_t stop) {
+static void count_stop(const struct round *r, struct stops *stops, const struct score *new_, const struct heard *due,
+                       const uint64_t *came, size_t start, size_t stop) {
     const uint64_t same = same_after(&r->score, new_);
     const size_t sections = gav_sections(r->n);
     bool by_state = false, by_scores = false;
-    r->tally->idle += start == sections;
-    r->tally->last += start + 1 == sections;
-    r->tally->ended += start + 1 < sections && stop == sections;
+    stops->idle += start == sections;
+    stops->last += start + 1 == sections;
+    stops->ended += start + 1 < sections && stop == sections;
     if (stop == sections) return;
     for (size_t k = start + 1; k < stop; k++) {
         const size_t at = k * GAV_STATE_WORDS;
         by_state |= k * GAV_SECTION >= same;
         by_scores |= is_same_state(came + at, due->shelf + at);
     }
-    r->tally->stopped++;
-    r->tally->by_state += by_state;
-    r->tally->by_scores += by_scores;
+    stops->stopped++;
+    stops->by_state += by_state;
+    stops->by_scores += by_scores;
+}
+
+struct written expect_rerender(struct round *r, struct stops *stops, const struct score *new_, const struct heard *due,
+                               const uint64_t *came) {
+    const size_t sections = gav_sections(r->n), start = start_of(r, new_);
+    const size_t stop = judge_stop(&r->score, new_, came, due->shelf, start, sections);
+    const size_t from = sample_of(r, start), count = sample_of(r, stop) - from;
+    count_stop(r, stops, new_, due, came, start, stop);
+    expect(r, start, stop, due);
+    r->tally->words += gav_shelf_words(r->n) - start * GAV_STATE_WORDS;
+    r->tally->kept += 8 * (r->n - count + (sections - (stop - start)) * (GAV_STATE_WORDS + 2));
+    return (struct written){from, count, due->scales + from};
 }
 
 size_t rerender(struct round *r, const struct score *new_, const struct heard *due, const uint64_t *came) {
     const struct call call = {.which = RERENDER, .settings = r->settings};
-    const size_t sections = gav_sections(r->n), start = start_of(r, new_);
-    const size_t stop = judge_stop(&r->score, new_, came, due->shelf, start, sections);
-    const size_t from = sample_of(r, start), count = sample_of(r, stop) - from;
-    count_stop(r, new_, due, came, start, stop);
     lend_score(&r->lent, OLD, &r->score);
     lend_score(&r->lent, NEW, new_);
-    expect(r, start, stop, due);
-    call_done(r, &call, says(0, 0, count), (struct written){from, count, due->scales + from});
-    r->tally->words += gav_shelf_words(r->n) - start * GAV_STATE_WORDS;
-    r->tally->kept += 8 * (r->n - count + (sections - (stop - start)) * (GAV_STATE_WORDS + 2));
-    return count;
+    const struct written written = expect_rerender(r, &r->tally->rerenders, new_, due, came);
+    call_done(r, &call, says(0, 0, written.samples), written);
+    return written.samples;
 }
 
 /* "If it was right for the buffer as that came, all finite, it afterwards equals a summary of the finished buffer
@@ -145,22 +151,27 @@ static void restore(struct round *r) {
     judge_peaks(r->heard.samples, 0, r->n, inside(&r->lent, MAGNITUDES), words_of(&r->lent, NUMBERS));
 }
 
+bool spoil_some(struct round *r, struct stops *stops, size_t start, const struct heard *due) {
+    static const enum behind HOW[] = {AS_LEFT, OTHER_SOUND, OTHER_ENTRIES, OTHER_ENTRIES, RUBBISH};
+    if (one_in(&r->chance, 2)) return true;
+    const enum behind behind = PICK(&r->chance, HOW);
+    if (one_in(&r->chance, 2)) spoil_before(r, start);
+    spoil_behind(r, behind, start, due);
+    stops->spoilt += behind != AS_LEFT && start < gav_sections(r->n);
+    return false;
+}
+
 /* Half of the edits are made in what the render or the edit before left; of the other half a part is rubbish. */
 static void edit(struct round *r, int number) {
     static struct score new_;
     static struct heard due;
-    static const enum behind HOW[] = {AS_LEFT, OTHER_SOUND, OTHER_ENTRIES, OTHER_ENTRIES, RUBBISH};
-    const bool is_honest = one_in(&r->chance, 2), before = !is_honest && one_in(&r->chance, 2);
-    const enum behind behind = is_honest ? AS_LEFT : PICK(&r->chance, HOW);
     new_ = r->score;
     (one_in(&r->chance, 3) ? edit_score : change_score)(&r->chance, r->n, &new_);
     const size_t start = start_of(r, &new_);
     snprintf(r->what, sizeof r->what, "edit %d, re-rendered from section %zu of %zu", number, start,
              gav_sections(r->n));
     judge_hear(r, &new_, &due);
-    if (before) spoil_before(r, start);
-    spoil_behind(r, behind, start, &due);
-    r->tally->spoilt += behind != AS_LEFT && start < gav_sections(r->n);
+    const bool is_honest = spoil_some(r, &r->tally->rerenders, start, &due);
     rerender(r, &new_, &due, is_honest ? r->heard.shelf : words_of(&r->lent, SHELF));
     r->score = new_;
     r->heard = due;

@@ -21,7 +21,9 @@ void make_buffers(struct buffers *b) {
                                          8 * (GAV_STATE_WORDS + 1),
                                          8 * (MOST_ENTRIES + 1),
                                          8 * (MOST_ENTRIES + 1),
-                                         GAV_LIST_ROOM + 8};
+                                         GAV_LIST_ROOM + 8,
+                                         sizeof((struct list *)0)->bytes,
+                                         GAV_SCORE_BYTES + 2 * RECORD};
     for (int i = 0; i < BUFFERS; i++) {
         b->room[i] = malloc(MOST[i] + 2 * GUARD);
         if (b->room[i]) continue;
@@ -34,14 +36,14 @@ void *inside(const struct buffers *b, enum lent which) { return b->room[which] +
 
 uint64_t *words_of(const struct buffers *b, enum lent which) { return inside(b, which); }
 
-static void set_guards(struct buffers *b, enum lent which, size_t len) {
+void set_length(struct buffers *b, enum lent which, size_t len) {
     memcpy(b->room[which], GUARDS, GUARD);
     memcpy(b->room[which] + GUARD + len, GUARDS, GUARD);
     b->len[which] = len;
 }
 
 void lend(struct buffers *b, enum lent which, const void *from, size_t len) {
-    set_guards(b, which, len);
+    set_length(b, which, len);
     if (len > 0) memcpy(inside(b, which), from, len);
 }
 
@@ -79,7 +81,7 @@ void rubbish(struct chance *c, uint64_t *words, size_t count) {
 
 void resize(struct chance *c, struct buffers *b, enum lent which, size_t len) {
     rubbish(c, words_of(b, which), (len + 7) / 8);
-    set_guards(b, which, len);
+    set_length(b, which, len);
 }
 
 void *address(const struct buffers *b, enum lent which) {

@@ -1,10 +1,10 @@
 /* Each reason for a refusal alone, and with all that come after it in 01's order: settings, sizes, the old or only
- * score, the new score, the state or entry. */
+ * score, the new score, or the lengths and the edits of a page, the state or entry. */
 #include "scale.h"
 
 #include <stdio.h>
 
-enum reason { SETTINGS, SIZE, SCORE, NEW_SCORE, START, REASONS };
+enum reason { SETTINGS, SIZE, SCORE, NEW_SCORE, LENGTHS, EDIT_LIST, START, REASONS };
 
 /* Whether a call that is to be refused for one reason has another one too. */
 struct faults {
@@ -51,8 +51,9 @@ static void lend_sizes(struct round *r, struct faults f) {
 }
 
 static void refuse(struct round *r, const struct call *call, const char *name, struct faults f, uint64_t due) {
-    static const char *const REASONS_TOLD[REASONS] = {"settings", "sizes", "the score", "the new score", "the start"};
-    const uint64_t dues[REASONS] = {6, 7, due, due + 16, call->which == CONTINUE ? 10 : 8};
+    static const char *const REASONS_TOLD[REASONS] = {"settings",    "sizes",    "the score", "the new score",
+                                                      "the lengths", "the list", "the start"};
+    const uint64_t dues[REASONS] = {6, 7, due, due + 16, 36, due, call->which == CONTINUE ? 10 : 8};
     snprintf(r->what, sizeof r->what, "%s, to be refused for %s%s", name, REASONS_TOLD[f.first],
              f.alone ? "" : " and all that comes after");
     call_refused(r, call, dues[f.first]);
@@ -93,25 +94,68 @@ static void refused_part(struct round *r, struct faults f) {
     refuse(r, &call, "part", f, due);
 }
 
-/* The entry that the re-render would start from is right, or doctored; all other entries are rubbish. */
-static void refused_rerender(struct round *r, const uint64_t *rendered, struct faults f) {
+/* What goes with the output. The entry that a re-render into a new score would start from is right, or doctored;
+ * all other entries are rubbish. False where no entry is read. */
+static bool lend_start(struct round *r, const struct score *new_, struct faults f) {
+    size_t start = start_of(r, new_), entry = start * GAV_STATE_WORDS;
+    lend_sizes(r, f);
+    if (start == gav_sections(r->n)) return false;
+    if (r->lent.len[SHELF] != 8 * gav_shelf_words(r->n)) return true;
+    memcpy(words_of(&r->lent, SHELF) + entry, r->heard.shelf + entry, 8 * GAV_STATE_WORDS);
+    if (has(f, START)) doctor_state(&r->chance, words_of(&r->lent, SHELF) + entry);
+    return true;
+}
+
+static void refused_rerender(struct round *r, struct faults f) {
     static struct score edited;
     const struct call call = {.which = RERENDER, .settings = settings_of(r, f)};
     edited = r->score;
     strike(&r->chance, &edited, below(&r->chance, r->n > 0 ? r->n : 1));
-    uint64_t p = first_change(r->score.bytes, r->score.len, edited.bytes, edited.len);
     uint64_t of_old = lend_faulty(r, OLD, &r->score, has(f, SCORE));
     uint64_t of_new = lend_faulty(r, NEW, &edited, has(f, NEW_SCORE));
     resize(&r->chance, &r->lent, OUT, 8 * r->n);
-    lend_sizes(r, f);
-    if (p >= r->n && f.first == START) return; /* no entry is read */
-    size_t entry = p < r->n ? (size_t)p / GAV_SECTION * GAV_STATE_WORDS : 0;
-    uint64_t *start = words_of(&r->lent, SHELF) + entry;
-    if (p < r->n && r->lent.len[SHELF] == 8 * gav_shelf_words(r->n)) {
-        memcpy(start, rendered + entry, 8 * GAV_STATE_WORDS);
-        if (has(f, START)) doctor_state(&r->chance, start);
-    }
+    if (!lend_start(r, &edited, f) && f.first == START) return;
     refuse(r, &call, "re-render", f, f.first == NEW_SCORE ? of_new : of_old);
+}
+
+/* A list of any length, and a room: the list, the room or both have a wrong one. */
+static void lend_lengths(struct round *r, struct list *list, struct faults f) {
+    static const size_t ROOMS[] = {0,
+                                   1,
+                                   MOST_RECORDS,
+                                   GAV_SCORE_BYTES - RECORD,
+                                   GAV_SCORE_BYTES - 1,
+                                   GAV_SCORE_BYTES + 1,
+                                   GAV_SCORE_BYTES + RECORD};
+    const uint64_t wrong = has(f, LENGTHS) ? 1 + below(&r->chance, 3) : 0;
+    if (wrong & 1)
+        list->len = list->len > 0 && one_in(&r->chance, 2) ? list->len - 1 - below(&r->chance, EDIT - 1)
+                                                           : list->len + 1 + below(&r->chance, EDIT - 1);
+    lend(&r->lent, EDITS, list->bytes, list->len);
+    set_length(&r->lent, ROOM, wrong & 2 ? PICK(&r->chance, ROOMS) : GAV_SCORE_BYTES);
+    r->tally->pages.lengths += wrong == 1 && f.alone;
+    r->tally->pages.rooms += wrong == 2 && f.alone;
+}
+
+/* For its edits, often on a score that is full or nearly so, of which no render is needed. */
+static void refused_page(struct round *r, struct faults f) {
+    static struct score kept, new_;
+    static struct list list;
+    const struct call call = {.which = EDIT_PAGE, .settings = settings_of(r, f)};
+    const bool is_long = f.first == EDIT_LIST && one_in(&r->chance, 2);
+    enum list_fault fault = LIST_FAULTS;
+    unsigned met;
+    kept = r->score;
+    if (is_long) long_score(&r->chance, r->n, MOST_RECORDS - below(&r->chance, 3), &r->score);
+    random_list(&r->chance, r->n, &r->score, &list, &new_, &met);
+    uint64_t of_list = has(f, EDIT_LIST) ? break_list(&r->chance, r->n, &r->score, &list, &fault) : 0;
+    uint64_t of_old = lend_faulty(r, OLD, &r->score, has(f, SCORE));
+    const bool is_read = lend_start(r, &new_, f);
+    lend_lengths(r, &list, f);
+    if (is_read || f.first != START) refuse(r, &call, "page", f, f.first == SCORE ? of_old : of_list);
+    if (f.first == EDIT_LIST) r->tally->pages.faults[fault]++;
+    r->tally->pages.starts += is_read && f.first == START;
+    r->score = kept;
 }
 
 /* Too little room, or another number of words, is refused whatever else is lent. */
@@ -132,8 +176,15 @@ void run_refusals(struct round *r) {
     for (int i = 0; i < 2 * REASONS; i++) {
         struct faults f = {(enum reason)(i / 2), i % 2 == 0};
         if (f.first <= SCORE) refused_render(r, f);
-        if (f.first != NEW_SCORE) refused_part(r, f);
-        refused_rerender(r, r->heard.shelf, f);
+        if (f.first <= SCORE || f.first == START) refused_part(r, f);
+        if (f.first <= NEW_SCORE || f.first == START) refused_rerender(r, f);
     }
+    resize(&r->chance, &r->lent, ROOM, GAV_SCORE_BYTES + RECORD);
+    for (int i = 0; i < 2 * REASONS; i++) {
+        struct faults f = {(enum reason)(i / 2), i % 2 == 0};
+        if (f.first != NEW_SCORE) refused_page(r, f);
+    }
+    lend(&r->lent, EDITS, NULL, 0);
+    lend(&r->lent, ROOM, NULL, 0);
     refused_rooms(r);
 }

@@ -4,7 +4,7 @@
 #include <math.h>
 #include <stdio.h>
 
-static void lend_output(struct round *r) {
+void lend_output(struct round *r) {
     resize(&r->chance, &r->lent, OUT, 8 * r->n);
     resize(&r->chance, &r->lent, SHELF, 8 * gav_shelf_words(r->n));
     resize(&r->chance, &r->lent, STATE, 8 * GAV_STATE_WORDS);
@@ -13,6 +13,8 @@ static void lend_output(struct round *r) {
     lend_score(&r->lent, OLD, &r->score);
     lend(&r->lent, NEW, NULL, 0);
     lend(&r->lent, TEXT, NULL, 0);
+    lend(&r->lent, EDITS, NULL, 0);
+    lend(&r->lent, ROOM, NULL, 0);
 }
 
 static size_t part_length(struct chance *c, size_t left) {
@@ -183,5 +185,6 @@ void run_round(struct round *r) {
     samples(r);
     run_render(r);
     run_edits(r);
+    run_pages(r);
     run_refusals(r);
 }

@@ -163,16 +163,17 @@ void plain_score(struct chance *c, size_t n, struct score *score) {
     }
 }
 
-/* From no record to 4,096. */
-void random_score(struct chance *c, size_t n, struct score *score) {
+void long_score(struct chance *c, size_t n, size_t count, struct score *score) {
     static uint32_t positions[MOST_RECORDS];
     static struct hands hands;
-    size_t count = random_count(c, n);
     random_positions(c, n, positions, count);
     sit_down(c, &hands);
     for (size_t i = 0; i < count; i++) play_next(c, &hands, score->bytes + RECORD * i, positions[i]);
     score->len = RECORD * count;
 }
+
+/* From no record to 4,096. */
+void random_score(struct chance *c, size_t n, struct score *score) { long_score(c, n, random_count(c, n), score); }
 
 static void take_out(struct score *score, size_t index) {
     uint8_t *at = score->bytes + RECORD * index;
@@ -180,16 +181,32 @@ static void take_out(struct score *score, size_t index) {
     memmove(at, at + RECORD, score->len - RECORD * index);
 }
 
+static void put_at(struct score *score, size_t index, const uint8_t *record) {
+    uint8_t *at = score->bytes + RECORD * index;
+    memmove(at + RECORD, at, score->len - RECORD * index);
+    memcpy(at, record, RECORD);
+    score->len += RECORD;
+}
+
 /* Anywhere among the records of its position. */
 static void put_in(struct chance *c, struct score *score, const uint8_t *record) {
     if (score_count(score) == MOST_RECORDS) return;
     uint64_t position = record_position(record);
     size_t first = score_below(score, position), after = score_below(score, position + 1);
-    size_t index = first + below(c, after - first + 1);
-    uint8_t *at = score->bytes + RECORD * index;
-    memmove(at + RECORD, at, score->len - RECORD * index);
-    memcpy(at, record, RECORD);
-    score->len += RECORD;
+    put_at(score, first + below(c, after - first + 1), record);
+}
+
+void insert_record(struct score *score, const uint8_t *record) {
+    put_at(score, score_below(score, 1 + (uint64_t)record_position(record)), record);
+}
+
+bool remove_record(struct score *score, const uint8_t *record) {
+    for (size_t i = score_below(score, record_position(record)); i < score_count(score); i++) {
+        if (memcmp(score->bytes + RECORD * i, record, RECORD) != 0) continue;
+        take_out(score, i);
+        return true;
+    }
+    return false;
 }
 
 void strike(struct chance *c, struct score *score, uint64_t position) {
@@ -234,8 +251,7 @@ static size_t edit_index(struct chance *c, size_t n, const struct score *score) 
     return one_in(c, 2) || index == count ? below(c, count) : index;
 }
 
-/* Another velocity, which is not heard in an off, and with which an on stays one. */
-static void change_velocity(struct chance *c, uint8_t *record) {
+void change_velocity(struct chance *c, uint8_t *record) {
     if (record[6] == OFF) record[8] = (uint8_t)below(c, 128);
     if (record[6] == ON && record[8] > 0) record[8] = (uint8_t)(1 + below(c, 127));
 }
@@ -250,18 +266,34 @@ static void shift(struct chance *c, struct score *score, size_t index) {
     put_in(c, score, record);
 }
 
+/* At the end or past it. */
+static uint32_t late_position(struct chance *c, size_t n) {
+    const uint32_t late[] = {(uint32_t)n, (uint32_t)n + 1, (uint32_t)(n + below(c, 5000)), UINT32_MAX};
+    return PICK(c, late);
+}
+
 /* A key let go, which is often not down; a reset; a key at the end or past it. */
 static void add_record(struct chance *c, size_t n, struct score *score) {
-    const uint32_t late[] = {(uint32_t)n, (uint32_t)n + 1, (uint32_t)(n + below(c, 5000)), UINT32_MAX};
     uint8_t record[RECORD];
     uint64_t kind = below(c, 6);
     if (kind == 0)
         put_record(record, edit_position(c, n), RESET, 0, 0);
     else if (kind == 1)
-        put_record(record, PICK(c, late), ON, (uint8_t)below(c, 128), (uint8_t)(1 + below(c, 127)));
+        put_record(record, late_position(c, n), ON, (uint8_t)below(c, 128), (uint8_t)(1 + below(c, 127)));
     else
         put_release(c, record, edit_position(c, n), (uint8_t)below(c, 128));
     put_in(c, score, record);
+}
+
+void random_record(struct chance *c, size_t n, bool is_late, uint8_t *record) {
+    uint32_t position = is_late ? late_position(c, n) : edit_position(c, n);
+    uint64_t kind = below(c, 8);
+    if (kind == 0)
+        put_record(record, position, RESET, 0, 0);
+    else if (kind < 4)
+        put_record(record, position, ON, (uint8_t)below(c, 128), (uint8_t)(1 + below(c, 127)));
+    else
+        put_release(c, record, position, (uint8_t)below(c, 128));
 }
 
 void change_score(struct chance *c, size_t n, struct score *score) {

@@ -140,7 +140,7 @@ static void run_stop(struct round *r, const struct stop *stop) {
     const size_t start = start_of(r, &new_), end = start * GAV_SECTION + stop->count;
     spoil(r, start, end < r->n ? end / GAV_SECTION : gav_sections(r->n));
     same_count(r, stop, rerender(r, &new_, &due, words_of(&r->lent, SHELF)));
-    r->tally->spoilt++;
+    r->tally->rerenders.spoilt++;
 }
 
 /* Two renders that part in the sign of a release level alone: -0 is not 0. */

@@ -1,21 +1,19 @@
 /* Wrong libraries: each is put between the program at scale and the library (gcc's --wrap) and spoils one thing of one
  * call. WRONG in the environment chooses it, from 1 on; 0 spoils nothing, one past the last says how many there are,
- * and the one after that has the re-render of wrong_stop.c without a fault. */
+ * and the two after that have the re-render of wrong_stop.c and the page of wrong_page.c without a fault. */
 #include "wrong.h"
 
 #include <math.h>
 #include <stdio.h>
 #include <stdlib.h>
 
-uint64_t __real_gav_check_score(const uint8_t *score, size_t len);
 uint64_t __real_gav_list(const uint8_t *score, size_t len, uint8_t *text, size_t text_len);
 uint64_t __real_gav_fresh(uint64_t *state, size_t words);
 double __real_gav_sample(uint32_t code, double phase, double dt, double duty);
 uint64_t __real_gav_sample_says(uint32_t code, double phase, double dt, double duty);
-uint64_t __real_gav_render(SETTINGS, const uint8_t *score, size_t len, double *out, size_t n, uint64_t *shelf,
-                           size_t words, SUMMARY);
-uint64_t __real_gav_rerender(SETTINGS, const uint8_t *old, size_t old_len, const uint8_t *new_, size_t new_len,
-                             double *out, size_t n, uint64_t *shelf, size_t words, SUMMARY);
+uint64_t __real_gav_edit(SETTINGS, const uint8_t *old, size_t old_len, const uint8_t *edits, size_t edits_len,
+                         double *out, size_t n, uint64_t *shelf, size_t words, SUMMARY, uint8_t *new_score,
+                         size_t new_score_len);
 
 /* In the order in which they are counted. */
 enum wrong {
@@ -80,7 +78,10 @@ enum wrong {
     RENDER_SUMMARIES = CONTINUE_LFO_CODES + 4,       /* those of wrong.h that a render has, in that order */
     RERENDER_SUMMARIES = RENDER_SUMMARIES + OF_BOTH, /* all of them */
     RERENDER_STOPS = RERENDER_SUMMARIES + SUMMARIES, /* all stops of wrong.h */
-    WRONGS = RERENDER_STOPS + STOPPINGS
+    EDIT_PAGES = RERENDER_STOPS + STOPPINGS,         /* all pages of wrong.h */
+    WRONGS = EDIT_PAGES + PAGINGS,
+    OWN_STOP, /* what is made here, without a fault */
+    OWN_PAGE
 };
 
 static enum wrong wrong(void) {
@@ -98,11 +99,16 @@ static enum summary wrong_summary(enum wrong first, int count) {
 }
 
 /* Whether a re-render has a wrong stop, or the right one that is made here. */
-static bool is_stop_wrong(void) { return wrong() >= RERENDER_STOPS; }
+static bool is_stop_wrong(void) { return (wrong() >= RERENDER_STOPS && wrong() < EDIT_PAGES) || wrong() == OWN_STOP; }
 
 static enum stopping wrong_stop(void) {
     return wrong() < WRONGS ? (enum stopping)(wrong() - RERENDER_STOPS) : STOPS_RIGHT;
 }
+
+/* Whether a page is wrong, or the right one that is made here. */
+static bool is_page_wrong(void) { return (wrong() >= EDIT_PAGES && wrong() < WRONGS) || wrong() == OWN_PAGE; }
+
+static enum paging wrong_paging(void) { return wrong() < WRONGS ? (enum paging)(wrong() - EDIT_PAGES) : PAGES_RIGHT; }
 
 static void flip(double *x) { *x = number(bits(*x) ^ 1); }
 
@@ -244,6 +250,16 @@ uint64_t __wrap_gav_rerender(SETTINGS, const uint8_t *old, size_t old_len, const
     size_t from = first_written(&edit, answer);
     spoil_summary(how, lent, from, from + gav_count(answer));
     return spoil_rerender(answer, &edit, from);
+}
+
+uint64_t __wrap_gav_edit(SETTINGS, const uint8_t *old, size_t old_len, const uint8_t *edits, size_t edits_len,
+                         double *out, size_t n, uint64_t *shelf, size_t words, SUMMARY, uint8_t *new_score,
+                         size_t new_score_len) {
+    const struct lent_page page = {{GIVEN},   old,          edits, old_len, edits_len, shelf, {out, n, words, PEAKS},
+                                   new_score, new_score_len};
+    if (is_page_wrong()) return wrong_page(wrong_paging(), &page);
+    return __real_gav_edit(GIVEN, old, old_len, edits, edits_len, out, n, shelf, words, PEAKS, new_score,
+                           new_score_len);
 }
 
 /* A phase of the LFO that is given, or the one that is taken for it. */

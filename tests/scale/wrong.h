@@ -1,4 +1,5 @@
-/* Wrong summaries and wrong stops: a fault each of a render or a re-render that is otherwise right, for wrong.c. */
+/* Wrong summaries, wrong stops and wrong pages: a fault each of a render, a re-render or a page that is otherwise
+ * right, for wrong.c. */
 #ifndef WRONG_H
 #define WRONG_H
 
@@ -127,6 +128,93 @@ uint64_t wrong_rerender(enum stopping how, const struct lent_edit *edit, uint64_
 /* The first sample that a re-render with a right answer writes, or the end where it writes nothing. */
 size_t first_written(const struct lent_edit *edit, uint64_t answer);
 
+/* In the order in which they are counted. */
+enum paging {
+    /* Where an insert goes. */
+    BEFORE_EQUALS,  /* before those at its position */
+    AFTER_ONE,      /* after the first of them */
+    AT_THE_END,     /* behind all records */
+    POSITION_WRAPS, /* the position after its own has 32 bits */
+    /* What a remove takes. */
+    LAST_TAKEN,        /* the last equal record */
+    BY_POSITION,       /* the first one at its position */
+    BY_NOTE,           /* of these the first one of its note */
+    NO_VELOCITIES,     /* velocities are not compared */
+    NO_OFF_VELOCITIES, /* those of offs are not */
+    /* The bytes that are moved, and edits that are not made. */
+    BYTE_LEFT,      /* the first byte behind an insert is not moved */
+    LAST_LEFT,      /* the last record is not moved at a remove */
+    CANCELLED,      /* an insert, and the remove of the same record after it, are passed over */
+    CANCELLED_BACK, /* a remove, and the insert of the same record after it, are */
+    /* What is told of an edit. */
+    MARK_BEGUN,     /* the second byte of its mark is not judged */
+    ANY_CODE,       /* its code is not: any but 1 removes */
+    ANY_FILLER,     /* its filler is not */
+    RECORD_FIRST,   /* the record is judged before the frame */
+    HELD_FIRST,     /* what the score holds is judged before the record */
+    OWN_NUMBER,     /* the record's number stays as it is */
+    OWN_PLACE,      /* and its place */
+    IN_ORDER,       /* the positions of edits must not fall */
+    THERE_BY_OLD,   /* 34 is of the old score */
+    FULL_BY_OLD,    /* 35 is */
+    FULL_AT_4095,   /* 35 where 4,095 are held */
+    NEVER_FULL,     /* none where 4,096 are */
+    FRAMES_BEFORE,  /* all frames are judged before any edit is made */
+    RECORDS_BEFORE, /* all records are too */
+    PLACE_ZERO,     /* the place is always 0 */
+    PLACE_FROM_ONE, /* edits are counted from 1 */
+    PASSED_OVER,    /* a refused edit is passed over, and all others are made */
+    LAST_TOLD,      /* after a refused edit the others are made, and the last refusal is told */
+    /* The lengths of list and buffer. */
+    LENGTHS_FIRST,  /* they are judged before the settings */
+    LENGTHS_SECOND, /* before the sizes */
+    LENGTHS_THIRD,  /* before the old score */
+    LENGTHS_LAST,   /* after the edits */
+    TAIL_LEFT_OUT,  /* what is left of the list is passed over */
+    ROOM_ENOUGH,    /* a buffer that the new score fits in will do */
+    MORE_ROOM,      /* a longer one will */
+    /* What is written, and told of it. */
+    WRITTEN_BEFORE, /* the score is written before the re-render, which may be refused */
+    MADE_IN_PLACE,  /* the edits are made in the buffer, so that a refused list leaves them there */
+    ALL_WRITTEN,    /* the rest of the buffer is written */
+    BYTE_MORE,      /* its next byte is */
+    SAME_UNWRITTEN, /* a score that is as it was is not written */
+    IDLE_UNWRITTEN, /* where nothing is rendered it is not */
+    IN_RECORDS,     /* the length is in records */
+    OLD_LENGTH,     /* it is the old score's */
+    NO_LENGTH,      /* it is 0 */
+    /* The re-render. */
+    OLD_PLAYED,    /* it is of the old score */
+    EXCHANGED,     /* it is from the new score to the old one */
+    FROM_NOTHING,  /* it is a render from sample zero */
+    EACH_PLAYED,   /* there is one for each edit */
+    COUNTS_SUMMED, /* the count is the sum of those */
+    COUNT_OF_LAST, /* it is that of the last one */
+    START_TAKEN,   /* 8 is not given */
+    IDLE_READS,    /* it is given where nothing is rendered */
+    PAGINGS,
+    PAGES_RIGHT = PAGINGS
+};
+
+/* What a page is given. */
+struct lent_page {
+    struct gav_settings settings;
+    const uint8_t *old, *edits;
+    size_t old_len, edits_len;
+    uint64_t *shelf;
+    struct lent_summary lent;
+    uint8_t *space;
+    size_t space_len;
+};
+
+/* What a page with a fault leaves, and its answer. */
+uint64_t wrong_page(enum paging how, const struct lent_page *page);
+
+uint64_t __real_gav_check_score(const uint8_t *score, size_t len);
+uint64_t __real_gav_render(SETTINGS, const uint8_t *score, size_t len, double *out, size_t n, uint64_t *shelf,
+                           size_t words, SUMMARY);
+uint64_t __real_gav_rerender(SETTINGS, const uint8_t *old, size_t old_len, const uint8_t *new_, size_t new_len,
+                             double *out, size_t n, uint64_t *shelf, size_t words, SUMMARY);
 uint64_t __real_gav_continue(SETTINGS, const uint8_t *score, size_t len, uint64_t *state, size_t state_words,
                              uint64_t position, double *part, size_t n);
 
