@@ -101,16 +101,23 @@ static void page(struct round *r, struct buffers *came) {
     r->heard = due;
 }
 
-/* A page, or two; in one round of eight on a score that is full, or nearly so. */
+/* On a score that is full, or nearly so; the round's own comes back. */
+static void full_page(struct round *r, struct buffers *came) {
+    static struct score score;
+    static struct heard heard;
+    score = r->score;
+    heard = r->heard;
+    long_score(&r->chance, r->n, MOST_RECORDS - below(&r->chance, 3), &r->score);
+    page(r, came);
+    r->score = score;
+    r->heard = heard;
+}
+
 void run_pages(struct round *r) {
     static struct buffers came;
     if (!came.room[OUT]) make_buffers(&came);
-    if (one_in(&r->chance, 8)) {
-        long_score(&r->chance, r->n, MOST_RECORDS - below(&r->chance, 3), &r->score);
-        judge_hear(r, &r->score, &r->heard);
-    }
     page(r, &came);
-    if (one_in(&r->chance, 4)) page(r, &came);
+    if (one_in(&r->chance, 8)) full_page(r, &came);
     lend(&r->lent, EDITS, NULL, 0);
     lend(&r->lent, ROOM, NULL, 0);
 }
