@@ -26,6 +26,10 @@
 #define OFF_69_AT_100 0x56, 0x4E, 100, 0, 0, 0, 2, 69, 0, 0
 #define AT_4500(kind, note, velocity) 0x56, 0x4E, 0x94, 0x11, 0, 0, kind, note, velocity, 0
 #define ON_60 AT_4500(1, 60, 100)
+#define OFF_60_AT_0 0x56, 0x4E, 0, 0, 0, 0, 2, 60, 0, 0
+#define EDIT(code, ...) 0x45, 0x44, code, 0, __VA_ARGS__
+#define INSERT(...) EDIT(GAV_INSERT, __VA_ARGS__)
+#define REMOVE(...) EDIT(GAV_REMOVE, __VA_ARGS__)
 
 static const uint8_t example[] = {ON_69, OFF_69_AT_100};
 /* the example, and note 60 on at 4,500 */
@@ -33,7 +37,7 @@ static const uint8_t longer[] = {ON_69, OFF_69_AT_100, ON_60};
 /* the longer score, and a reset at 300 */
 static const uint8_t reset[] = {ON_69, OFF_69_AT_100, 0x56, 0x4E, 0x2C, 1, 0, 0, 3, 0, 0, 0, ON_60};
 /* note 60 off at 0, which finds no key, and the example */
-static const uint8_t stray[] = {0x56, 0x4E, 0, 0, 0, 0, 2, 60, 0, 0, ON_69, OFF_69_AT_100};
+static const uint8_t stray[] = {OFF_60_AT_0, ON_69, OFF_69_AT_100};
 /* the example, and note 60 on at 5,000, where the output has ended */
 static const uint8_t late[] = {ON_69, OFF_69_AT_100, 0x56, 0x4E, 0x88, 0x13, 0, 0, 1, 60, 100, 0};
 /* note 69 on, and note 60 on at 4,500, while 69 sounds */
@@ -50,6 +54,8 @@ static double magnitudes[SECTIONS + 1], magnitudes_before[LEN(magnitudes)], peak
 static uint64_t numbers[SECTIONS + 1], numbers_before[LEN(numbers)], places[SECTIONS];
 static uint64_t state[GAV_STATE_WORDS + 1], state_before[LEN(state)];
 static uint8_t text[GAV_LIST_ROOM], text_before[LEN(text)];
+/* one byte more than a page writes its score to */
+static uint8_t new_score[GAV_SCORE_BYTES + 1], new_score_before[LEN(new_score)], full[GAV_SCORE_BYTES];
 
 static int held, faults;
 
@@ -102,10 +108,12 @@ static void spoil(void) {
     memset(numbers, 0xA5, sizeof numbers);
     memset(state, 0xA5, sizeof state);
     memset(text, '~', sizeof text);
+    memset(new_score, 0xA5, sizeof new_score);
     memcpy(out_before, out, sizeof out);
     keep_shelf();
     memcpy(state_before, state, sizeof state);
     memcpy(text_before, text, sizeof text);
+    memcpy(new_score_before, new_score, sizeof new_score);
 }
 
 /* Shelf and summary: as they were, and as those of all. */
@@ -116,7 +124,8 @@ static int is_before(void) {
 static int is_of_all(void) { return SAME(shelf, entries) && SAME(peaks, magnitudes) && SAME(places, numbers); }
 
 static int untouched(void) {
-    return SAME(out, out_before) && is_before() && SAME(state, state_before) && SAME(text, text_before);
+    return SAME(out, out_before) && is_before() && SAME(state, state_before) && SAME(text, text_before) &&
+           SAME(new_score, new_score_before);
 }
 
 static void answers(void) {
@@ -125,9 +134,11 @@ static void answers(void) {
     HOLD(gav_version() == GAV_VERSION);
     HOLD(strcmp(gav_words(GAV_DONE), "done") == 0 && strcmp(gav_words(says(GAV_DONE, 0, N)), "done") == 0);
     HOLD(strstr(gav_words(says(21, 4095, 0)), "of the new score has a position below that of the record before it") != NULL);
+    HOLD(strstr(gav_words(says(51, 7, 0)), "the record of an edit is of a kind that is not 1 (on), 2 (off) or 3 (reset)") != NULL);
+    HOLD(strcmp(gav_words(says(GAV_DONE, GAV_SCORE_BYTES, N)), "done") == 0);
     const char *unknown = gav_words(255);
     for (unsigned number = 0; number < 256; number++) {
-        int known = number <= 10 || (number >= 17 && number <= 21);
+        int known = number <= 10 || (number >= 17 && number <= 21) || (number >= 33 && number <= 36) || (number >= 50 && number <= 52);
         HOLD((strcmp(gav_words(number), unknown) != 0) == known);
     }
     HOLD(gav_sections(0) == 0 && gav_sections(1) == 1 && gav_sections(4096) == 1 && gav_sections(4097) == 2);
@@ -239,6 +250,94 @@ static void stops(void) {
     HOLD(SAME(shelf, entries));
 }
 
+/* A page on the score and the buffers. */
+static uint64_t page(const uint8_t *score, size_t len, const uint8_t *edits, size_t edits_len) {
+    return gav_edit(SETTINGS, score, len, edits, edits_len, out, N, shelf, 2 * WORDS, SUMMARY, new_score, GAV_SCORE_BYTES);
+}
+
+/* One edit of the example with a byte that is another; where its record's mark is wrong too, the edit's own byte is told.
+ */
+static uint64_t edit_with(size_t at, uint8_t byte, uint8_t mark) {
+    uint8_t edits[2 * GAV_EDIT_BYTES] = {INSERT(ON_60), INSERT(ON_60)};
+    edits[GAV_EDIT_BYTES + 4] = mark;
+    edits[GAV_EDIT_BYTES + at] = byte;
+    return page(example, 20, edits, sizeof edits);
+}
+
+/* Over buffers that nothing was rendered into, so that a page that is right is 8. */
+static void refused_pages(void) {
+    static const uint8_t add[] = {INSERT(ON_60)}, absent[] = {INSERT(ON_60), REMOVE(AT_4500(1, 60, 101))};
+    static const uint8_t first[] = {REMOVE(ON_60), 0}, in_place[] = {REMOVE(ON_69), INSERT(ON_60), INSERT(ON_60)};
+    static const uint8_t undone[] = {INSERT(ON_60), REMOVE(ON_60)};
+    for (size_t i = 0; i < sizeof full; i++) full[i] = example[i % 10];
+    spoil();
+    HOLD(gav_edit(RATE, 5, 0, ADSR, PLAIN, example, 19, first, 15, out, N, shelf, 1, SUMMARY, new_score, 1) == says(6, 0, 0));
+    HOLD(gav_edit(SETTINGS, example, 19, first, 15, out, N, shelf, 1, SUMMARY, new_score, 1) == says(7, 0, 0));
+    HOLD(gav_edit(SETTINGS, example, 19, first, 15, out, N, shelf, 2 * WORDS, SUMMARY, new_score, 1) == says(1, 0, 0));
+    HOLD(page(wrong_kind, 20, first, 15) == says(3, 1, 0) && page(falling, 20, first, 15) == says(5, 1, 0));
+    HOLD(page(example, 20, first, 15) == says(36, 0, 0) && page(example, 20, first, 13) == says(36, 0, 0));
+    for (size_t more = 0; more < 3; more += 2) {
+        HOLD(gav_edit(SETTINGS, example, 20, first, 14, out, N, shelf, 2 * WORDS, SUMMARY, new_score, GAV_SCORE_BYTES - 1 + more) ==
+             says(36, 0, 0));
+    }
+    HOLD(gav_edit(SETTINGS, example, 20, NULL, 0, out, N, shelf, 2 * WORDS, SUMMARY, NULL, 0) == says(36, 0, 0));
+    HOLD(edit_with(0, 0x44, 0) == says(33, 1, 0) && edit_with(1, 0x45, 0) == says(33, 1, 0));
+    HOLD(edit_with(2, 0, 0) == says(33, 1, 0) && edit_with(2, 3, 0) == says(33, 1, 0) && edit_with(3, 1, 0) == says(33, 1, 0));
+    HOLD(edit_with(5, 0x4F, 0x56) == says(50, 1, 0) && edit_with(10, 4, 0x56) == says(51, 1, 0));
+    HOLD(edit_with(11, 128, 0x56) == says(52, 1, 0) && edit_with(13, 1, 0x56) == says(52, 1, 0));
+    HOLD(page(example, 20, first, 14) == says(34, 0, 0) && page(example, 20, absent, LEN(absent)) == says(34, 1, 0));
+    HOLD(page(full, sizeof full, add, LEN(add)) == says(35, 0, 0) && page(full, sizeof full, undone, LEN(undone)) == says(35, 0, 0));
+    HOLD(page(full, sizeof full, in_place, LEN(in_place)) == says(35, 2, 0));
+    HOLD(page(full, sizeof full, in_place, 28) == says(8, 0, 0) && page(example, 20, add, LEN(add)) == says(8, 0, 0));
+    HOLD(untouched());
+
+    /* where nothing is made no entry is read; the score is written, and nothing else */
+    HOLD(page(example, 20, NULL, 0) == says(0, 20, 0) && memcmp(new_score, example, 20) == 0);
+    HOLD(memcmp(new_score + 20, new_score_before + 20, sizeof new_score - 20) == 0);
+    HOLD(page(example, 20, undone, LEN(undone)) == says(0, 20, 0) && page(full, sizeof full, NULL, 0) == says(0, 40960, 0));
+    HOLD(memcmp(new_score, full, sizeof full) == 0 && new_score[sizeof full] == 0xA5);
+    memcpy(new_score, new_score_before, sizeof new_score);
+    HOLD(untouched());
+}
+
+/* A page leaves what a render of the new score leaves; what lies before the start stays, here NaNs of every kind. */
+static void pages(void) {
+    static const uint8_t edits[] = {REMOVE(OFF_69_AT_100), INSERT(ON_60), INSERT(OFF_69_AT_100)};
+    double strange;
+    HOLD(gav_render(SETTINGS, longer, 30, all, N, entries, 2 * WORDS, SUMMARY_OF_ALL) == says(0, 0, N));
+    HOLD(gav_render(SETTINGS, example, 20, out, N, shelf, 2 * WORDS, SUMMARY) == says(0, 0, N));
+    memset(new_score, 0xA5, sizeof new_score);
+    put_nan(&strange, 3);
+    put_nan(magnitudes, 3);
+    numbers[0] = 77;
+    put_nans(out, GAV_SECTION);
+    memcpy(played, out, sizeof out);
+    HOLD(page(example, 20, edits, LEN(edits)) == says(0, 30, N - GAV_SECTION));
+    HOLD(memcmp(out, played, GAV_SECTION * sizeof *out) == 0);
+    HOLD(memcmp(magnitudes, &strange, sizeof strange) == 0 && numbers[0] == 77);
+    HOLD(memcmp(out + GAV_SECTION, all + GAV_SECTION, (N - GAV_SECTION) * sizeof *out) == 0 && SAME(shelf, entries));
+    HOLD(magnitudes[1] == peaks[1] && numbers[1] == places[1]);
+    HOLD(memcmp(new_score, longer, 30) == 0 && new_score[30] == 0xA5 && new_score[GAV_SCORE_BYTES] == 0xA5);
+}
+
+/* A page that stops at section 1: the off at 0, behind the key there. What lies behind the stop stays, but for the
+ * records that have acted. */
+static void pages_stop(void) {
+    static const uint8_t edits[] = {INSERT(OFF_60_AT_0)}, after[] = {ON_69, OFF_60_AT_0, OFF_69_AT_100};
+    double strange, behind[N - GAV_SECTION];
+    HOLD(gav_render(SETTINGS, after, 30, all, N, entries, 2 * WORDS, SUMMARY_OF_ALL) == says(0, 0, N));
+    HOLD(gav_render(SETTINGS, example, 20, out, N, shelf, 2 * WORDS, SUMMARY) == says(0, 0, N));
+    put_nans(out, N);
+    memcpy(behind, out + GAV_SECTION, sizeof behind);
+    put_nan(&strange, 3);
+    memcpy(magnitudes + 1, &strange, sizeof strange);
+    numbers[1] = 77;
+    HOLD(page(example, 20, edits, LEN(edits)) == says(0, 30, GAV_SECTION) && memcmp(new_score, after, 30) == 0);
+    HOLD(memcmp(out, all, GAV_SECTION * sizeof *out) == 0 && SAME(behind, out + GAV_SECTION));
+    HOLD(magnitudes[0] == peaks[0] && memcmp(magnitudes + 1, &strange, sizeof strange) == 0 && numbers[1] == 77);
+    HOLD(SAME(shelf, entries));
+}
+
 /* After rerenders(): out is the render of the longer score. The old score and the new one in one buffer. */
 static void overlaps(void) {
     HOLD(gav_rerender(SETTINGS, longer, 30, longer, 20, out, N, shelf, 2 * WORDS, SUMMARY) == says(0, 0, N - GAV_SECTION));
@@ -282,6 +381,13 @@ static void wrappers(void) {
     HOLD(gav_rerender(PULSE, overlapping, 10, overlapping, 20, out, N, shelf, 2 * WORDS, SUMMARY) == done);
     HOLD(gav_rerender_with(&s, overlapping, 10, overlapping, 20, played, N, shelf_before, 2 * WORDS, SUMMARY_BEFORE) == done);
     HOLD(SAME(out, played) && is_before());
+    const uint8_t edits[] = {REMOVE(ON_60), INSERT(AT_4500(1, 61, 100))};
+    const uint64_t made = says(0, 20, N - GAV_SECTION);
+    HOLD(gav_edit(PULSE, overlapping, 20, edits, 28, out, N, shelf, 2 * WORDS, SUMMARY, new_score, GAV_SCORE_BYTES) == made);
+    HOLD(gav_edit_with(&s, overlapping, 20, edits, 28, played, N, shelf_before, 2 * WORDS, SUMMARY_BEFORE, new_score_before,
+                       GAV_SCORE_BYTES) == made);
+    HOLD(SAME(out, played) && is_before() && new_score[17] == 61 && memcmp(new_score, new_score_before, 20) == 0);
+    HOLD(gav_rerender_with(&s, new_score, 20, overlapping, 20, out, N, shelf, 2 * WORDS, SUMMARY) == done);
     HOLD(gav_fresh(state, WORDS) == 0);
     HOLD(gav_continue_with(&s, overlapping, 20, state, WORDS, 0, played, N) == says(0, 0, N));
     HOLD(SAME(out, played));
@@ -385,11 +491,12 @@ static void tremolos(void) {
     HOLD(SAME(played, all));
 }
 
-/* Each of the three calls is 6, before all else: the score, the shelf and the state are wrong too. */
+/* Each of the four calls is 6, before all else: the score, the shelf, the list and the state are wrong too. */
 static int are_six(uint32_t code, double duty, double frequency, double depth, uint32_t joined) {
 #define WRONG RATE, GAV_SAWTOOTH, NAN, ADSR, code, duty, frequency, depth, joined
     return gav_render(WRONG, example, 19, out, N, shelf, 1, SUMMARY) == says(6, 0, 0) &&
            gav_rerender(WRONG, example, 19, example, 19, out, N, shelf, 1, SUMMARY) == says(6, 0, 0) &&
+           gav_edit(WRONG, example, 19, example, 19, out, N, shelf, 1, SUMMARY, new_score, 1) == says(6, 0, 0) &&
            gav_continue(WRONG, example, 19, state, 1, UINT64_MAX, out, N) == says(6, 0, 0);
 }
 
@@ -743,6 +850,9 @@ int main(void) {
     summed_edits();
     stops();
     spoilt_entries();
+    refused_pages();
+    pages();
+    pages_stop();
     printf("%d facts held, %d faults\n", held - faults, faults);
     return faults != 0;
 }
