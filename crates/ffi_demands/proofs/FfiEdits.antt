@@ -34,10 +34,10 @@ use Rattle.ffi_demands.proofs.Codes.{sustain-fits}
 use Rattle.ffi_demands.proofs.FfiDemand3.{zero-good, desk-left, desk-from}
 
 -- ---- the edits of `demands`, each answer packed
-abbrev packedAll : Outcome (List Answer) → Outcome (List ℕ)
+abbrev pub packedAll : Outcome (List Answer) → Outcome (List ℕ)
 packedAll o = leaves (map packedOf (o .result)) (o .left)
 
-edits-are : (a : Asked) (g : Settings) → choiceOf a ≡ Known g → (news : List (List ℕ)) (old : List ℕ) (b : Buffers) → wordsEditsFrom a old news b ≡ packedAll (editsFrom g old news b)
+pub edits-are : (a : Asked) (g : Settings) → choiceOf a ≡ Known g → (news : List (List ℕ)) (old : List ℕ) (b : Buffers) → wordsEditsFrom a old news b ≡ packedAll (editsFrom g old news b)
 unfolding wordsEditsFrom editsFrom
 edits-are a g is [] old b = refl
 edits-are a g is (new ∷ rest) old b = let r = rerenderOf g old new b in rw is (ap (andOver (rerendered r)) (edits-are a g is rest new (r .left)))
@@ -60,7 +60,7 @@ zero-taken g (new ∷ rest) old b z =
 words-taken : (a : Asked) (g : Settings) → choiceOf a ≡ Known g → (news : List (List ℕ)) (old : List ℕ) (b : Buffers) → AllZero (wordsEditsFrom a old news b .result) → AllTaken news
 words-taken a g is news old b z = zero-taken g news old b (subst (λ (o : Outcome (List ℕ)). AllZero (o .result)) (edits-are a g is news old b) z)
 
-counted-zeros : (g : Settings) (n : ℕ) (news : List (List ℕ)) (old : List ℕ) → AllZero (map packedOf (allCounted g old news n))
+pub counted-zeros : (g : Settings) (n : ℕ) (news : List (List ℕ)) (old : List ℕ) → AllZero (map packedOf (allCounted g old news n))
 unfolding allCounted
 counted-zeros g n [] old = tt
 counted-zeros g n (new ∷ rest) old = (done-zero (countFor g old new (planOf old new n) (madeOf g old n .left)), counted-zeros g n rest new)

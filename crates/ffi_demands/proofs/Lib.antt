@@ -13,6 +13,8 @@ pub mod FfiChain
 pub mod FfiDemand3
 -- any number of edits leave what one render of the last score leaves
 pub mod FfiEdits
+-- a page of edits leaves what its edits leave one at a time, and a page for each of them takes the same fronts
+pub mod FfiPages
 -- the summary: right after a gav_render, and after every gav_rerender where it came so
 pub mod FfiPeaks
 -- a chain and edits that meet the premises
