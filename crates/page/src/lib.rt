@@ -37,7 +37,7 @@ pub struct Paged {
 }
 
 // The bytes of the score at the front of the room, or why an edit was refused.
-pub enum Applied {
+enum Applied {
     Score(usize),
     Stopped(Refusal),
 }
