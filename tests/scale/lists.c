@@ -123,7 +123,7 @@ static void replace(struct drawn *d, const uint8_t *record, uint32_t position, u
 }
 
 /* A record inserted, or one like another; removed; moved, with another velocity, or put last among those at its
- * position; or the edits before undone. */
+ * position; the edits before undone; or one inserted that is there, and removed. */
 static void draw_edit(struct drawn *d) {
     uint8_t record[RECORD], other[RECORD];
     uint64_t how = below(d->c, 12);
@@ -139,8 +139,10 @@ static void draw_edit(struct drawn *d) {
     } else if (how < 11) {
         bool is_moved = how == 8, is_other = how == 9;
         replace(d, other, record_position(is_moved ? record : other), is_other ? record[8] : other[8]);
-    } else {
+    } else if (one_in(d->c, 2)) {
         undo(d, 1 + below(d->c, 2));
+    } else if (add_edit(d, GAV_INSERT, other)) {
+        add_edit(d, GAV_REMOVE, other);
     }
 }
 

@@ -182,7 +182,7 @@ void run_refusals(struct round *r) {
     resize(&r->chance, &r->lent, ROOM, GAV_SCORE_BYTES + RECORD);
     for (int i = 0; i < 2 * REASONS; i++) {
         struct faults f = {(enum reason)(i / 2), i % 2 == 0};
-        if (f.first != NEW_SCORE) refused_page(r, f);
+        for (int lists = f.first == EDIT_LIST ? 3 : f.first != NEW_SCORE; lists > 0; lists--) refused_page(r, f);
     }
     lend(&r->lent, EDITS, NULL, 0);
     lend(&r->lent, ROOM, NULL, 0);

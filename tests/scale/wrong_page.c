@@ -257,8 +257,8 @@ static uint64_t leave(enum paging how, const struct lent_page *p) {
 uint64_t wrong_page(enum paging how, const struct lent_page *p) {
     const uint64_t refused = judge_call(how, p);
     if (refused != 0) return refused;
+    old = (struct score){.len = p->old_len};
     keep(old.bytes, p->old, p->old_len);
-    old.len = p->old_len;
     now = old;
     const uint64_t said = make_all(how, p);
     if (how == MADE_IN_PLACE) put_score(how, p);
