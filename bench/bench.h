@@ -22,7 +22,7 @@ render floor_render;
 
 /* library.c: the calls of the library and of the reference voice, the plain C, on the settings, and a shelf and peaks
  * of their own: a render by either; a render in parts, some samples from the start of a section on as one part, and a
- * re-render, which gives back its count. */
+ * re-render, which gives back its count; and a page of edits. */
 void library_prepare(size_t samples);
 render ours_render, plain_render;
 const uint64_t *plain_shelf(void);
@@ -30,6 +30,9 @@ void ours_continue(const struct gav_settings *settings, const struct score *scor
 void ours_from(const struct gav_settings *settings, const struct score *score, double *out, size_t from, size_t n);
 size_t ours_rerender(const struct gav_settings *settings, const struct score *old, const struct score *new_,
                      double *out, size_t n);
+/* A page of edits, which gives back its count; made, whose bytes are GAV_SCORE_BYTES, is the new score. */
+size_t ours_edit(const struct gav_settings *settings, const struct score *old, const struct score *edits, double *out,
+                 size_t n, struct score *made);
 
 /* scores.c: scores of some keys that depend on a seed alone, and copies of them with room for more bytes. */
 struct keys {
@@ -84,6 +87,7 @@ void measure_keyings(struct bench *bench);
 void measure_peaks(struct bench *bench);
 void measure_continuing(struct bench *bench);
 void measure_edits(struct bench *bench);
+void measure_pages(struct bench *bench);
 void measure_scores(struct bench *bench);
 
 /* Nanoseconds of one check, of a whole render of ours, and of the same samples by continuing calls of so many each. */

@@ -99,3 +99,13 @@ size_t ours_rerender(const struct gav_settings *s, const struct score *old, cons
     return done(gav_rerender_with(s, old->bytes, old->len, new_->bytes, new_->len, out, n, ours.shelf,
                                   gav_shelf_words(n), ours.magnitudes, sections, ours.numbers, sections));
 }
+
+size_t ours_edit(const struct gav_settings *s, const struct score *old, const struct score *edits, double *out,
+                 size_t n, struct score *made) {
+    const size_t sections = gav_sections(n);
+    uint64_t said =
+        gav_edit_with(s, old->bytes, old->len, edits->bytes, edits->len, out, n, ours.shelf, gav_shelf_words(n),
+                      ours.magnitudes, sections, ours.numbers, sections, made->bytes, GAV_SCORE_BYTES);
+    made->len = gav_place(said);
+    return done(said);
+}

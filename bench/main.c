@@ -54,6 +54,7 @@ int main(int argc, char **argv) {
     measure_peaks(&b);
     measure_continuing(&b);
     measure_edits(&b);
+    measure_pages(&b);
     measure_scores(&b);
     report_end(&b);
     return b.differences > 0 ? 1 : 0;
