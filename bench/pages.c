@@ -29,12 +29,18 @@ static void add_edit(struct score *edits, uint8_t code, const uint8_t *record) {
     edits->len += GAV_EDIT_BYTES;
 }
 
+static inline uint32_t position_of(const uint8_t *record) {
+    uint32_t position = 0;
+    for (int i = 5; i > 1; i--) position = position << 8 | record[i];
+    return position;
+}
+
 /* An edit in plain C: 02's words, and the C library's moves. */
 static void edit_plainly(struct score *score, const uint8_t *edit) {
     const uint8_t *record = edit + GAV_EDIT_BYTES - RECORD;
     uint8_t *at = score->bytes, *end = at + score->len;
     if (edit[2] == GAV_INSERT) {
-        while (at < end && record_position(at) <= record_position(record)) at += RECORD;
+        while (at < end && position_of(at) <= position_of(record)) at += RECORD;
         memmove(at + RECORD, at, (size_t)(end - at));
         memcpy(at, record, RECORD);
         score->len += RECORD;

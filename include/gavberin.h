@@ -24,7 +24,7 @@
  * What a call takes: nothing from the heap, no system call, at most 64 KB of stack (measured: 45 KB, and 9 KB but for a
  * sine, of the oscillator or the LFO, over 1,024 samples or more), and time in proportion to the records and samples
  * that it is given. gav_edit is the exception: it makes the new score in a room of its own before it re-renders, and so
- * takes at most 128 KB of stack (measured: 86 KB, and 50 KB but for a sine); each edit takes time in proportion to the
+ * takes at most 128 KB of stack (measured: 86 KB, and 49 KB but for a sine); each edit takes time in proportion to the
  * records of the score. Calls keep nothing between them, so any number of threads may call at once, on buffers of their
  * own, and the callback of a sound driver may call.
  *
