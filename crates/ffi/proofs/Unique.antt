@@ -4,7 +4,8 @@ use mathlib.Core.List.{List}
 use Prim.Native.Nat.{ℕ}
 use lib.Ieee.{Float}
 use Rattle.sections.specs.Outcome.{Buffers, lends, leaves}
-use Rattle.page.specs.Page.{Rewritten, rewrites}
+use Rattle.page.specs.Page.{rewrites}
+use Rattle.page.proofs.Unique.{same-rewritten}
 use Rattle.sections.proofs.Unique.{same-left}
 use Rattle.ffi.specs.declared.Choice.{Choice}
 use Rattle.ffi.specs.Packed.{packedOf}
@@ -40,15 +41,7 @@ gav-rerender-unique choice old new b r t ys zs ws vs ms ns is js x y = same-left
 pub gav-edit-unique : (choice : Choice) (old es : List ℕ) (b : Buffers) (space : List ℕ) (r t : ℕ) (ys zs : List Float) (ws vs : List ℕ) (ms ns : List Float) (is js left after : List ℕ)
     → rewrites r (lends ys ws ms is) left ≡ editFor choice old es b space → rewrites t (lends zs vs ns js) after ≡ editFor choice old es b space
     → (r ≡ t) × (ys ≡ zs) × (ws ≡ vs) × (ms ≡ ns) × (is ≡ js) × (left ≡ after)
-gav-edit-unique choice old es b space r t ys zs ws vs ms ns is js left after x y =
-    let e : rewrites r (lends ys ws ms is) left ≡ rewrites t (lends zs vs ns js) after = x ∙ sym y in (
-      ap (λ (o : Rewritten ℕ). o .result) e,
-      ap (λ (o : Rewritten ℕ). o .left .heard) e,
-      ap (λ (o : Rewritten ℕ). o .left .stored) e,
-      ap (λ (o : Rewritten ℕ). o .left .summary .magnitudes) e,
-      ap (λ (o : Rewritten ℕ). o .left .summary .numbers) e,
-      ap (λ (o : Rewritten ℕ). o .space) e,
-    )
+gav-edit-unique choice old es b space r t ys zs ws vs ms ns is js left after x y = same-rewritten (editFor choice old es b space) r t ys zs ws vs ms ns is js left after x y
 
 pub gav-continue-unique : (choice : Choice) (s ws : List ℕ) (p : ℕ) (part : List Float) (r t : ℕ) (ys zs : List Float) (c d : List ℕ)
     → continues r ys c ≡ continueFor choice s ws p part → continues t zs d ≡ continueFor choice s ws p part → (r ≡ t) × (ys ≡ zs) × (c ≡ d)
