@@ -138,7 +138,7 @@ enum gav_answer {
     GAV_EDIT_NOT_THERE = 34,   /* an edit that removes: no record of the score is equal to its own */
     GAV_EDIT_FULL = 35,        /* an edit that inserts: the score has 4,096 records already */
     GAV_EDIT_SIZE = 36,        /* edit: the list is no multiple of 14 bytes, or new_score has not 40,960 bytes */
-    GAV_EDIT_RECORD_MARK = 50, /* 50 to 52: as 2 to 4, of an edit's own record */
+    GAV_EDIT_RECORD_MARK = 50, /* 50 to 52: as 2 to 4, of an edit's own record; the place is the edit's index */
     GAV_EDIT_RECORD_KIND = 51,
     GAV_EDIT_RECORD_FIELD = 52
 };
@@ -251,17 +251,17 @@ static inline uint64_t gav_render_with(const struct gav_settings *s, const uint8
  * ten that differ the lower position is P, or, where one score has ended there, the position of the other's ten. The
  * start is GAV_SECTION * (P / GAV_SECTION), and the stop is the start + count.
  * The caller's duty: from the start on samples, shelf and summary are as gav_render of the old score left them, or the
- * gav_rerender that had the old score for its new one, under the same settings and n. Then they are, from the start on,
- * as gav_render of the new score leaves them. No sample and no summary that came is read, so that one behind the stop
- * that is wrong stays wrong. A host that lacks those of a later section spoils, say by setting every bit, the entries
- * after the start's up to and with that section's own: what is no state stops nothing. It keeps a copy of them, and
- * puts it back where the call is refused or its count is 0: then nothing was written, and a later edit that starts at a
- * spoilt entry would be refused, 8. Where all entries after the start's are spoilt all is made up to n, and only the
- * start's entry has to be as it was left.
+ * gav_rerender or gav_edit that had the old score for its new one, under the same settings and n. Then they are, from
+ * the start on, as gav_render of the new score leaves them. No sample and no summary that came is read, so that one
+ * behind the stop that is wrong stays wrong. A host that lacks those of a later section spoils, say by setting every
+ * bit, the entries after the start's up to and with that section's own: what is no state stops nothing. It keeps a copy
+ * of them, and puts it back where the call is refused or its count is 0: then nothing was written, and a later edit
+ * that starts at a spoilt entry would be refused, 8. Where all entries after the start's are spoilt all is made up to
+ * n, and only the start's entry has to be as it was left.
  * old, old_len:   the score that out, shelf and summary were rendered of
  * new_, new_len:  the score to render now; it may be the same buffer
  * out, n; shelf, words; magnitudes, magnitudes_len, numbers, numbers_len: as for gav_render, holding what gav_render or
- *                 the last gav_rerender left. What lies before the start stays, wrong or not */
+ *                 the last gav_rerender or gav_edit left. What lies before the start stays, wrong or not */
 uint64_t gav_rerender(uint32_t rate, uint32_t code, double duty, double attack, double decay, double sustain,
                       double release, uint32_t lfo_code, double lfo_duty, double lfo_frequency, double lfo_depth,
                       uint32_t joined, const uint8_t *old, size_t old_len, const uint8_t *new_, size_t new_len,
@@ -282,7 +282,8 @@ static inline uint64_t gav_rerender_with(const struct gav_settings *s, const uin
  * Each edit is made on the score that those before it leave:
  *    insert  puts the record after all records at its position or lower
  *    remove  takes out the first record that is equal to it, all ten bytes; so the velocity of an off counts too
- * A remove and an insert of a record that is there, in either order, bring it behind the others at its position.
+ * A remove and an insert of a record that is there, in either order, bring it behind the others at its position; an
+ * insert into 4,096 records is refused, so there only the remove may come first.
  * Done, the place, bits 8 to 31 of the answer, is the bytes of the new score, which gav_place gives: they stand at the
  * front of new_score, and the rest of that buffer stays as it came. The count is the re-render's, from its start to its
  * stop. Where the list is empty, or its edits undo each other, or the first change lies at n or later, the score is

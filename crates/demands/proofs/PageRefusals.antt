@@ -19,7 +19,7 @@ use Rattle.answers.proofs.Order.{passed, none-both, none-map, Leads, leads-appe
 use Rattle.sections.specs.Outcome.{Buffers, samplesIn, roomIn}
 use Rattle.judging.specs.Judging.{refusalsOf}
 use Rattle.judging.proofs.Refusals.{all-passed, judged-first}
-use Rattle.page.specs.Page.{editsIn, editByte, frameRight, isInsert, recordOf, scoreAfter, newScoreOf, recordFaults, heldRefusals, editRefusals, refusalsFrom, pageFits, firstRefusals, pageRefusals}
+use Rattle.page.specs.Page.{editsIn, editByte, frameRight, isInsert, recordOf, scoreAfter, newScoreOf, recordFaults, heldRefusals, editRefusals, refusalsFrom, pageFits, AllMade, firstRefusals, pageRefusals}
 use Rattle.page.proofs.Taken.{faults-right, right-faults, after-accepted, none-made, made-none}
 use Rattle.page.proofs.Calls.{edit-decided}
 use Rattle.rerender.specs.Rerender.{planOf, startRefusals}
@@ -225,10 +225,10 @@ module _ (g : Settings) (old es : List ℕ) (b : Buffers) (space : List ℕ) whe
       leads-append why (first ++ edits) eighth (leads-after why first edits (begun-none begun)
       (from-leads (λ i. editRefusals (scoreAfter old es i) es i) (refusalsFrom old es) (λ i. refl) (λ k i. refl) why i (editsIn es) 0 (reached .there) (λ j a l. reached .before j (omega arith)) here))
 
-  all-made : edits ≡ [] → (i : ℕ) → i < editsIn es → editRefusals (scoreAfter old es i) es i ≡ []
+  all-made : edits ≡ [] → AllMade old es
   all-made e i h = none-made old es (editsIn es) 0 e i (omega arith) (omega arith)
 
-  none-before-eighth : PageBegun g room old es space → ((i : ℕ) → i < editsIn es → editRefusals (scoreAfter old es i) es i ≡ []) → first ++ edits ≡ []
+  none-before-eighth : PageBegun g room old es space → AllMade old es → first ++ edits ≡ []
   none-before-eighth begun f = rw (begun-none begun, made-none old es (editsIn es) 0 (λ j a l. f j (omega arith))) refl
 
   -- the page's first refusal, in both directions

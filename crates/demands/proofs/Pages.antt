@@ -39,7 +39,7 @@ use Rattle.rerender.specs.Rerender as rerender
 use Rattle.rerender.specs.Rerender.{planOf, outcomeOf, startRefusals, countFor, rerenderOf}
 use Rattle.rerender.proofs.Cases.{plan-equal, plan-late}
 use Rattle.page.specs.declared.Paged.{Paged}
-use Rattle.page.specs.Page.{editsIn, editByte, frameRight, isInsert, recordOf, insertedOf, removedOf, editedBy, scoreAfter, newScoreOf, recordFaults, heldRefusals, editRefusals, Rewritten, rewrites, paged, pageFits, firstRefusals, keptOf, turnedOver, editOf}
+use Rattle.page.specs.Page.{editsIn, editByte, frameRight, isInsert, recordOf, insertedOf, removedOf, editedBy, scoreAfter, newScoreOf, recordFaults, heldRefusals, editRefusals, Rewritten, rewrites, paged, pageFits, firstRefusals, keptOf, turnedOver, editOf, AllMade}
 use Rattle.page.specs.Inner.{IsAccepted, turnOf}
 use Rattle.page.proofs.Taken.{accepted-bytes, after-accepted, made-none}
 use Rattle.page.proofs.Calls.{outcome-done, edit-turns, turn-is}
@@ -47,7 +47,7 @@ use Rattle.page.proofs.Records.{insert-made, insert-is, remove-made, remove-is}
 use Rattle.demands.specs.Demand3.{Taken, BuffersOf, leftIn}
 use Rattle.demands.specs.Demand3 as demand3
 use Rattle.demands.specs.Edits.{editsFrom, lastScore, AllTaken}
-use Rattle.demands.specs.Pages.{AllMade, scoresFrom, scoresOf, frontOf, pagesFrom, scoreOver, oncePaged, allPaged, oneEdit, singlesFrom, singlesOf, Begins, Whole, AllWhole, AtOnce, OneAtATime, PageByPage, PagesOfOne, BesideRerender, PagesOfEdits}
+use Rattle.demands.specs.Pages.{scoresFrom, scoresOf, frontOf, pagesFrom, scoreOver, oncePaged, allPaged, oneEdit, singlesFrom, singlesOf, Begins, Whole, AllWhole, AtOnce, OneAtATime, PageByPage, PagesOfOne, BesideRerender, PagesOfEdits}
 use Rattle.demands.proofs.Cut.{sized-lent}
 use Rattle.demands.proofs.Whole.{wholeOf, whole-sized, left-is}
 use Rattle.demands.proofs.Edits.{one-edit, any-edits}

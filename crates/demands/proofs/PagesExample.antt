@@ -31,11 +31,11 @@ use Rattle.rerender.specs.declared.Plan.{Plan}
 use Rattle.rerender.specs.declared.Plan.the-variants.{From}
 use Rattle.rerender.specs.Rerender.{planOf, countFor}
 use Rattle.rerender.proofs.Cases.{plan-from}
-use Rattle.page.specs.Page.{frameRight, insertedOf, removedOf, scoreAfter, newScoreOf, recordFaults, heldRefusals, editRefusals, Rewritten, paged, editOf}
+use Rattle.page.specs.Page.{frameRight, insertedOf, removedOf, scoreAfter, newScoreOf, recordFaults, heldRefusals, editRefusals, Rewritten, paged, editOf, AllMade}
 use Rattle.page.specs.declared.Paged.{Paged}
 use Rattle.demands.specs.Demand3.{Edit, BuffersOf, leftIn, Settled, StopsAt}
 use Rattle.demands.specs.Edits.{editsFrom}
-use Rattle.demands.specs.Pages.{AllMade, scoresOf, pagesFrom, oncePaged, singlesOf, Begins, Whole, AtOnce, OneAtATime, PagesOfOne}
+use Rattle.demands.specs.Pages.{scoresOf, pagesFrom, oncePaged, singlesOf, Begins, Whole, AtOnce, OneAtATime, PagesOfOne}
 use Rattle.demands.proofs.ChainExamples.{trembling, trembling-ok}
 use Rattle.demands.proofs.Example.{stray}
 use Rattle.demands.proofs.Stops.{one-stop}
@@ -62,7 +62,7 @@ swapped = other ++ stray
 found-first : firstEqual two stray ≡ 0
 found-first = ⊎-elim (λ l. absurd (sought two stray .none-before 0 l refl)) (λ h. omega arith) (lt-or-ge 0 (firstEqual two stray))
 
-swaps : newScoreOf two swap ≡ swapped
+pub swaps : newScoreOf two swap ≡ swapped
 unfolding scoreAfter insertedOf removedOf positionAt below
 swaps = rw found-first refl
 
@@ -80,10 +80,10 @@ swapped-accepted : verdictOf swapped ≡ Accepted 2
 unfolding positionAt markRight kindRight fieldsRight inOrder faultsAt faultsFrom faultsOf verdictOf
 swapped-accepted = refl
 
-swap-begins : Begins trembling two
+pub swap-begins : Begins trembling two
 swap-begins = record { settings = trembling-ok; sustain-fits = ofBits-fits binary64 0x3fe0_0000_0000_0000; old-taken = record { records = 2; accepted = two-accepted } }
 
-swap-whole : Whole two swap
+pub swap-whole : Whole two swap
 swap-whole = record { whole-edits = refl; all-made = swap-made }
 
 -- ---- where it stops
@@ -119,7 +119,7 @@ stops-at-1 : StopsAt trembling two swapped 0 8192 1
 stops-at-1 = record { past = omega arith; within = omega arith; settled = λ l. settled; first = λ j l u s. omega arith }
 
 -- the page's count
-swap-once : oncePaged trembling two swapped 8192 ≡ paged (Done 4096) 20
+pub swap-once : oncePaged trembling two swapped 8192 ≡ paged (Done 4096) 20
 swap-once =
     let planned : planOf two swapped 8192 ≡ From 0 = sym (plan-from two swapped 8192 0 swap-differs (omega arith)) in
     let c = any-edits .counts trembling two swapped swap-edit 8192 (omega arith) 0 planned in
@@ -138,7 +138,7 @@ paper = replicate 40960 7
 abbrev pub swapCall : Rewritten Paged
 swapCall = editOf trembling two swap (leftIn trembling two lentOnes .left) paper
 
-paper-long : length paper ≡ 40960
+pub paper-long : length paper ≡ 40960
 paper-long = length-replicate {A = ℕ} 40960 7
 
 at-once : AtOnce trembling two swap 8192 paper swapCall

@@ -20,7 +20,7 @@ use Rattle.answers.specs.declared.Refusal.the-variants.{Score, NewScore, Settin
 use Rattle.answers.specs.declared.ScoreFault.{ScoreFault}
 use Rattle.answers.specs.declared.ScoreFault.the-variants.{Length, Mark, Kind, Field, Order}
 use Rattle.judging.specs.Judging.{Passed, partFits}
-use Rattle.page.specs.Page.{editsIn, editByte, recordOf, scoreAfter, newScoreOf, editRefusals, rewrites, paged, editOf}
+use Rattle.page.specs.Page.{editsIn, editByte, recordOf, scoreAfter, newScoreOf, editRefusals, AllMade, rewrites, paged, editOf}
 use Rattle.render.specs.Calls.{says, renderOf, leavesPart, isGiven, continueOf}
 use Rattle.rerender.specs.declared.Plan.the-variants.{From}
 use Rattle.rerender.specs.Rerender.{planOf, isStart, countFor, rerenderOf}
@@ -159,7 +159,7 @@ PageWhen g room old es space n shelf (NotThere i) =
     × ((j : ℕ) → j < countOf (scoreAfter old es i) → bytesAt (scoreAfter old es i) j ≡ recordOf es i → ⊥)
 PageWhen g room old es space n shelf (Full i) = PageBegun g room old es space × Judged old es i × (editByte es i 2 ≡ 1) × (countOf (scoreAfter old es i) ≡ 4096)
 PageWhen g room old es space n shelf StartEntry =
-    PageBegun g room old es space × ((i : ℕ) → i < editsIn es → editRefusals (scoreAfter old es i) es i ≡ [])
+    PageBegun g room old es space × AllMade old es
     × ((m : ℕ) × (planOf old (newScoreOf old es) n ≡ From m) × (isStart (newScoreOf old es) m shelf ≡ false))
 PageWhen g room old es space n shelf (NewScore fault) = ⊥
 PageWhen g room old es space n shelf Argument = ⊥
@@ -187,6 +187,6 @@ pub record PageExactly (g : Settings) (old es : List ℕ) (b : Buffers) (space :
   pub refused : (why : Refusal) → Exactly (editOf g old es b space .result .answer ≡ Refused why) (PageWhen g (roomIn b) old es space (samplesIn b) (b .stored) why)
   pub done : Exactly
       (editOf g old es b space .result .answer ≡ Done (countFor g old (newScoreOf old es) (planOf old (newScoreOf old es) (samplesIn b)) b))
-      (PageBegun g (roomIn b) old es space × ((i : ℕ) → i < editsIn es → editRefusals (scoreAfter old es i) es i ≡ [])
+      (PageBegun g (roomIn b) old es space × AllMade old es
       × ((m : ℕ) → planOf old (newScoreOf old es) (samplesIn b) ≡ From m → isStart (newScoreOf old es) m (b .stored) ≡ true))
   pub as-it-came : (why : Refusal) → editOf g old es b space .result .answer ≡ Refused why → editOf g old es b space ≡ rewrites (paged (Refused why) 0) b space

@@ -34,15 +34,11 @@ use Rattle.state.specs.Settings.{settingsOk}
 use Rattle.render.specs.Calls.{madeOf}
 use Rattle.rerender.specs.Rerender.{planOf, countFor, rerenderOf}
 use Rattle.page.specs.declared.Paged.{Paged}
-use Rattle.page.specs.Page.{editsIn, scoreAfter, newScoreOf, editRefusals, firstRefusals, Rewritten, rewrites, paged, editOf}
+use Rattle.page.specs.Page.{editsIn, scoreAfter, newScoreOf, AllMade, firstRefusals, Rewritten, rewrites, paged, editOf}
 use Rattle.demands.specs.Demand3.{Taken, BuffersOf, leftIn}
 use Rattle.demands.specs.Edits.{editsFrom, lastScore, allCounted}
 
 -- ---- the scores
--- every edit of the list can be made: none is refused on the score that the edits before it leave
-abbrev pub AllMade : List ℕ → List ℕ → Type 0
-AllMade old es = (i : ℕ) → i < editsIn es → editRefusals (scoreAfter old es i) es i ≡ []
-
 -- the scores after each of k edits from edit i on
 unfoldable pub scoresFrom : List ℕ → List ℕ → ℕ → ℕ → List (List ℕ)
 scoresFrom old es zero i = []

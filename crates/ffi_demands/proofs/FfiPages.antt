@@ -9,14 +9,16 @@ use lib.Dec.{T}
 use lib.ListN.{length, take}
 use lib.Ieee.{binary64, fits}
 use Rattle.sections.specs.Outcome.{Buffers, samplesIn, Outcome}
-use Rattle.answers.specs.declared.Answer.the-variants.{Done}
+use Rattle.answers.specs.declared.Answer.{Answer}
+use Rattle.answers.specs.declared.Answer.the-variants.{Done, Refused}
+use Rattle.answers.specs.declared.Refusal.{Refusal}
 use Rattle.answers.specs.declared.Numbers.{Numbers}
 use Rattle.state.specs.declared.Settings.{Settings}
 use Rattle.render.specs.declared.Rendered.{Rendered}
 use Rattle.render.specs.Calls.{madeOf}
-use Rattle.rerender.specs.Rerender.{planOf, countFor}
+use Rattle.rerender.specs.Rerender.{planOf, countFor, rerenderOf}
 use Rattle.page.specs.declared.Paged.{Paged}
-use Rattle.page.specs.Page.{newScoreOf, Rewritten, rewrites, editOf}
+use Rattle.page.specs.Page.{newScoreOf, AllMade, firstRefusals, Rewritten, rewrites, paged, editOf}
 use Rattle.page.proofs.Calls.{edit-decided}
 use Rattle.demands.specs.Demand3.{Taken, BuffersOf, leftIn}
 use Rattle.demands.specs.Edits.{editsFrom}
@@ -29,12 +31,12 @@ use Rattle.ffi.specs.declared.Choice.{Choice}
 use Rattle.ffi.specs.declared.Choice.the-variants.{Known}
 use Rattle.ffi.specs.Packed.{packedOf, packedPage, numbersIn}
 use Rattle.ffi.specs.Ffi as desk
-use Rattle.ffi.specs.Ffi.{choiceOf, renderFor, edited, editFor}
+use Rattle.ffi.specs.Ffi.{choiceOf, renderFor, rerenderFor, edited, editFor}
 use Rattle.ffi.proofs.ReadBack.{edit-done-reads}
 use Rattle.ffi_demands.specs.WordsChain.{AllZero}
 use Rattle.ffi_demands.specs.WordsDemand3.{ffiLeft, Zero}
 use Rattle.ffi_demands.specs.WordsEdits.{wordsEditsFrom}
-use Rattle.ffi_demands.specs.WordsPages.{ffiFront, wordsPagesFrom, FfiAtOnce, FfiOneAtATime, FfiPagesOfOne, WordsPages}
+use Rattle.ffi_demands.specs.WordsPages.{ffiFront, wordsPagesFrom, FfiAtOnce, FfiOneAtATime, FfiPagesOfOne, FfiBesideRerender, WordsPages}
 use Rattle.ffi_demands.proofs.Zero.{paged-zero, done-zero}
 use Rattle.ffi_demands.proofs.Codes.{sustain-fits}
 use Rattle.ffi_demands.proofs.FfiDemand3.{Good, zero-good, desk-left}
@@ -181,6 +183,34 @@ module _ (a : Asked) (sus : T (fits binary64 (a .sustain))) (old es space : List
           same-score = λ l. ap (λ (o : Rewritten (List ℕ)). take (length new) (o .space)) packed ∙ d .same-score l ∙ sym (ap (λ (o : Rewritten ℕ). take (length new) (o .space)) in-words);
         }
 
+-- ---- beside one re-render
+paged-is : (p : Paged) (a : Answer) (n : ℕ) → p .answer ≡ a → p .bytes ≡ n → p ≡ paged a n
+paged-is p a n e f = rw (← e, ← f) refl
+
+-- a page that is refused has the word of its refusal
+refused-word : (p : Paged) (why : Refusal) → p .answer ≡ Refused why → packedPage p ≡ packedOf (Refused why)
+unfolding packedPage packedOf
+refused-word p why e = rw e refl
+
+beside : (g : Settings) (old es : List ℕ) (b : Buffers) (space : List ℕ) → firstRefusals g old es b space ≡ [] → AllMade old es
+    → FfiBesideRerender (newScoreOf old es) space (rerenderFor (Known g) old (newScoreOf old es) b) (editFor (Known g) old es b space)
+beside g old es b space first made =
+    let new = newScoreOf old es in
+    let o = editOf g old es b space in
+    let d = pages-of-edits .is-one-rerender g old es b space first made in
+    record {
+      answer = rerenderOf g old new b .result;
+      word = refl;
+      same-left = d .same-left;
+      written = λ count e. (let w = d .written count e in (ap packedPage (paged-is (o .result) (Done count) (length new) (d .same-answer ∙ e) (w .0)), w .1));
+      kept = λ why e. (refused-word (o .result) why (d .same-answer ∙ e) ∙ ap packedOf (sym e), d .kept why e .1);
+    }
+
+is-one-rerender : (a : Asked) (g : Settings) → choiceOf a ≡ Known g → (old es : List ℕ) (b : Buffers) (space : List ℕ) → firstRefusals g old es b space ≡ [] → AllMade old es
+    → FfiBesideRerender (newScoreOf old es) space (rerenderFor (choiceOf a) old (newScoreOf old es) b) (editFor (choiceOf a) old es b space)
+is-one-rerender a g is old es b space first made =
+    subst (λ (k : Choice). FfiBesideRerender (newScoreOf old es) space (rerenderFor k old (newScoreOf old es) b) (editFor k old es b space)) (sym is) (beside g old es b space first made)
+
 -- ---- the claim
 pub words-pages : WordsPages
-words-pages = record { at-once = at-once; zero-whenever = whole-zero; one-at-a-time = one-at-a-time; pages-of-one = pages-of-one }
+words-pages = record { at-once = at-once; zero-whenever = whole-zero; one-at-a-time = one-at-a-time; is-one-rerender = is-one-rerender; pages-of-one = pages-of-one }

@@ -12,18 +12,21 @@ use Prim.Native.Nat.{ℕ, _<_}
 use lib.Dec.{T}
 use lib.ListN.{length, take, drop}
 use lib.Ieee.{binary64, fits}
+use Rattle.answers.specs.declared.Answer.{Answer}
+use Rattle.answers.specs.declared.Answer.the-variants.{Done, Refused}
+use Rattle.answers.specs.declared.Refusal.{Refusal}
 use Rattle.sections.specs.Outcome.{Buffers, Outcome}
 use Rattle.state.specs.declared.Settings.{Settings}
 use Rattle.render.specs.Calls.{madeOf}
 use Rattle.rerender.specs.Rerender.{planOf, countFor}
-use Rattle.page.specs.Page.{editsIn, newScoreOf, Rewritten, rewrites}
+use Rattle.page.specs.Page.{editsIn, newScoreOf, AllMade, firstRefusals, Rewritten, rewrites, paged}
 use Rattle.demands.specs.Demand3.{BuffersOf}
 use Rattle.demands.specs.Edits.{lastScore}
 use Rattle.demands.specs.Pages.{scoresOf, oncePaged, allPaged, singlesOf, Whole}
 use Rattle.ffi.specs.declared.Asked.{Asked}
 use Rattle.ffi.specs.declared.Choice.the-variants.{Known}
-use Rattle.ffi.specs.Packed.{packedPage, numbersIn}
-use Rattle.ffi.specs.Ffi.{choiceOf, editFor}
+use Rattle.ffi.specs.Packed.{packedOf, packedPage, numbersIn}
+use Rattle.ffi.specs.Ffi.{choiceOf, rerenderFor, editFor}
 use Rattle.ffi_demands.specs.WordsChain.{AllZero}
 use Rattle.ffi_demands.specs.WordsDemand3.{ffiLeft, Zero}
 use Rattle.ffi_demands.specs.WordsEdits.{wordsEditsFrom}
@@ -69,6 +72,16 @@ pub record FfiPagesOfOne (a : Asked) (old es : List ℕ) (n : ℕ) (chain : Rewr
   pub same-left : chain .left ≡ o .left
   pub same-score : 0 < editsIn es → take (length (newScoreOf old es)) (chain .space) ≡ take (length (newScoreOf old es)) (o .space)
 
+-- beside one gav_rerender of the old score into the new one, whatever output, shelf and summary hold: the same is left
+-- in these; where that is done so is the page, with the same count, and the new score is written; where that is refused
+-- the page's word is the same, and nothing is written
+pub record FfiBesideRerender (new space : List ℕ) (c : Outcome ℕ) (o : Rewritten ℕ) : Type 0 where
+  pub answer : Answer
+  pub word : c .result ≡ packedOf answer
+  pub same-left : o .left ≡ c .left
+  pub written : (count : ℕ) → answer ≡ Done count → (o .result ≡ packedPage (paged (Done count) (length new))) × (o .space ≡ new ++ drop (length new) space)
+  pub kept : (why : Refusal) → answer ≡ Refused why → (o .result ≡ c .result) × (o .space ≡ space)
+
 -- ---- the claim: for any settings whose sustain is a value of an f64, as every f64 of the code is
 pub record WordsPages : Type 0 where
   pub at-once : (a : Asked) → T (fits binary64 (a .sustain)) → (old es space : List ℕ) (n : ℕ) (r : BuffersOf n) → Zero (ffiLeft a old r .result)
@@ -78,6 +91,9 @@ pub record WordsPages : Type 0 where
   pub one-at-a-time : (a : Asked) → T (fits binary64 (a .sustain)) → (old es space : List ℕ) (n : ℕ) (r : BuffersOf n) → Zero (ffiLeft a old r .result)
       → Zero (editFor (choiceOf a) old es (ffiLeft a old r .left) space .result)
       → FfiOneAtATime old es (wordsEditsFrom a old (scoresOf old es) (ffiLeft a old r .left)) (editFor (choiceOf a) old es (ffiLeft a old r .left) space)
+  -- where nothing before 8 refuses; so what specs/WordsDemand3.antt and specs/WordsPeaks.antt say of gav_rerender holds
+  pub is-one-rerender : (a : Asked) (g : Settings) → choiceOf a ≡ Known g → (old es : List ℕ) (b : Buffers) (space : List ℕ) → firstRefusals g old es b space ≡ [] → AllMade old es
+      → FfiBesideRerender (newScoreOf old es) space (rerenderFor (choiceOf a) old (newScoreOf old es) b) (editFor (choiceOf a) old es b space)
   pub pages-of-one : (a : Asked) → T (fits binary64 (a .sustain)) → (old es space : List ℕ) (n : ℕ) (r : BuffersOf n) → Zero (ffiLeft a old r .result)
       → Zero (editFor (choiceOf a) old es (ffiLeft a old r .left) space .result)
       → FfiPagesOfOne a old es n (wordsPagesFrom a old (singlesOf es) (ffiLeft a old r .left) space) (editFor (choiceOf a) old es (ffiLeft a old r .left) space)

@@ -17,14 +17,12 @@ use Rattle.score.specs.Below.{countBelow, nextNotBelow, Sorted, Cut}
 use Rattle.score.specs.Apart.{firstEqual}
 use Rattle.score.proofs.Cuts.{accepted-length, accepted-sorted}
 use Rattle.score.proofs.Ends.{next-cut, next-count}
+use Rattle.score.proofs.Parted.{clash}
 use Rattle.score.proofs.Sought.{sought}
 use Rattle.sections.proofs.Between.{drop-take}
 use Rattle.page.specs.declared.Applied.the-variants.{Score, Stopped}
 use Rattle.page.specs.Page.{insertedOf, removedOf}
 use Rattle.page.specs.Inner.{Holds, putAt, openedOf, closedOf, Steps}
-
-clash : _≡_ {A = ℕ} 0 1 → ⊥
-clash h = omega arith
 
 -- ---- an edit that is made, and one that is refused
 pub step-done : (why : List Refusal) (new : List ℕ) (n : ℕ) (came room : List ℕ) → why ≡ [] → length new ≡ n → n ≤ 40960 → length came ≡ 40960 → room ≡ new ++ drop n came → Steps why new (Score n) room
@@ -63,9 +61,9 @@ module _ (b : List ℕ) (k n : ℕ) where
       ∙ sym (append-assoc (take k (take n b) ++ xs) (drop k (take n b)) z)
 
   -- ten bytes left out
-  closed-front : k + 10 ≤ n → closedOf b k n ≡ take k (take n b) ++ drop (k + 10) (take n b) ++ drop (n - 10) b
+  closed-is : k + 10 ≤ n → closedOf b k n ≡ take k (take n b) ++ drop (k + 10) (take n b) ++ drop (n - 10) b
   unfolding closedOf
-  closed-front h =
+  closed-is h =
       let end : k + (n - (k + 10)) ≡ n - 10 = omega arith in
       rw (end, take-take k n b (omega arith), rest-of b (k + 10) n h) refl
 
@@ -140,4 +138,4 @@ module _ (room : List ℕ) (n : ℕ) (h : Holds room n) where
         (ap length (sym same) ∙ long)
         (omega (arith, h .inside))
         (h .whole)
-        (left-is ∙ closed-front room (k * 10) n fits ∙ ap (λ (r : List ℕ). r ++ drop (n - 10) room) same)
+        (left-is ∙ closed-is room (k * 10) n fits ∙ ap (λ (r : List ℕ). r ++ drop (n - 10) room) same)

@@ -72,16 +72,20 @@ accepted-right s h i l = accepted-all s (countOf s) h .fine i l .right
 pub accepted-bytes : (s : List ℕ) → IsAccepted s → length s ≤ 40960
 accepted-bytes s h = let size = accepted-length s (countOf s) h in let few = accepted-few s (countOf s) h in omega (arith, size, few)
 
+-- the bytes of the first c records
+front-size : (s : List ℕ) (c : ℕ) → length s ≡ countOf s * 10 → c ≤ countOf s → length (take (c * 10) s) ≡ c * 10
+front-size s c whole inside = length-take-le (c * 10) s (omega arith)
+
 -- ---- a record inserted behind the first c of s
 module _ (s r : List ℕ) (ten : length r ≡ 10) (c : ℕ) (whole : length s ≡ countOf s * 10) (inside : c ≤ countOf s) where
   abbrev opened : List ℕ
   opened = take (c * 10) s ++ r ++ drop (c * 10) s
 
-  front-size : length (take (c * 10) s) ≡ c * 10
-  front-size = length-take-le (c * 10) s (omega arith)
+  opened-front : length (take (c * 10) s) ≡ c * 10
+  opened-front = front-size s c whole inside
 
   head-size : length (take (c * 10) s ++ r) ≡ c * 10 + 10
-  head-size = length-append (take (c * 10) s) r ∙ omega (arith, front-size)
+  head-size = length-append (take (c * 10) s) r ∙ omega (arith, opened-front)
 
   opened-size : length opened ≡ suc (countOf s) * 10
   opened-size = length-append (take (c * 10) s ++ r) (drop (c * 10) s) ∙ omega (arith, head-size, length-drop (c * 10) s)
@@ -90,11 +94,11 @@ module _ (s r : List ℕ) (ten : length r ≡ 10) (c : ℕ) (whole : length s �
   opened-before i h k l =
       let m : i * 10 + k < c * 10 = omega arith in
       List·getD-append (take (c * 10) s ++ r) (drop (c * 10) s) 0 (i * 10 + k) (omega (arith, head-size))
-      ∙ List·getD-append (take (c * 10) s) r 0 (i * 10 + k) (omega (arith, front-size)) ∙ getD-take (c * 10) s (i * 10 + k) 0 m
+      ∙ List·getD-append (take (c * 10) s) r 0 (i * 10 + k) (omega (arith, opened-front)) ∙ getD-take (c * 10) s (i * 10 + k) 0 m
 
   opened-there : Alike opened c r 0
   opened-there k l =
-      let e : c * 10 + k ≡ length (take (c * 10) s) + k = ap (λ (n : ℕ). n + k) (sym front-size) in
+      let e : c * 10 + k ≡ length (take (c * 10) s) + k = ap (λ (n : ℕ). n + k) (sym opened-front) in
       let z : k ≡ 0 * 10 + k = omega arith in
       List·getD-append (take (c * 10) s ++ r) (drop (c * 10) s) 0 (c * 10 + k) (omega (arith, head-size))
       ∙ ap (λ (n : ℕ). getD (take (c * 10) s ++ r) n 0) e ∙ getD-append-add (take (c * 10) s) r k 0 ∙ ap (λ (n : ℕ). getD r n 0) z
@@ -112,7 +116,7 @@ module _ (s : List ℕ) (c : ℕ) (whole : length s ≡ countOf s * 10) (inside 
   closed = take (c * 10) s ++ drop (c * 10 + 10) s
 
   closed-front : length (take (c * 10) s) ≡ c * 10
-  closed-front = length-take-le (c * 10) s (omega arith)
+  closed-front = front-size s c whole (omega arith)
 
   closed-size : length closed ≡ (countOf s - 1) * 10
   closed-size = length-append (take (c * 10) s) (drop (c * 10 + 10) s) ∙ omega (arith, closed-front, length-drop (c * 10 + 10) s)

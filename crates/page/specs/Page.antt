@@ -8,11 +8,13 @@
 -- 8. The whole list is refused."
 -- Each edit is judged and made on the score that the edits before it leave, so a refusal of edit i counts only where
 -- all edits before it are made: the list of refusals below has them in that order, and its first one decides.
--- Wider than 02: mark, code and filler can be read from any list of bytes, where a byte past the end is 0; a record
--- past the end has fewer bytes. Such lists are refused with 36. Definitions only.
+-- Wider than 02: mark, code and filler can be read at any index, where a byte past the end of the list is 0; a record
+-- there has fewer bytes. No call reads past its list: one that has a part of an edit is refused with 36.
+-- Definitions only.
+use mathlib.Core.Path.{_≡_}
 use mathlib.Core.Bool.{Bool, cond, _&&_, _||_}
 use mathlib.Core.List.{List, [], _++_, map}
-use Prim.Native.Nat.{ℕ, zero, suc, _+_, _*_, _/_, _%_}
+use Prim.Native.Nat.{ℕ, zero, suc, _+_, _*_, _/_, _%_, _<_}
 use lib.Dec.{ltb, eqb}
 use lib.ListN.{length, getD, take, drop}
 use Rattle.answers.specs.Order.{unless, firstOf}
@@ -92,6 +94,11 @@ editRefusals s es i = unless (frameRight es i) (EditFrame i) ++ map Edit (record
 unfoldable pub refusalsFrom : List ℕ → List ℕ → ℕ → ℕ → List Refusal
 refusalsFrom old es zero i = []
 refusalsFrom old es (suc k) i = editRefusals (scoreAfter old es i) es i ++ refusalsFrom old es k (suc i)
+
+-- every edit of the list can be made: none is refused on the score that the edits before it leave; theorems cite it, no
+-- contract does
+abbrev pub AllMade : List ℕ → List ℕ → Type 0
+AllMade old es = (i : ℕ) → i < editsIn es → editRefusals (scoreAfter old es i) es i ≡ []
 
 -- ---- the call
 -- what it leaves: its result, the output, shelf and summary, and the buffer lent for the new score
