@@ -16,8 +16,8 @@ pub enum ScoreFault {
     Order(usize),
 }
 
-// Why a call was refused: a score (numbers 1 to 5), a re-render's new score (17 to 21), a number from 6 to 10, or a page
-// of edits: 36, or an edit (33 to 35, and 50 to 52 for its record), whose index the case carries.
+// Why a call was refused: a score (numbers 1 to 5), a re-render's new score (17 to 21), a number from 6 to 10, or a
+// page of edits: 36, or an edit (33 to 35, and 50 to 52 for its record), whose index the case carries.
 pub enum Refusal {
     Score(ScoreFault),
     NewScore(ScoreFault),
