@@ -4,7 +4,6 @@
 
 #include "gavberin.h"
 
-#include <signal.h>
 #include <stdbool.h>
 #include <stdio.h>
 #include <sys/types.h>
@@ -25,8 +24,10 @@ struct why {
     enum status status;
     /* Help was asked for, and nothing was done. */
     bool help;
-    /* How many files have taken their names: a failure after that names their number. */
+    /* How many files have taken their names: a failure after that says so. */
     unsigned written;
+    /* They are a new score and its shelf: the edits that made it would be made on it, were the call made again. */
+    bool edited;
     char text[16384];
 };
 
@@ -37,6 +38,8 @@ bool refuse(struct why *why, const char *format, ...) WORDS_LIKE_PRINTF;
 bool misuse(struct why *why, const char *format, ...) WORDS_LIKE_PRINTF;
 /* Puts words before those that are kept; answers false. */
 bool preface(struct why *why, const char *format, ...) WORDS_LIKE_PRINTF;
+/* What is said of the files that have taken their names; nothing where none has. */
+const char *what_is_written(const struct why *why);
 /* `one` where the count is 1, else `many`. */
 const char *counted(size_t count, const char *one, const char *many);
 
@@ -88,8 +91,8 @@ bool same_file(const char *one, const char *other);
 
 /* A draft is a temporary file beside the target, which takes the target's name at the end or is removed. Its name is
    the same for every draft of a target, and the file is locked from the opening to the drop, so that only one desk at a
-   time works on a target; the next desk takes over what a killed one left. Until the drop the signals that end a
-   program wait, so that no half-written file is left. Of two drafts the later is dropped first. */
+   time works on a target; the next desk takes over what a killed one left. From the first opening on the signals that
+   end a program wait, so that no half-written file is left, and what was written is told. */
 struct draft {
     const char *path;
     char *target, *temporary;
@@ -97,8 +100,6 @@ struct draft {
     mode_t mode;
     uid_t owner;
     gid_t group;
-    bool waits;
-    sigset_t waited;
 };
 
 #define NO_DRAFT ((struct draft){.fd = -1})
@@ -113,6 +114,8 @@ bool draft_seal(struct draft *draft, struct why *why);
 bool draft_publish(struct draft *draft, struct why *why);
 /* Frees the draft, and removes the file if it was not published. */
 void draft_drop(struct draft *draft);
+/* A signal that waited ends the program here: all is told by then. */
+void let_signals_come(void);
 
 /* The files that go with a sound, in the order in which they are locked and take their names. */
 enum file { SCORE_FILE, WAV_FILE, SHELF_FILE, GROUP_FILES };
@@ -136,7 +139,7 @@ struct content {
 /* A path is NULL where there is no such file. */
 bool group_open(struct group *group, const char *const paths[GROUP_FILES], struct why *why);
 /* Writes the files, then gives them their names; refused where a draft has not all of its bytes, since a source was
-   written to after it was read. */
+   written to after it was read, and where a signal that ends a program came before the first name was given. */
 bool group_write(struct group *group, const struct content contents[GROUP_FILES], struct why *why);
 void group_drop(struct group *group);
 

@@ -4,6 +4,7 @@
 
 #include <errno.h>
 #include <fcntl.h>
+#include <signal.h>
 #include <stdlib.h>
 #include <string.h>
 #include <sys/stat.h>
@@ -14,10 +15,15 @@
 /* Copies begin and end at multiples of this, which the blocks of the usual file systems divide: two files can share
    whole blocks, and then no byte is moved. */
 #define BLOCK 65536u
+#define TOLD_TO_END "told to end; nothing is written"
 
 enum lock { LOCKED, GONE, TAKEN };
 
 static const int ending_signals[] = {SIGHUP, SIGINT, SIGTERM};
+
+/* Whether they wait, and what was blocked before. */
+static bool signals_wait;
+static sigset_t blocked_before;
 
 /* The mode of a file that is made anew. */
 static mode_t new_mode(void) {
@@ -65,16 +71,22 @@ static char *temporary_name(const char *target) {
 }
 
 /* Blocks the signals that end a program, but for those that were ignored from its start. */
-static void let_signals_wait(struct draft *draft) {
+static void let_signals_wait(void) {
     sigset_t ending;
     struct sigaction now;
+    if (signals_wait) return;
     sigemptyset(&ending);
     for (size_t i = 0; i < COUNT_OF(ending_signals); i++) {
         if (sigaction(ending_signals[i], NULL, &now) == 0 && now.sa_handler != SIG_IGN) {
             sigaddset(&ending, ending_signals[i]);
         }
     }
-    draft->waits = sigprocmask(SIG_BLOCK, &ending, &draft->waited) == 0;
+    signals_wait = sigprocmask(SIG_BLOCK, &ending, &blocked_before) == 0;
+}
+
+void let_signals_come(void) {
+    if (signals_wait) sigprocmask(SIG_SETMASK, &blocked_before, NULL);
+    signals_wait = false;
 }
 
 static bool told_to_end(void) {
@@ -164,7 +176,7 @@ bool draft_open(struct draft *draft, const char *path, struct why *why) {
         return refuse(why, "%s: %s, where it would be written first, is standard input: give that file another name",
                       path, draft->temporary);
     }
-    let_signals_wait(draft);
+    let_signals_wait();
     if (!take_temporary(draft, why)) return false;
     /* Drops what a killed desk left. */
     if (ftruncate(draft->fd, 0) == 0) return true;
@@ -234,15 +246,13 @@ void draft_drop(struct draft *draft) {
     if (draft->fd >= 0) close(draft->fd);
     free(draft->temporary);
     free(draft->target);
-    bool waits = draft->waits;
-    sigset_t waited = draft->waited;
     *draft = NO_DRAFT;
-    if (waits) sigprocmask(SIG_SETMASK, &waited, NULL);
 }
 
 bool group_open(struct group *group, const char *const paths[GROUP_FILES], struct why *why) {
     *group = NO_GROUP;
-    /* Every desk locks the WAV before the shelf, so that of two desks at one pair one gets both files. */
+    /* Every desk locks the WAV before the shelf, so that of two desks at the same WAV and shelf one gets both. No desk
+       waits for a lock: where one's NEW is the other's WAV or shelf, both may be refused, and then write nothing. */
     for (size_t i = 0; i < GROUP_FILES; i++) {
         if (paths[i] && !draft_open(&group->of[i], paths[i], why)) return false;
     }
@@ -291,7 +301,8 @@ static bool all_kept(const struct group *group, const struct content *contents, 
 }
 
 /* Where a file cannot take its name after another has, the same call can be made again, since the shelf takes its name
-   last: it is still the old score's, and its sums show that a new WAV is not its own. */
+   last: it is still the old score's, and its sums show that a new WAV is not its own. Once a new score and its shelf
+   have their names, the edits that made the score would be made on that. */
 static bool publish_all(struct group *group, const struct content *contents, struct why *why) {
     const struct draft *has = NULL, *lacks = NULL;
     bool all = true;
@@ -302,18 +313,23 @@ static bool publish_all(struct group *group, const struct content *contents, str
         if (!draft->temporary) has = draft;
         if (draft->temporary && !lacks) lacks = draft;
     }
-    if (all || !has || !lacks) return all;
+    why->edited = !lacks && contents[SCORE_FILE].bytes.at && contents[SHELF_FILE].bytes.at;
+    if (all || !has) return all;
+    if (!lacks) return preface(why, "%s: ", what_is_written(why));
     return preface(why, "%s is %s already, and %s is not; the same call can be made again: ", has->path,
                    has == &group->of[SCORE_FILE] ? "the new score" : "the new score's", lacks->path);
 }
 
 bool group_write(struct group *group, const struct content contents[GROUP_FILES], struct why *why) {
-    /* A signal that came while the sound was made ends the program after the drop. */
-    if (told_to_end()) return refuse(why, "told to end; nothing is written");
+    /* A signal that came while the sound was made saves the writing. */
+    if (told_to_end()) return refuse(why, TOLD_TO_END);
     for (size_t i = 0; i < GROUP_FILES; i++) {
         if (!write_one(&group->of[i], &contents[i], why)) return false;
     }
-    return all_kept(group, contents, why) && publish_all(group, contents, why);
+    if (!all_kept(group, contents, why)) return false;
+    /* The last time: from the first name on all files take theirs. */
+    if (told_to_end()) return refuse(why, TOLD_TO_END);
+    return publish_all(group, contents, why);
 }
 
 void group_drop(struct group *group) {

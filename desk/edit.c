@@ -68,10 +68,14 @@ const struct verb edit_verb = {
         "that is the same in all four is taken out, so that the velocity of an off counts too. A record is moved by\n"
         "both. A reset's NOTE and VELOCITY, which are 0, may be left out. A # begins a comment; empty lines are\n"
         "skipped. EDITS may be - for standard input. Without any edit NEW is the shelf's score.\n"
-        "Where one edit is refused all are, and nothing is written: the first that is wrong is named by its line,\n"
-        "counted from 1, with a number of gavberin.h and its place in the list, counted from 0. An edit is judged on\n"
-        "the score that those before it leave: it removes a record that is there, and puts none into 4096.\n"
+        "Where one edit is refused all are, and nothing is written. Lines that are no edit come first: the first one\n"
+        "is named, counted from 1. Then each edit is judged on the score that those before it leave: it removes a\n"
+        "record that is there, and puts none into 4096. The first that is wrong is named by its line too, with a\n"
+        "number of gavberin.h and its place in the list, counted from 0.\n"
         "NEW may be the file that the old score is in, and takes its name first: where the other two then cannot, the\n"
-        "same call can be made again. What is compared, told and left of OUT.wav is said by `desk rerender --help`.\n",
+        "same call can be made again. A page that was made must not be: its edits would be made once more. What was\n"
+        "written is told, also by a desk that is told to end (Ctrl-C, TERM). One that is killed tells nothing: if\n"
+        "there was no file NEW before, `desk verify NEW OUT.wav --shelf FILE` then says `same` where all was made.\n"
+        "What is compared, told and left of OUT.wav is said by `desk rerender --help`.\n",
     .run = run_edit,
 };

@@ -3,6 +3,7 @@
 
 #include <errno.h>
 #include <fcntl.h>
+#include <signal.h>
 #include <string.h>
 #include <unistd.h>
 
@@ -52,17 +53,23 @@ static bool flush_output(struct why *why) {
     errno = 0;
     if (fflush(stdout) == 0 && !ferror(stdout)) return true;
     const char *reason = errno ? strerror(errno) : "an earlier write failed";
-    const char *files = why->written ? counted(why->written, "; the file is written", "; the files are written") : "";
-    return refuse(why, "standard output: cannot be written: %s%s", reason, files);
+    return refuse(why, "standard output: cannot be written: %s%s%s", reason, why->written ? "; " : "",
+                  what_is_written(why));
 }
 
 /* The exit status; what went wrong, on standard error. */
-static int end(const char *verb, bool done, struct why *why) {
+static int tell_end(const char *verb, bool done, struct why *why) {
     const char *space = *verb ? " " : "";
     if (done && flush_output(why)) return DONE;
     fprintf(stderr, "desk%s%s: %s\n", space, verb, why->text);
     if (why->status == MISUSED) fprintf(stderr, "try: desk%s%s --help\n", space, verb);
     return why->status;
+}
+
+static int end(const char *verb, bool done, struct why *why) {
+    int status = tell_end(verb, done, why);
+    let_signals_come();
+    return status;
 }
 
 /* `desk help`, `desk help VERB`, also as --help and -h. */

@@ -68,4 +68,10 @@ bool preface(struct why *why, const char *format, ...) {
     return false;
 }
 
+const char *what_is_written(const struct why *why) {
+    if (why->written == 0) return "";
+    if (why->edited) return "the files are written, and the same edits must not be made again";
+    return counted(why->written, "the file is written", "the files are written");
+}
+
 const char *counted(size_t count, const char *one, const char *many) { return count == 1 ? one : many; }
