@@ -130,7 +130,7 @@ static unsigned make_edits(const struct edits *edits, struct score *score, size_
 }
 
 /* The first edits of the list that insert, in a score that it can then remove from; so half of the lists find what they
-   remove, and one begins with a score that is full. */
+   remove. One list in five, by its number of edits, begins with a score that is full. */
 static void first_score(const struct edits *edits, struct score *score) {
     size_t place;
     struct edits some = {.count = 1};

@@ -14,11 +14,13 @@ static void render_alone(struct round *r, struct buffers *b, const struct score 
     if (said != says(0, 0, r->n)) differ(r, "gav_render answers %llx", (unsigned long long)said);
 }
 
-/* Of the samples, the shelf and the summary, every bit is that of gav_render of the new score. */
+/* Of the samples, the shelf and the summary, every bit is that of gav_render of the new score, over rubbish. */
 static void same_alone(struct round *r, const struct score *new_) {
     copy_buffers(&r->twins, &r->lent);
     resize(&r->chance, &r->twins, OUT, 8 * r->n);
     resize(&r->chance, &r->twins, SHELF, 8 * gav_shelf_words(r->n));
+    resize(&r->chance, &r->twins, MAGNITUDES, 8 * gav_sections(r->n));
+    resize(&r->chance, &r->twins, NUMBERS, 8 * gav_sections(r->n));
     render_alone(r, &r->twins, new_);
     same_buffers(r, "gav_render of the new score", &r->twins, &r->lent);
 }
