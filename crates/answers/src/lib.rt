@@ -1,13 +1,15 @@
 // What a call says: the rows of 01's table ("What a call says") as enums, and the number, place and count of each. What
 // a call returns beside its answer, a number or a state, is a field of a struct of the call's own crate; `Value` is the
 // one such struct that several crates share.
+#![tactic(auto)]
+
 ghost use Rattle.std.specs.Prelude.{◌≡◌, ◌≤◌};
 ghost use Rattle.answers.specs.Order.{unless};
 ghost use Rattle.answers.specs.Value.{value_or};
 ghost use Rattle.answers.specs.Numbers.{numbers_of, refusal_number, refusal_place, fault_number, fault_place};
 
 // What is wrong with a score: its length, or a record, whose index the case carries.
-#[derive(Drop)]
+#[derive(Clone, Copy)]
 pub enum ScoreFault {
     Length,
     Mark(usize),
@@ -18,7 +20,7 @@ pub enum ScoreFault {
 
 // Why a call was refused: a score (numbers 1 to 5), a re-render's new score (17 to 21), a number from 6 to 10, or a
 // page of edits: 36, or an edit (33 to 35, and 50 to 52 for its record), whose index the case carries.
-#[derive(Drop)]
+#[derive(Clone, Copy)]
 pub enum Refusal {
     Score(ScoreFault),
     NewScore(ScoreFault),
@@ -35,14 +37,14 @@ pub enum Refusal {
 }
 
 // Done, with the number of samples written, or refused.
-#[derive(Drop)]
+#[derive(Clone, Copy)]
 pub enum Answer {
     Done(usize),
     Refused(Refusal),
 }
 
 // An answer as three numbers, for a host that has no enums.
-#[derive(Drop)]
+#[derive(Clone, Copy)]
 pub struct Numbers {
     pub number: u8,
     pub place: usize,
@@ -50,7 +52,7 @@ pub struct Numbers {
 }
 
 // A call's answer and its single number, which is +0 where the call was refused.
-#[derive(Drop)]
+#[derive(Clone, Copy)]
 pub struct Value {
     pub answer: Answer,
     pub value: f64,

@@ -2,6 +2,8 @@
 // the inner loop over the output, and the reduction of the phase after it. The two calls differ in their highest
 // frequency, and the oscillator's depth is 1. Left out, as 01 says: parameters and their modulation, noise, and the
 // simd path.
+#![tactic(auto)]
+
 ghost use Rattle.std.specs.Prelude.{◌≡◌};
 ghost use Rattle.answers.specs.Outcome.{leaves};
 ghost use Rattle.blocks.specs.Block.{is_tone, refused_of, run_of};
@@ -10,7 +12,7 @@ use answers::{Answer, Refusal};
 use waveform::{Radians, Waveform};
 
 // What a block call sounds: a frequency in Hz, a depth, the phase at which the block starts, and a waveform.
-#[derive(Drop)]
+#[derive(Clone, Copy)]
 pub struct Tone {
     pub frequency: f64,
     pub depth: f64,
@@ -19,7 +21,7 @@ pub struct Tone {
 }
 
 // The answer of a run, and the phase after it.
-#[derive(Drop)]
+#[derive(Clone, Copy)]
 pub struct Ran {
     pub answer: Answer,
     pub phase: Radians,

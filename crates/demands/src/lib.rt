@@ -7,3 +7,4 @@
 // depth 0 is no tremolo (02, R-7); no phase is negative where it is reduced (02, R-13); how a release is written is not
 // heard (02, R-4); a key is struck or joined (02, R-9). No function. The theorems have a crate of their own so that
 // trying a wrong program of a call does not prove them again. `ffi_demands` has the theorems of the calls that C makes.
+#![tactic(auto)]

@@ -1,5 +1,7 @@
 // The domain of the ported calls, as 01 states it: each limit by which more than one crate judges, and a test of it.
 // Left out: which refusal a call gives, and what one crate alone judges (ADSR settings, given states).
+#![tactic(auto)]
+
 ghost use Rattle.std.specs.Prelude.{◌≡◌};
 ghost use Rattle.domain.specs.Domain.{is_phase, is_duty, is_rate, is_depth, is_radians, is_midi};
 

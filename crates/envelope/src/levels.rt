@@ -8,7 +8,7 @@ ghost use Rattle.envelope.specs.Inner.{scaled_two, ScalesOn, Finished};
 use crate::{Adsr, Envelope, EnvelopeStage, ends_at, next_in, step};
 
 // How many values of a part are scaled, and the envelope after them.
-#[derive(Drop)]
+#[derive(Clone, Copy)]
 struct Progress {
     envelope: Envelope,
     count: usize,

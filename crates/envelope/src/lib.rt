@@ -1,6 +1,8 @@
 // envelope.rs of the original: an ADSR level in f64, one step a sample. State goes in by value and is handed back.
 // What changes from sample to sample, `Envelope`, is a struct apart from the settings, `Adsr`, so that a render keeps
 // it alone in its state. Left out, as 01 says: `Block`, parameter names and modulation; and `prepare`.
+#![tactic(auto)]
+
 ghost use Rattle.std.specs.Prelude.{◌≡◌, not, ◌++◌, length};
 ghost use Rattle.std.specs.Float.Ieee.{is_nan};
 ghost use Rattle.envelope.specs.Limits.{is_adsr, is_envelope, clamp_of, clamped_of, sample_time_of};
@@ -19,7 +21,7 @@ pub mod levels;
 // A release ends at or below this level.
 const RELEASE_FLOOR: f64 = 0.000001;
 
-#[derive(Drop)]
+#[derive(Clone, Copy)]
 pub enum EnvelopeStage {
     Idle,
     Attack,
@@ -30,7 +32,7 @@ pub enum EnvelopeStage {
 
 // The level of the last sample, the time in the stage at the next sample in seconds (in Idle and Sustain it does not
 // grow), and the level from which the last release started.
-#[derive(Drop)]
+#[derive(Clone, Copy)]
 pub struct Envelope {
     pub stage: EnvelopeStage,
     pub level: f64,
@@ -39,7 +41,7 @@ pub struct Envelope {
 }
 
 // The settings: three times in seconds, and the level of Sustain.
-#[derive(Drop)]
+#[derive(Clone, Copy)]
 pub struct Adsr {
     pub attack: f64,
     pub decay: f64,
@@ -47,14 +49,14 @@ pub struct Adsr {
     pub release: f64,
 }
 
-#[derive(Drop)]
+#[derive(Clone, Copy)]
 pub struct EnvelopeBlock {
     pub adsr: Adsr,
     pub envelope: Envelope,
 }
 
 // What a call answers, and the block after it.
-#[derive(Drop)]
+#[derive(Clone, Copy)]
 pub struct Processed {
     pub answer: Answer,
     pub block: EnvelopeBlock,

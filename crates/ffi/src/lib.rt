@@ -3,6 +3,8 @@
 // go beyond 01. A slice is a pointer and a length in C; include/gavberin.h declares every function here, with the
 // caller's duties, which no function here can test. Left out: the ported calls of phase, voice, envelope, oscillator
 // and LFO, and the end state of a render.
+#![tactic(auto)]
+
 ghost use Rattle.std.specs.Prelude.{◌≡◌};
 ghost use Rattle.sections.specs.Outcome.{lends, leaves};
 ghost use Rattle.page.specs.Page.{rewrites};
@@ -22,7 +24,7 @@ use waveform::Waveform;
 const VERSION: u32 = 5;
 
 // What a host asks for, in its own numbers.
-#[derive(Drop)]
+#[derive(Clone, Copy)]
 pub struct Asked {
     pub rate: u32,
     pub code: u32,
@@ -39,21 +41,21 @@ pub struct Asked {
 }
 
 // The waveform of a code; unknown where the code is 5, the original's noise, or above 6.
-#[derive(Drop)]
+#[derive(Clone, Copy)]
 pub enum Shape {
     Known(Waveform),
     Unknown,
 }
 
 // Whether notes are struck or joined; unknown where the host's number is above 1.
-#[derive(Drop)]
+#[derive(Clone, Copy)]
 pub enum Manner {
     Known(Keying),
     Unknown,
 }
 
 // The settings that a host asks for; unknown where a code of theirs or `joined` is.
-#[derive(Drop)]
+#[derive(Clone, Copy)]
 pub enum Choice {
     Known(Settings),
     Unknown,

@@ -6,3 +6,4 @@
 // and summary are those of one `gav_render`; one `gav_edit` leaves what its edits leave one at a time; and a summary
 // stays right. The theorems ask of the answers only what a host sees: each word's number is 0. No function. `demands`
 // has the theorems of states by value, on which these rest.
+#![tactic(auto)]

@@ -1,6 +1,8 @@
 // The inner loop of a block: writes the samples of a waveform into a lent part of the output, in the way that is
 // fastest for the note. Low notes are made by straight lines between corrections, high notes without a branch, a sine
 // from its table.
+#![tactic(auto)]
+
 ghost use Rattle.std.specs.Prelude.{◌≡◌, cond, ◌+◌, ◌^◌, pos, T, length, Float};
 ghost use Rattle.floats.specs.Range.{within};
 ghost use Rattle.floats.specs.Double.{◌⊗◌, zero64, one};

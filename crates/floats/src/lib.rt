@@ -1,6 +1,8 @@
 // The floor of an f32 and of an f64 ("`floor` is worked out from the bits", 01), and two tests of a float: that it is
 // in a range, and that it is finite. proofs/ has the laws of float arithmetic that the other crates cite, most of them
 // for both widths at once. Left out: all other arithmetic, which is the language's own, and the C library.
+#![tactic(auto)]
+
 ghost use Rattle.std.specs.Prelude.{◌≡◌, Bool, ◌<◌, ◌≤◌, ◌^◌};
 ghost use Rattle.std.specs.Float.{binary32, binary64};
 ghost use Rattle.std.specs.Float.Ieee.Scale.{finite};

@@ -1,5 +1,7 @@
 // High notes: few samples a cycle, most of them near an edge, so that no straight line is looked for. First the phases
 // go into the output, then their remainders over TAU, then the values with their corrections, by loops without branch.
+#![tactic(auto)]
+
 ghost use Rattle.std.specs.Prelude.{◌≡◌, true, cond, ◌&&◌, T, length, Float};
 ghost use Rattle.std.specs.Float.Ieee.{lt};
 ghost use Rattle.std.specs.Float.Ieee.Scale.{finite};

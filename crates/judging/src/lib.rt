@@ -1,5 +1,7 @@
 // What a render, a re-render and a continuing call are judged by first: the settings, the sizes, the old or only score,
 // and the new score. 01, "What a call says". Refusals 8 and 10 come after these: the calls judge them.
+#![tactic(auto)]
+
 ghost use Rattle.std.specs.Prelude.{◌≡◌};
 ghost use Rattle.answers.specs.Order.{first_of};
 ghost use Rattle.answers.specs.declared.Answer.TheVariants.{Done, Refused};

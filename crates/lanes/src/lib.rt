@@ -2,6 +2,8 @@
 // time. Each of the four is a lane. A lane chooses between the two values of a correction: the test for the side before
 // the step comes last and wins, where the single form (`polyblep`) takes the first test that holds. Renders keep the
 // single form. Left out: the simd paths of waveform.rs, oscillator.rs and lfo.rs.
+#![tactic(auto)]
+
 ghost use Rattle.std.specs.Prelude.{◌≡◌, if◌then◌else◌, Float};
 ghost use Rattle.std.specs.Float.{binary64};
 ghost use Rattle.std.specs.Float.Ieee.{lt};
@@ -16,7 +18,7 @@ ghost use Rattle.lanes.specs.Calls.{are_phases, are_finite, are_taken, lanes_or,
 use answers::{Answer, Refusal};
 
 // Four numbers beside their answer.
-#[derive(Drop)]
+#[derive(Clone, Copy)]
 pub struct Lanes {
     pub answer: Answer,
     pub values: [f64; 4],

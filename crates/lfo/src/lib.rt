@@ -1,5 +1,7 @@
 // lfo.rs of the original: a block of a waveform at 0 to 100 Hz, times a depth. State goes in by value and is handed
 // back. Left out, as 01 says: `Block`, parameter names and modulation, noise and its seed, the simd path.
+#![tactic(auto)]
+
 ghost use Rattle.std.specs.Prelude.{◌≡◌};
 ghost use Rattle.answers.specs.Outcome.{leaves};
 ghost use Rattle.lfo.specs.Lfo.{new_of, with_phase, process_of};
@@ -10,7 +12,7 @@ use answers::Answer;
 use blocks::Tone;
 use waveform::{Radians, Waveform};
 
-#[derive(Drop)]
+#[derive(Clone, Copy)]
 pub struct LfoBlock {
     pub frequency: f64,
     pub depth: f64,
@@ -19,7 +21,7 @@ pub struct LfoBlock {
 }
 
 // The answer of the block call, and the block after it.
-#[derive(Drop)]
+#[derive(Clone, Copy)]
 pub struct Processed {
     pub answer: Answer,
     pub block: LfoBlock,

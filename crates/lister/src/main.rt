@@ -1,9 +1,11 @@
 // The lister: reads a score from standard input and prints it, or prints the one line that refuses it. It reads at most
 // 40,961 bytes: a score of 4,096 records has 40,960, and a longer one is refused for its length.
+#![tactic(auto)]
+
 ghost use Rattle.lister.specs.Within.{Within};
 
 // How reading ended: with so many bytes at the front of the buffer, or because a read failed.
-#[derive(Drop)]
+#[derive(Clone, Copy)]
 enum Reading {
     Ended(usize),
     Failed,

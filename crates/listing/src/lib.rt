@@ -1,5 +1,7 @@
 // What the lister prints for a score (01, "The score"), as bytes at the front of a buffer. Reading the score and
 // writing the bytes to a file are the tasks of the program `lister`.
+#![tactic(auto)]
+
 ghost use Rattle.std.specs.Prelude.{◌≡◌, ◌+◌, ◌*◌, ◌≤◌, length};
 ghost use Rattle.listing.specs.Listing.{decimal_of, kind_word, line_of, lines_to, accepted_text, refused_text};
 ghost use Rattle.listing.specs.Outcome.{Listed};

@@ -2,6 +2,8 @@
 // The samples on such a line, a segment, are made without corrections; the two after them are made by
 // `waveform::wave_at`. How far a segment reaches is guessed, and the two ends of the guess are tested: a wrong guess
 // costs time, never a bit. Only phases above 0 and below 2 TAU have segments.
+#![tactic(auto)]
+
 ghost use Rattle.std.specs.Prelude.{◌≡◌, true, ◌&&◌, ◌≤◌, ◌<◌, T, length, Float};
 ghost use Rattle.std.specs.Float.{binary64};
 ghost use Rattle.std.specs.Float.Ieee.{lt, le, fits};
@@ -15,7 +17,7 @@ ghost use Rattle.low_notes.specs.Inner.{line_of, fraction_of, base_of, is_one_cy
 use waveform::{Radians, TAU, TWO_TAU, Waveform, in_cycles, wave_at};
 
 // Constant 1 or -1 (square and pulse), a sawtooth's climb, and the two slopes of a triangle, rounded or not.
-#[derive(Drop)]
+#[derive(Clone, Copy)]
 enum Line {
     High,
     Low,
@@ -25,7 +27,7 @@ enum Line {
 }
 
 // The phases from `from` up to, not including, `to`, on which a waveform is one line; their cycle begins at `base`.
-#[derive(Drop)]
+#[derive(Clone, Copy)]
 struct Segment {
     from: Radians,
     to: Radians,
@@ -35,7 +37,7 @@ struct Segment {
 
 // A segment before its line is known: its two ends, also as fractions of the cycle, and whether they pass the tests:
 // they lie in one cycle, and at least dt from where that cycle begins and ends.
-#[derive(Drop)]
+#[derive(Clone, Copy)]
 struct Guess {
     from: Radians,
     to: Radians,
@@ -46,7 +48,7 @@ struct Guess {
 }
 
 // How many samples are written, and the phase after them.
-#[derive(Drop)]
+#[derive(Clone, Copy)]
 struct Progress {
     phase: Radians,
     count: usize,

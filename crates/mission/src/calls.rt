@@ -6,7 +6,7 @@ use libc::STDOUT_FILENO;
 
 // What the script chooses between: the pad, a slowly falling sawtooth with a tremolo of 5 Hz, so that every comparison
 // holds the LFO's phase too; a square with sustain 1.0, after a short decay and after a long one; and the pad joined.
-#[derive(Drop)]
+#[derive(Clone, Copy)]
 struct Settings {
     code: u32,
     decay: f64,
@@ -19,7 +19,7 @@ struct Settings {
 pub const ENTRY: usize = 13;
 
 // A part of a buffer.
-#[derive(Drop)]
+#[derive(Clone, Copy)]
 struct Part {
     start: usize,
     end: usize,

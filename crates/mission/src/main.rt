@@ -3,6 +3,8 @@
 // and count, and how many samples differ from what they should be. Where samples and shelf are compared, the summary is
 // compared too, by its bits, with a check number of its own. What is proved for all input, chains of edits and of parts
 // included, is not run again.
+#![tactic(auto)]
+
 use libc::{STDIN_FILENO, STDOUT_FILENO};
 
 mod calls;
@@ -24,7 +26,7 @@ const SECTIONS: usize = 10;
 // the last two numbers; which settings, how many samples, how many magnitudes and numbers of a summary, how many bytes
 // of the two scores; whether the next call is on the second half; and which word of an entry was doctored, and its bits
 // before.
-#[derive(Drop)]
+#[derive(Clone, Copy)]
 pub struct Now {
     pub until: u8,
     pub base: u64,

@@ -1,6 +1,8 @@
 // oscillator.rs of the original: a block of a waveform at the block's own frequency, or at the frequency of a note.
 // State goes in by value and is handed back. Left out, as 01 says: `Block`, parameter names and modulation, and with
 // them the pitch offset; noise and its seed; the simd path.
+#![tactic(auto)]
+
 ghost use Rattle.std.specs.Prelude.{◌≡◌};
 ghost use Rattle.answers.specs.Outcome.{leaves};
 ghost use Rattle.oscillator.specs.Oscillator.{new_of, with_midi, with_waveform, with_phase, played_of, process_of};
@@ -13,13 +15,13 @@ use blocks::Tone;
 use waveform::{Radians, Waveform};
 
 // The frequency of a note in Hz, or none.
-#[derive(Drop)]
+#[derive(Clone, Copy)]
 pub enum MidiFrequency {
     Unset,
     Set(f64),
 }
 
-#[derive(Drop)]
+#[derive(Clone, Copy)]
 pub struct OscillatorBlock {
     pub frequency: f64,
     pub midi_frequency: MidiFrequency,
@@ -28,7 +30,7 @@ pub struct OscillatorBlock {
 }
 
 // The answer of the block call, and the block after it.
-#[derive(Drop)]
+#[derive(Clone, Copy)]
 pub struct Processed {
     pub answer: Answer,
     pub block: OscillatorBlock,

@@ -2,6 +2,8 @@
 // then one re-render of the old score into the new one; last, where nothing was refused, the new score is written to
 // the front of the lent buffer. 02, R-6. A list that is refused leaves everything as it came, so the edits are made in
 // the room and not in the buffer.
+#![tactic(auto)]
+
 ghost use Rattle.std.specs.Prelude.{◌≡◌, true, ◌++◌, map, ◌+◌, ◌≤◌, ◌<◌, ltb, length, take};
 ghost use Rattle.answers.specs.Order.{unless, first_of};
 ghost use Rattle.answers.specs.declared.Answer.TheVariants.{Done, Refused};
@@ -25,14 +27,14 @@ const RECORD_SIZE: usize = 10;
 const MOST_BYTES: usize = 40960;
 
 // The answer of the re-render, and the bytes of the new score; a refusal has 0 bytes.
-#[derive(Drop)]
+#[derive(Clone, Copy)]
 pub struct Paged {
     pub answer: Answer,
     pub bytes: usize,
 }
 
 // The bytes of the score at the front of the room, or why an edit was refused.
-#[derive(Drop)]
+#[derive(Clone, Copy)]
 enum Applied {
     Score(usize),
     Stopped(Refusal),

@@ -1,6 +1,8 @@
 // The peak of a section, of 02's request R-3: the largest magnitude, and the first sample where it stands. A section is
 // looked at by groups: most have no sample above the peak so far, and are passed over whole, by comparisons that a
 // processor makes two at a time.
+#![tactic(auto)]
+
 ghost use Rattle.std.specs.Prelude.{◌≡◌, ◌+◌, ◌≤◌, T, length};
 ghost use Rattle.std.specs.Float.Ieee.{le};
 ghost use Rattle.floats.specs.Double.{zero64};
@@ -11,7 +13,7 @@ ghost use Rattle.peaks.specs.Inner.{group_size, size_of, is_quiet};
 const GROUP: usize = 16;
 
 // The largest magnitude of some samples, and how many samples come before the first that has it.
-#[derive(Drop)]
+#[derive(Clone, Copy)]
 pub struct Peak {
     pub magnitude: f64,
     pub offset: usize,

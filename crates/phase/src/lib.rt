@@ -1,6 +1,8 @@
 // phase.rs of the original: a phase in cycles, advanced once a sample, in f32. State goes in by value and is handed
 // back; what the original asserts or leaves open is refused with number 9. Left out: the original's traits. The voice
 // has a phase in radians and does not use this crate.
+#![tactic(auto)]
+
 ghost use Rattle.std.specs.Prelude.{◌≡◌};
 ghost use Rattle.answers.specs.Order.{unless};
 ghost use Rattle.answers.specs.declared.Refusal.TheVariants.{Argument};
@@ -10,32 +12,32 @@ ghost use Rattle.phase.specs.Phase.{new_of, set_frequency_of, set_increment_of, 
 use answers::{Answer, Refusal};
 
 // A number of cycles, with a type of its own so that cycles and radians stay apart.
-#[derive(Drop)]
+#[derive(Clone, Copy)]
 pub struct Cycles(pub f32);
 
 // The phase, and the increment that a step adds to it.
-#[derive(Drop)]
+#[derive(Clone, Copy)]
 pub struct PhaseAccumulator {
     pub phase: Cycles,
     pub increment: Cycles,
 }
 
 // The answer of a call that changes the state, and the state after the call.
-#[derive(Drop)]
+#[derive(Clone, Copy)]
 pub struct Changed {
     pub answer: Answer,
     pub accumulator: PhaseAccumulator,
 }
 
 // The answer of a call that reads the phase or the increment, and the cycles that it read.
-#[derive(Drop)]
+#[derive(Clone, Copy)]
 pub struct Shown {
     pub answer: Answer,
     pub cycles: Cycles,
 }
 
 // The answer of a step, the phase before the step, and the state after it.
-#[derive(Drop)]
+#[derive(Clone, Copy)]
 pub struct Stepped {
     pub answer: Answer,
     pub cycles: Cycles,

@@ -1,5 +1,7 @@
 // The pitch of a note in Hz: `midi_note_to_frequency` of the original's voice.rs, as a table of its answers
 // (specs/Patterns.antt). Left out: any other tuning, and `powf`.
+#![tactic(auto)]
+
 ghost use Rattle.std.specs.Prelude.{◌≡◌};
 ghost use Rattle.answers.specs.Order.{unless};
 ghost use Rattle.answers.specs.declared.Refusal.TheVariants.{Argument};
@@ -10,7 +12,7 @@ use answers::{Answer, Refusal, Value};
 mod table;
 
 // A call's answer and its frequency in Hz, which is +0 where the call was refused.
-#[derive(Drop)]
+#[derive(Clone, Copy)]
 pub struct Frequency {
     pub answer: Answer,
     pub value: f32,

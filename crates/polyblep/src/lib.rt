@@ -2,6 +2,8 @@
 // naive waveform, and four corrected waveforms. The calls of 01 judge their arguments; the functions under them take
 // any number, and a waveform's inner loop uses these. The simd half is in `lanes`. Ours is the rounded triangle, whose
 // correction has the constant of integration that the original's lacks.
+#![tactic(auto)]
+
 ghost use Rattle.std.specs.Prelude.{◌≡◌};
 ghost use Rattle.polyblep.specs.Polyblep.{side_of, knee_after, knee_before, blep_of, blamp_of, rounded_blamp_of, fract_of, naive_pulse_of, naive_saw_of, rise_of, fall_of, naive_triangle_of, saw_of, square_of, pulse_of, triangle_of, rounded_of};
 ghost use Rattle.polyblep.specs.Calls.{poly_blep_of, poly_blamp_of, polyblep_saw_of, polyblep_square_of, polyblep_pulse_of, polyblamp_triangle_of};
@@ -17,7 +19,7 @@ pub const HIGH: f64 = 1.0;
 pub const LOW: f64 = -1.0;
 
 // Where a phase lies from a step: x samples after it, x samples before it (x at most 0), or a sample or more away.
-#[derive(Drop)]
+#[derive(Clone, Copy)]
 pub enum Side {
     After(f64),
     Before(f64),

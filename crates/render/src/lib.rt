@@ -2,6 +2,8 @@
 // the fresh state at sample zero both make the samples that the score's records give; from another state they make the
 // samples that the records give from there on. The end of a part reduces nothing. 01, "Making sample n" and "What a
 // call says".
+#![tactic(auto)]
+
 ghost use Rattle.std.specs.Prelude.{◌≡◌, length};
 ghost use Rattle.score.specs.Below.{Sorted};
 ghost use Rattle.sections.specs.Outcome.{lends, leaves};
@@ -15,7 +17,7 @@ use state::{Settings, State};
 
 // What a call says, and the state before the sample after its last. A refused render answers the fresh state, a refused
 // continuing call the given state.
-#[derive(Drop)]
+#[derive(Clone, Copy)]
 pub struct Rendered {
     pub answer: Answer,
     pub state: State,

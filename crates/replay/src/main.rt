@@ -2,6 +2,8 @@
 // for each part a line is printed: how many rows there are, how many are equal, and for a part that measures a sine the
 // largest difference. A row that is cut short, names no call or is missing counts as unequal; a head that names no part
 // ends the replay.
+#![tactic(auto)]
+
 use libc::{STDIN_FILENO, STDOUT_FILENO};
 use nearness::Finding;
 

@@ -7,7 +7,7 @@ pub const NEAR: f64 = 0.000001;
 const MOST: u32 = 1000000;
 
 // Whether a row, or its samples, are as they must be; and the largest difference of a sine.
-#[derive(Drop)]
+#[derive(Clone, Copy)]
 pub struct Finding {
     pub equal: bool,
     pub farthest: f64,

@@ -3,6 +3,8 @@
 // then the plan's run, from the state that the shelf keeps for the start of that section to the end, or to the first
 // later section whose entry says that the rest may stay. 01, "The shelf", demand 3, and 02, R-3 and R-12. No state is
 // answered: the shelf has the states.
+#![tactic(auto)]
+
 ghost use Rattle.std.specs.Prelude.{◌≡◌, true, ◌+◌, ◌*◌, ◌≤◌, ◌<◌, length};
 ghost use Rattle.score.specs.Below.{Sorted};
 ghost use Rattle.shelf.specs.Shelf.{section_size, entry_words, entries_for, words_for};
@@ -19,14 +21,14 @@ use state::Settings;
 
 // Where a re-render starts: nowhere, where the scores are equal or first differ at or past the end; or at section k,
 // whose first sample is 4096 k.
-#[derive(Drop)]
+#[derive(Clone, Copy)]
 pub enum Plan {
     Nothing,
     From(usize),
 }
 
 // Where a re-render starts: the place, of use only if it is valid.
-#[derive(Drop)]
+#[derive(Clone, Copy)]
 struct Start {
     valid: bool,
     place: Place,

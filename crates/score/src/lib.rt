@@ -1,5 +1,7 @@
 // The score: records of ten bytes, as document 01 defines them ("The score"). A score is a slice of bytes; every public
 // function takes any slice and reads bytes past its end as 0. Listing a score is the task of `listing`.
+#![tactic(auto)]
+
 ghost use Rattle.std.specs.Prelude.{◌≡◌, true, ◌<◌, ◌≤◌, min, max};
 ghost use Rattle.answers.specs.Order.{first_of};
 ghost use Rattle.score.specs.declared.Verdict.TheVariants.{Accepted, Faulty};
@@ -17,14 +19,14 @@ const RECORD_SIZE: usize = 10;
 const MOST_RECORDS: usize = 4096;
 
 // What a record does: a key goes down, a key goes up, or all is reset.
-#[derive(Drop)]
+#[derive(Clone, Copy)]
 pub enum Kind {
     On,
     Off,
     Reset,
 }
 
-#[derive(Drop)]
+#[derive(Clone, Copy)]
 pub struct Record {
     pub position: u32,
     pub kind: Kind,
@@ -33,14 +35,14 @@ pub struct Record {
 }
 
 // The number of records of an accepted score, or the first fault of a refused one.
-#[derive(Drop)]
+#[derive(Clone, Copy)]
 pub enum Verdict {
     Accepted(usize),
     Faulty(ScoreFault),
 }
 
 // Whether two scores have the same records, or the position at the first or the last record that differs.
-#[derive(Drop)]
+#[derive(Clone, Copy)]
 pub enum Difference {
     Equal,
     At(u32),

@@ -3,6 +3,8 @@
 // starts at the section that holds the first changed position, and stops at the first later section whose entry says
 // that the rest may stay (02, R-12). Render and re-render do the judging; here the sizes alone are tested, so that
 // nothing is asked of a caller.
+#![tactic(auto)]
+
 ghost use Rattle.std.specs.Prelude.{◌≡◌, true, ◌&&◌, ◌+◌, ◌-◌, ◌*◌, ◌≤◌, ◌<◌, length};
 ghost use Rattle.shelf.specs.Shelf.{entries_for, meets};
 ghost use Rattle.sections.specs.Outcome.{lends, room_in, leaves};
@@ -14,7 +16,7 @@ use spans::Place;
 use state::{Settings, State};
 
 // Where playing ended: the first sample that was not played, and the place there.
-#[derive(Drop)]
+#[derive(Clone, Copy)]
 pub struct End {
     pub place: Place,
     pub sample: usize,

@@ -1,6 +1,8 @@
 // An entry of the shelf (01, "The shelf"): the state before a section's first sample, as thirteen words, and back.
 // Every state can be written and any words can be read; a test of its own says which words are an entry. The crates
 // above decide when an entry is kept, who starts from it and where a re-render stops.
+#![tactic(auto)]
+
 ghost use Rattle.std.specs.Prelude.{cond, ◌≡◌, ◌%◌, ◌<◌, ◌≤◌, eqb};
 ghost use Rattle.words.specs.Words.{same};
 ghost use Rattle.shelf.specs.Shelf.{entries_for, words_for, stage_word, active_byte, gate_bit, packed_word, pair_at, four_pairs, entry_of, stored_in, word, float, stage_of, active_of, notes_of, velocities_of, keys_in, envelope_in, state_of, decoded_of, with_count, meets};
@@ -20,7 +22,7 @@ pub const SECTION_SIZE: usize = 4096;
 const COUNT_WORD: usize = 5;
 
 // Whether words are an entry, and the state that they are read as, of use only if they are.
-#[derive(Drop)]
+#[derive(Clone, Copy)]
 pub struct Entry {
     pub valid: bool,
     pub state: State,

@@ -1,5 +1,7 @@
 // Sine by a table of a quarter wave, read between its points (01, "Pitch and sine"; specs/Sine.antt). The argument is
 // in cycles, from 0 to 1. The original's `sin` and its table of f32 are not ported.
+#![tactic(auto)]
+
 ghost use Rattle.std.specs.Prelude.{◌≡◌, ◌≤◌, ◌<◌, T, length, get_or};
 ghost use Rattle.floats.specs.Range.{within};
 ghost use Rattle.floats.specs.Double.{zero64};

@@ -3,6 +3,8 @@
 // the end of the part, which reduces nothing.
 // A sample is counted by its offset in the part, which starts at a position in the output, so that no sum overflows a
 // u64. The calls above do the judging.
+#![tactic(auto)]
+
 ghost use Rattle.std.specs.Prelude.{◌≡◌, cond, ◌+◌, ◌%◌, ◌<◌, ◌≤◌, length};
 ghost use Rattle.state.specs.State.{reduced_of};
 ghost use Rattle.spans.specs.Walk.{begun_from, Played};
@@ -18,7 +20,7 @@ const BLOCK: u64 = 64;
 const LONG: usize = 1024;
 
 // The state before a sample is begun, and the index of the first record that has not acted.
-#[derive(Drop)]
+#[derive(Clone, Copy)]
 pub struct Place {
     pub state: State,
     pub next: usize,
@@ -26,7 +28,7 @@ pub struct Place {
 
 // A place in a part, and the next record: whether it is at or after the part's position, and how many samples after.
 // The record's position is read once, when the record before it has acted.
-#[derive(Drop)]
+#[derive(Clone, Copy)]
 struct Walker {
     state: State,
     next: usize,

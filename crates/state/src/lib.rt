@@ -1,6 +1,8 @@
 // The voice's state, and the four steps that make a sample (01, "Making sample n"): reduce the phases, let records act,
 // take the sample, advance. A render, a continuing call and a re-render are these steps, counted from sample zero.
 // specs/Heart.antt defines which record acts when; the crates above do it.
+#![tactic(auto)]
+
 ghost use Rattle.std.specs.Prelude.{◌≡◌};
 ghost use Rattle.voice.specs.Keys.{lifted_of};
 ghost use Rattle.state.specs.Limits.{in_limits, is_state};
@@ -15,7 +17,7 @@ use voice::keys::{Keys, NoteOff};
 use waveform::{Radians, Waveform};
 
 // Whether every key that goes down triggers the envelope, or only one that goes down while no note sounds (02, R-9).
-#[derive(Drop)]
+#[derive(Clone, Copy)]
 pub enum Keying {
     Struck,
     Joined,
@@ -23,7 +25,7 @@ pub enum Keying {
 
 // What does not change during a render: the rate in Hz, the choice of waveform, the envelope's settings, the LFO's, and
 // whether notes are struck or joined.
-#[derive(Drop)]
+#[derive(Clone, Copy)]
 pub struct Settings {
     pub rate: u32,
     pub waveform: Waveform,
@@ -34,7 +36,7 @@ pub struct Settings {
 
 // What changes from sample to sample: the oscillator's phase, the envelope, the voice's frequency in Hz and velocity
 // from 0 to 1, the held keys, how many records of the score have acted, and the LFO's phase.
-#[derive(Drop)]
+#[derive(Clone, Copy)]
 pub struct State {
     pub phase: Radians,
     pub envelope: Envelope,
@@ -48,7 +50,7 @@ pub struct State {
 // What a record does: it strikes a key (note, velocity), lifts a key (note), or sets all that sounds to its fresh
 // state. Whether a strike triggers the envelope depends on the setting and the note that sounds, and whether a lift
 // releases it on the held keys.
-#[derive(Drop)]
+#[derive(Clone, Copy)]
 pub enum Event {
     Strike(u8, u8),
     Lift(u8),

@@ -1,5 +1,7 @@
 // The tremolo of 02's request R-7: an LFO that makes the sound louder and softer. Here are its settings, the factor of
 // one sample, and the pass that multiplies the samples of a lent part. The LFO's phase is a field of the state.
+#![tactic(auto)]
+
 ghost use Rattle.std.specs.Prelude.{◌≡◌};
 ghost use Rattle.waveform.specs.Waveform.{radians};
 ghost use Rattle.waveform.specs.Filled.{phase_from};
@@ -8,7 +10,7 @@ ghost use Rattle.tremolo.specs.Tremolo.{is_lfo, lfo_at, factor_of, is_flat, mult
 use waveform::{Radians, Waveform};
 
 // The choice of waveform, the frequency in Hz, and the depth: 0 is no tremolo, at 1 the sound sinks to silence.
-#[derive(Drop)]
+#[derive(Clone, Copy)]
 pub struct Lfo {
     pub waveform: Waveform,
     pub frequency: f64,

@@ -5,14 +5,14 @@ ghost use Rattle.std.specs.Prelude.{◌≡◌, ◌≤◌, length, take};
 ghost use Rattle.voice.specs.Keys.{pairs, held_of, padded, keys_of, fresh_keys, pressed_of, without_of, is_sounding, fall_back_of, lifted_of, is_gate_right, is_filled, is_keys};
 
 // The note that sounds, if one does.
-#[derive(Drop)]
+#[derive(Clone, Copy)]
 pub enum ActiveNote {
     Silent,
     Note(u8),
 }
 
 // The note that sounds, the gate, and the held keys with their velocities: the first `count` places of each array.
-#[derive(Drop)]
+#[derive(Clone, Copy)]
 pub struct Keys {
     pub active: ActiveNote,
     pub gate: bool,
@@ -22,7 +22,7 @@ pub struct Keys {
 }
 
 // What lifting a key does to the sound: ends it, falls back to a held note and its velocity, or leaves it as it was.
-#[derive(Drop)]
+#[derive(Clone, Copy)]
 pub enum NoteOff {
     Released,
     FellBack(u8, u8),
@@ -30,7 +30,7 @@ pub enum NoteOff {
 }
 
 // The keys after one is lifted, and what the lift does to the sound.
-#[derive(Drop)]
+#[derive(Clone, Copy)]
 pub struct AfterLift {
     pub keys: Keys,
     pub off: NoteOff,

@@ -1,6 +1,8 @@
 // voice.rs of the original: one voice for many keys, the last of which sounds. State goes in by value and is handed
 // back; an argument outside the domain is refused (document 01, number 9).
 // The keys are in keys.rt, `midi_note_to_frequency` is in the crate `pitch`; the traits of the original are left out.
+#![tactic(auto)]
+
 ghost use Rattle.std.specs.Prelude.{◌≡◌};
 ghost use Rattle.answers.specs.Order.{unless};
 ghost use Rattle.answers.specs.declared.Refusal.TheVariants.{Argument};
@@ -13,7 +15,7 @@ use keys::{ActiveNote, AfterLift, Keys, NoteOff};
 pub mod keys;
 
 // The keys, and what sounds: the velocity from 0 to 1 and the frequency in Hz, both of the last note that sounded.
-#[derive(Drop)]
+#[derive(Clone, Copy)]
 pub struct VoiceState {
     pub keys: Keys,
     pub velocity: f32,
@@ -21,14 +23,14 @@ pub struct VoiceState {
 }
 
 // What a call that changes the state answers.
-#[derive(Drop)]
+#[derive(Clone, Copy)]
 pub struct Changed {
     pub answer: Answer,
     pub voice: VoiceState,
 }
 
 // What lifting a key answers: what became of the sound, and the state after.
-#[derive(Drop)]
+#[derive(Clone, Copy)]
 pub struct Off {
     pub answer: Answer,
     pub off: NoteOff,
@@ -36,14 +38,14 @@ pub struct Off {
 }
 
 // What `is_active` answers.
-#[derive(Drop)]
+#[derive(Clone, Copy)]
 pub struct Active {
     pub answer: Answer,
     pub active: bool,
 }
 
 // What `held_note_count` answers.
-#[derive(Drop)]
+#[derive(Clone, Copy)]
 pub struct HeldNotes {
     pub answer: Answer,
     pub count: usize,

@@ -1,6 +1,8 @@
 // waveform.rs of the original: one sample of a waveform. `sample` and `value_at` take the phase and dt, the step of the
 // phase in one sample, in cycles; a block counts both in radians, which `normalised` and `in_cycles` turn into cycles.
 // Left out, as 01 says: noise and the simd paths. The rounded triangle is ours.
+#![tactic(auto)]
+
 ghost use Rattle.std.specs.Prelude.{◌≡◌, ◌*◌, ◌^◌, T};
 ghost use Rattle.std.specs.Float.{binary64};
 ghost use Rattle.std.specs.Float.Ieee.{of_bits, lt, le};
@@ -22,11 +24,11 @@ pub const TWO_TAU: f64 = 12.566370614359172;
 const TAU_IN_FIXED_POINT: u64 = 0x19_21fb_5444_2d18;
 
 // A number of radians, as a type of its own, so that no number of cycles (a plain f64 here) is taken for radians.
-#[derive(Drop)]
+#[derive(Clone, Copy)]
 pub struct Radians(pub f64);
 
 // A pulse carries its own duty: the fraction of the cycle, 0 to 1, in which the pulse is high.
-#[derive(Drop)]
+#[derive(Clone, Copy)]
 pub enum Waveform {
     Sine,
     Square,

@@ -1,5 +1,7 @@
 // Numbers in bytes, low byte first, and floats as their bits, NaN included: how rows of test vectors and the words of a
 // shelf are read. Left out: writing bytes.
+#![tactic(auto)]
+
 ghost use Rattle.std.specs.Prelude.{◌≡◌, ◌+◌, ◌*◌, ◌≤◌, length};
 ghost use Rattle.std.specs.Float.{binary32, binary64};
 ghost use Rattle.std.specs.Float.Ieee.{of_bits, to_bits};
