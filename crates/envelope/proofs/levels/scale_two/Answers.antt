@@ -1,0 +1,10 @@
+-- `envelope::levels::scale_two` meets its contract. Assumes nothing.
+use native.Mathlib.Omega.{arith}
+use lib.ListN.{length-set}
+use Rattle.envelope.proofs.levels.scale_two.Goals as goal
+
+pub bounds-part-i-3 : goal.bounds-part-i-3
+bounds-part-i-3 c = simp length-set (omega arith)
+
+pub bounds-part-i-4 : goal.bounds-part-i-4
+bounds-part-i-4 c = simp length-set (omega arith)

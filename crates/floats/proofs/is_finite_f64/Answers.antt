@@ -1,0 +1,10 @@
+-- `floats::is_finite_f64` meets its contract: a finite f64 lies between the largest f64 and its negation.
+-- Assumes nothing.
+use borrow.Author.Rules.{rules}
+use mathlib.Core.Path.{refl}
+use lib.Ieee.{binary64}
+use Rattle.floats.proofs.Largest.{finite-is-bounded, largest_bits64}
+use Rattle.floats.proofs.is_finite_f64.Goals as goal
+
+pub returns : goal.returns
+returns c = rw (finite-is-bounded binary64 c.args.x (search rules), largest_bits64) refl

@@ -1,0 +1,11 @@
+use Prim.Native.Nat.{◌-◌}
+use lib.ListN.{length}
+use Rattle.waveform.specs.Waveform.{remainder_of}
+use Rattle.high_notes.proofs.Remaking.{Remade}
+use Rattle.high_notes.proofs.wrap_one_by_one.Given as goal
+
+abbrev pub invariant-loop-i : goal.invariant-loop-i
+invariant-loop-i l = Remade remainder_of l.initial.out l.out l.i
+
+abbrev pub decreases-loop-i : goal.decreases-loop-i
+decreases-loop-i l = length l.initial.out - l.i

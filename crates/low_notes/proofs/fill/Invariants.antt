@@ -1,0 +1,11 @@
+use Prim.Native.Nat.{◌-◌}
+use lib.ListN.{length}
+use Rattle.waveform.specs.Filled.{value_at}
+use Rattle.waveform.proofs.Loops.{FilledUpTo}
+use Rattle.low_notes.proofs.fill.Given as goal
+
+abbrev pub invariant-loop-i : goal.invariant-loop-i
+invariant-loop-i l = FilledUpTo (value_at l.waveform l.step.0) l.step.0 l.scale l.initial.angle l.initial.out l.out l.angle l.i
+
+abbrev pub decreases-loop-i : goal.decreases-loop-i
+decreases-loop-i l = length l.initial.out - l.i

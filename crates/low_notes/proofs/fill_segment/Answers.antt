@@ -1,0 +1,13 @@
+-- `low_notes::fill_segment` meets its contract: `fill_one_by_one` goes on where `fill_by_fours` ends. Assumes nothing.
+use mathlib.Core.Path.{sym, ◌∙◌}
+use native.Mathlib.Nat as nat
+use Rattle.low_notes.proofs.fill_segment.Goals as goal
+
+pub fill_by_fours-fours-requires : goal.fill_by_fours-fours-requires
+fill_by_fours-fours-requires c = sym c.is_rising.ensures ∙ c.if-is_rising.true
+
+pub returns-then-is_rising : goal.returns-then-is_rising
+returns-then-is_rising c = let first = c.fill_by_fours-fours.ensures in let then = c.fill_one_by_one.ensures in (nat.le_trans first.0 then.0, λ value straight p₀ xs u. then.1 value straight p₀ xs (first.1 value straight p₀ xs u))
+
+pub returns : goal.returns
+returns c = c.fill_one_by_one-2.ensures

@@ -1,0 +1,16 @@
+-- `polyblep::blamp` meets its contract. Assumes nothing.
+use mathlib.Core.Path.{refl}
+use Rattle.polyblep.specs.Polyblep.{blamp_of}
+use Rattle.polyblep.proofs.blamp.Goals as goal
+
+pub returns-in-After : goal.returns-in-After
+unfolding blamp_of
+returns-in-After c = rw (← c.side_of.ensures, c.in-After.is, c.knee_after.ensures) refl
+
+pub returns-in-Before : goal.returns-in-Before
+unfolding blamp_of
+returns-in-Before c = rw (← c.side_of.ensures, c.in-Before.is, c.knee_before.ensures) refl
+
+pub returns-in-Away : goal.returns-in-Away
+unfolding blamp_of
+returns-in-Away c = rw (← c.side_of.ensures, c.in-Away.is) refl

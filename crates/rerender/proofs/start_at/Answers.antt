@@ -1,0 +1,13 @@
+-- `rerender::start_at` meets its contract. Assumes nothing.
+use mathlib.Core.Path.{◌≡◌, refl}
+use Prim.Native.Nat.{◌+◌, ◌-◌, ◌*◌}
+use native.Mathlib.Omega.{arith}
+use Rattle.shelf.specs.Shelf.{entry_words}
+use Rattle.rerender.proofs.Cases.{start_is}
+use Rattle.rerender.proofs.start_at.Goals as goal
+
+pub returns : goal.returns
+returns c = let w = c.args.section * entry_words in
+    let d : w + entry_words - w ≡ entry_words = omega arith in
+    let entry = rw d at c.decode-entry.ensures in
+    rw (c.is_count_below-counted.ensures, entry, start_is c.args.new.now c.args.section c.args.shelf.now c.requires.sorted) refl

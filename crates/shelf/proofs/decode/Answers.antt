@@ -1,0 +1,8 @@
+-- `shelf::decode` meets its contract. Assumes nothing.
+use mathlib.Core.Path.{refl}
+use Rattle.shelf.specs.Shelf.{is_entry}
+use Rattle.shelf.proofs.decode.Goals as goal
+
+pub returns : goal.returns
+unfolding is_entry
+returns c = rw (c.is_state.ensures, c.word.ensures, c.state_of-state.ensures) refl

@@ -1,0 +1,16 @@
+-- `spans::sway` meets its contract. Assumes nothing.
+use borrow.Author.Rules.{rules}
+use lib.Dec.{T}
+use lib.Ieee.{binary64, fits}
+use mathlib.Core.Path.{◌∙◌, sym}
+use Rattle.spans.proofs.Swaying.{flat_sways}
+use Rattle.spans.proofs.sway.Goals as goal
+
+depth-held : (c : tie.Start) → T (fits binary64 c.args.settings.lfo.depth)
+depth-held c = search rules
+
+phase-held : (c : tie.Start) → T (fits binary64 c.args.phase.0)
+phase-held c = search rules
+
+pub returns-then-is_flat : goal.returns-then-is_flat
+returns-then-is_flat c = flat_sways c.args.settings c.args.phase.0 _ c.increment-step.ensures _ _ (depth-held c) (phase-held c) (sym c.is_flat.ensures ∙ c.if-is_flat.true) c.advance.ensures
