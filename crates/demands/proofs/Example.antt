@@ -6,7 +6,7 @@ use mathlib.Core.Path.{◌≡◌, refl, sym, ap, ◌∙◌}
 use mathlib.Core.List.{List, [], ◌∷◌, ◌++◌}
 use Prim.Native.Nat.{ℕ, ◌+◌, ◌-◌, ◌*◌, ◌/◌, min, ◌≤◌, ◌<◌}
 use native.Mathlib.Omega.{arith}
-use lib.ListN.{replicate, length_append, length-replicate}
+use lib.ListN.{replicate, length-append, length-replicate}
 use lib.Seq.{take_all}
 use borrow.Author.Tests.{lt-ltb}
 use lib.Ieee.{binary64}
@@ -75,7 +75,7 @@ lent =
     sized-lent 6000 rubbish (omega arith)
     (record {
       long = long;
-      fits = length_append (replicate entry_words 7) (entry_of (at_section trembling begins 1)) ∙ ap (λ (n : ℕ). entry_words + n) (entry_length (at_section trembling begins 1));
+      fits = length-append (replicate entry_words 7) (entry_of (at_section trembling begins 1)) ∙ ap (λ (n : ℕ). entry_words + n) (entry_length (at_section trembling begins 1));
       magnitudes-fit = refl;
       numbers_fit = refl;
     })

@@ -9,7 +9,7 @@ use mathlib.Core.Logic.{◌⊎◌, inl, inr, ⊎_elim}
 use Prim.Native.Nat.{ℕ, zero, suc, ◌+◌, ◌-◌, ◌*◌, ◌/◌, ◌%◌, ◌≤◌, ◌<◌}
 use native.Mathlib.Omega.{arith}
 use lib.Dec.{T, eqb, ltb}
-use lib.ListN.{length, get_or, take, drop, length_append, length-drop}
+use lib.ListN.{length, get_or, take, drop, length-append, length-drop}
 use lib.Seq.{length-take-le, take-take, take-add, take_at, drop_at, drop-drop, get_or-take, get_or-drop}
 use lib.Ieee.{binary64, fits}
 use borrow.Author.Tests.{eq-eqb}
@@ -115,7 +115,7 @@ module _ (new space : List ℕ) where
   front-new = take_at new (drop (length new) space) (length new) refl
 
   stays-long : IsAccepted new → length space ≡ 40960 → length (new ++ drop (length new) space) ≡ 40960
-  stays-long a e = length_append new (drop (length new) space) ∙ omega (arith, length-drop (length new) space, accepted-bytes new a, e)
+  stays-long a e = length-append new (drop (length new) space) ∙ omega (arith, length-drop (length new) space, accepted-bytes new a, e)
 
 module _ (g : Settings) (ok : settings_ok g ≡ true) (w : T (fits binary64 g.adsr.sustain)) (n : ℕ) (short : n ≤ most_samples) where
   -- a page on a whole render of the old score leaves the whole render of the new one

@@ -9,7 +9,7 @@ use Prim.Native.Nat.{ℕ, ◌+◌, ◌-◌, ◌*◌, min, ◌<◌}
 use native.Mathlib.Nat.{zero-add, eq-or-lt_of_le}
 use native.Mathlib.Omega.{arith}
 use lib.Dec.{T, eqb}
-use lib.ListN.{length, get_or, take, drop, length_append, length-take, length-drop, get_or-append}
+use lib.ListN.{length, get_or, take, drop, length-append, length-take, length-drop, get_or-append}
 use lib.Seq.{take_all, take_at, drop_at, length-take-le, get_or-take, get_or-drop, get_or-append-add, ext_get_or}
 use lib.Ieee.{Float, nan, binary64, of_bits, fits, lt, le, eq}
 use lib.Ieee.Bits.{of_bits-fits}
@@ -238,7 +238,7 @@ append_finite : (xs ys : List Float) → AllFinite xs → AllFinite ys → AllFi
 append_finite xs ys a b i l =
     ⊎_elim (λ u. subst (λ (x : Float). T (finite x)) (sym (get_or-append xs ys nan i u)) (a i u))
     (λ u. let d : length xs + (i - length xs) ≡ i = omega arith in
-    subst (λ (x : Float). T (finite x)) (sym (ap (sample_at (xs ++ ys)) (sym d) ∙ get_or-append-add xs ys (i - length xs) nan)) (b (i - length xs) (omega (arith, l, length_append xs ys))))
+    subst (λ (x : Float). T (finite x)) (sym (ap (sample_at (xs ++ ys)) (sym d) ∙ get_or-append-add xs ys (i - length xs) nan)) (b (i - length xs) (omega (arith, l, length-append xs ys))))
     (lt_or_ge i (length xs))
 
 -- the state of a start entry is within the limits

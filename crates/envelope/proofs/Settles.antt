@@ -5,7 +5,7 @@
 use mathlib.Core.Path.{◌≡◌, refl, sym, ap, ◌∙◌, subst}
 use mathlib.Core.Logic.{inl, inr}
 use Prim.Native.Nat.{ℕ, suc, ◌+◌, ◌-◌, ◌*◌, ◌^◌, ◌≤◌, ◌<◌, zero-le}
-use native.Mathlib.Nat.{le_trans, le_of_eq, le_of_mul_le_mul_right, mul-le-mul_right, mul-le-mul_left, mul-pos, zero-mul, one-mul, eq-zero-or-pos}
+use native.Mathlib.Nat.{le_trans, le_of_eq, le_of_mul-le-mul_right, mul-le-mul_right, mul-le-mul_left, mul-pos, zero-mul, one-mul, eq-zero-or-pos}
 use native.Mathlib.Omega.{arith}
 use mathlib.Core.Bool.{Bool, true, false, not}
 use lib.IntN.{pos, negsuc}
@@ -49,7 +49,7 @@ gap (fin t m (negsuc k)) w p h = go (leb (suc k) 53) (leb→le (suc k) 53) (nleb
 -- w / c ≤ tn / td, if each rounding loses at most one part in P and the progress is at least Q * Q / (P * P)
 core : (w c dn dd pn pd tn td P Q : ℕ) → 0 < dd → 0 < pd → 0 < Q → w * dd * P ≤ dn * c * Q → dn * pn * td * P ≤ tn * (dd * pd) * Q → pd * (Q * Q) ≤ pn * (P * P) → w * td ≤ tn * c
 core w c dn dd pn pd tn td P Q D E F h k l =
-    le_of_mul_le_mul_right
+    le_of_mul-le-mul_right
     (le_trans (a w td dd pd Q)
     (le_trans (mul-le-mul_left (w * td * dd) l)
     (le_trans (b w td dd pn P)
@@ -76,7 +76,7 @@ spare pn pd h = omega arith
 
 -- dn / dd is at least 1 / Q
 least : (w c dn dd P Q : ℕ) → 0 < w → 0 < P → w * dd * P ≤ dn * c * Q → c ≤ w * P → dd ≤ dn * Q
-least w c dn dd P Q W E h k = le_of_mul_le_mul_right (le_trans (a w dd P) (le_trans h (le_trans (b dn c Q) (mul-le-mul_left (dn * Q) k)))) (mul-pos W E)
+least w c dn dd P Q W E h k = le_of_mul-le-mul_right (le_trans (a w dd P) (le_trans h (le_trans (b dn c Q) (mul-le-mul_left (dn * Q) k)))) (mul-pos W E)
   where
     a : (w dd P : ℕ) → dd * (w * P) ≤ w * dd * P
     a w dd P = omega arith

@@ -3,7 +3,7 @@
 use mathlib.Core.List.{List}
 use Prim.Native.Nat.{ℕ, zero, suc, ◌*◌, ◌≤◌, ◌<◌}
 use native.Mathlib.Omega.{arith}
-use lib.ListN.{length, length_append}
+use lib.ListN.{length, length-append}
 use Rattle.answers.specs.declared.Answer.TheVariants.{Refused}
 use Rattle.answers.specs.declared.Refusal.TheVariants.{Score}
 use Rattle.answers.specs.Numbers.{numbers_of}
@@ -23,18 +23,18 @@ kind_length Off = omega arith
 kind_length Reset = omega arith
 
 line-length : (r : Record) → length (line_of r) ≤ 69
-line-length r = simp length_append (omega (arith, twenty_digits r.position, kind_length r.kind, twenty_digits r.note, twenty_digits r.velocity))
+line-length r = simp length-append (omega (arith, twenty_digits r.position, kind_length r.kind, twenty_digits r.note, twenty_digits r.velocity))
 
 lines_length : (s : List ℕ) (n : ℕ) → length (lines_to s n) ≤ n * 69
 unfolding lines_to
 lines_length s zero = omega arith
-lines_length s (suc n) = rw length_append (omega (arith, lines_length s n, line-length (record_at s n)))
+lines_length s (suc n) = rw length-append (omega (arith, lines_length s n, line-length (record_at s n)))
 
 pub listing_fits : (s : List ℕ) → length (listing_of s) < 4294967296
 listing_fits s =
     first_holds (λ (text : List ℕ). length text < 4294967296) (faults_of s) refused_text (accepted_text s (count_of s))
-    (λ f l. let m = numbers_of (Refused (Score f)) in simp length_append (omega (arith, twenty_digits m.number, twenty_digits m.place)))
-    (λ none. simp length_append (omega (arith, twenty_digits (count_of s), lines_length s (count_of s), (accepted_all s (count_of s) (none-accepted s none)).few)))
+    (λ f l. let m = numbers_of (Refused (Score f)) in simp length-append (omega (arith, twenty_digits m.number, twenty_digits m.place)))
+    (λ none. simp length-append (omega (arith, twenty_digits (count_of s), lines_length s (count_of s), (accepted_all s (count_of s) (none-accepted s none)).few)))
 
 pub listing_starts : (s : List ℕ) → 0 < length (listing_of s)
 listing_starts s = first_holds (λ (text : List ℕ). 0 < length text) (faults_of s) refused_text (accepted_text s (count_of s)) (λ f l. omega arith) (λ none. omega arith)

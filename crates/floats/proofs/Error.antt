@@ -3,7 +3,7 @@
 use mathlib.Core.Path.{◌≡◌, sym, ap, ◌∙◌, subst}
 use Prim.Native.Nat.{ℕ, suc, ◌+◌, ◌-◌, ◌*◌, ◌/◌, ◌%◌, ◌^◌}
 use Prim.Native.Nat.{◌≤◌, ◌<◌, compare, Ordering}
-use native.Mathlib.Nat.{le_trans, le_of_eq, le_of_mul_le_mul_right, mul-le-mul_right, mul-pos, mod-lt, div-add-mod', div-div-eq-div-mul, le-div_iff_mul-le, pow-succ'}
+use native.Mathlib.Nat.{le_trans, le_of_eq, le_of_mul-le-mul_right, mul-le-mul_right, mul-pos, mod-lt, div-add-mod', div-div-eq-div-mul, le-div_iff_mul-le, pow-succ'}
 use native.Mathlib.Omega.{arith}
 use mathlib.Core.Bool.{false}
 use lib.Dec.{T, is_le, leb→le}
@@ -65,5 +65,5 @@ rounded_err f x a c r q C N =
     let ny : T (nonneg y) = under y x (ge0-round f a c) (nonneg→finite x q) r.lower in
     let v : num y * 2 ^ low f ≡ grid f a c * den y = value→cross y (grid f a c) (2 ^ low f) (round_val f a c (round_under f a c (nonneg→finite y ny))) in
     let g : grid f a c * den x ≤ num x * 2 ^ low f =
-    le_of_mul_le_mul_right (omega (arith, ap (λ (z : ℕ). z * den x) v, mul-le-mul_right (2 ^ low f) (le→cross y x ny q r.lower))) (den_pos y) in
-    le_of_mul_le_mul_right (omega (arith, mul-le-mul_right (den x) (grid_err f a c C N), mul-le-mul_right (c * (2 ^ prec f + 1)) g)) (pow_pos (low f))
+    le_of_mul-le-mul_right (omega (arith, ap (λ (z : ℕ). z * den x) v, mul-le-mul_right (2 ^ low f) (le→cross y x ny q r.lower))) (den_pos y) in
+    le_of_mul-le-mul_right (omega (arith, mul-le-mul_right (den x) (grid_err f a c C N), mul-le-mul_right (c * (2 ^ prec f + 1)) g)) (pow_pos (low f))

@@ -2,7 +2,7 @@
 -- format that a and b lie between: it lies between a + 0 and a + (b - a), which are a and b rounded. Assumes nothing.
 use mathlib.Core.Path.{◌≡◌, refl, sym, ap, subst}
 use Prim.Native.Nat.{ℕ, ◌+◌, ◌*◌}
-use native.Mathlib.Nat.{mul-le-mul_right, le_of_mul_le_mul_right}
+use native.Mathlib.Nat.{mul-le-mul_right, le_of_mul-le-mul_right}
 use native.Mathlib.Omega.{arith}
 use mathlib.Core.Bool.{Bool, true, false, not}
 use lib.Dec.{T}
@@ -26,14 +26,14 @@ module _ (f : Format) (a d b w : Float) (fa : T (finite a)) (fd : T (finite d)) 
   sum-le : T (le b w) → T (le (add f a d) w)
   sum-le k =
       order f _ _ _ _ _ _ _ _ (near_add f a d fa fd) (near-self f w ww fw) (dens_pos a d) (den_pos w)
-      (le_of_mul_le_mul_right
+      (le_of_mul-le-mul_right
       (simp products (omega (arith, simp products at (ap (λ (z : ℕ). z * den w) x), simp products at (mul-le-mul_right (den a * den d) (le→frac b w fb fw k)))))
       (den_pos b))
 
   le-sum : T (le w b) → T (le w (add f a d))
   le-sum k =
       order f _ _ _ _ _ _ _ _ (near-self f w ww fw) (near_add f a d fa fd) (den_pos w) (dens_pos a d)
-      (le_of_mul_le_mul_right
+      (le_of_mul-le-mul_right
       (simp products (omega (arith, simp products at (ap (λ (z : ℕ). z * den w) x), simp products at (mul-le-mul_right (den a * den d) (le→frac w b fw fb k)))))
       (den_pos b))
 

@@ -6,7 +6,7 @@ use mathlib.Core.Logic.{⊎_elim}
 use Prim.Native.Nat.{ℕ, zero, suc, ◌+◌, ◌*◌, ◌/◌, ◌%◌, ◌^◌, ◌-◌, ◌≤◌, ◌<◌}
 use native.Mathlib.Nat.{pow-suc, pow-le-pow_right}
 use native.Mathlib.Omega.{arith}
-use lib.ListN.{length, length_append}
+use lib.ListN.{length, length-append}
 use lib.Dec.{lit<, lit≤}
 use borrow.Author.Tests.{lt-ltb, le-ltb}
 use Rattle.io.specs.Digits.{last_digits, IsDigitCount}
@@ -72,7 +72,7 @@ unfolding spelt
 length-spelt zero m n h = omega arith
 length-spelt (suc f) m n h =
     ⊎_elim (λ l. rw (lt-ltb n 10 l) (omega arith))
-    (λ g. rw (le-ltb n 10 g, length_append (spelt f (n / 10)) ((48 + n % 10) ∷ [])) (go m h g (λ k l. length-spelt f k (n / 10) l))) (lt_or_ge n 10)
+    (λ g. rw (le-ltb n 10 g, length-append (spelt f (n / 10)) ((48 + n % 10) ∷ [])) (go m h g (λ k l. length-spelt f k (n / 10) l))) (lt_or_ge n 10)
   where
     go : (m : ℕ) → n < 10 ^ suc m → 10 ≤ n → ((k : ℕ) → n / 10 < 10 ^ suc k → length (spelt f (n / 10)) ≤ suc k) → length (spelt f (n / 10)) + 1 ≤ suc m
     go zero h g shorter = absurd (clash (omega arith))
@@ -96,7 +96,7 @@ unfolding spelt
 length_most zero n = omega arith
 length_most (suc f) n =
     ⊎_elim (λ l. rw (lt-ltb n 10 l) (omega arith))
-    (λ g. rw (le-ltb n 10 g, length_append (spelt f (n / 10)) ((48 + n % 10) ∷ [])) (omega (arith, length_most f (n / 10)))) (lt_or_ge n 10)
+    (λ g. rw (le-ltb n 10 g, length-append (spelt f (n / 10)) ((48 + n % 10) ∷ [])) (omega (arith, length_most f (n / 10)))) (lt_or_ge n 10)
 
 pub twenty_digits : (n : ℕ) → length (decimal_of n) ≤ 20
 twenty_digits n = length_most 20 n

@@ -5,7 +5,7 @@ use Prim.Native.Nat.{ℕ, ◌+◌, ◌≤◌, ◌<◌}
 use native.Mathlib.Nat.{add-zero}
 use native.Mathlib.Numerals.{add-one}
 use native.Mathlib.Omega.{arith}
-use lib.ListN.{length, take, drop, length_append}
+use lib.ListN.{length, take, drop, length-append}
 use lib.Seq.{paste, paste-zero, take-length, take_at, drop_at, drop-drop, length-take-le, length-paste}
 use borrow.Author.Tests.{lt-ltb, le-ltb}
 use Rattle.answers.specs.declared.Answer.TheVariants.{Refused}
@@ -46,14 +46,14 @@ put_pasted text x at y j n h e p q =
 -- a text and then another are the two joined
 pub put_both : {a b x : List ℕ} {at : ℕ} {y z : List ℕ} {m n : ℕ} → Put a x at y m → Put b y m z n → Put (a ++ b) x at z n
 put_both {a} {b} {x} {at} {y} {z} {m} {n} p q =
-    let size : length (a ++ b) ≡ length a + length b = length_append a b in
+    let size : length (a ++ b) ≡ length a + length b = length-append a b in
     let room-a : at + length a ≤ length x = p.room in
     let room-b : m + length b ≤ length y = q.room in
     let same-y : length y ≡ length x = p.same_length in
     let same-z : length z ≡ length y = q.same_length in
     let moved-a : m ≡ at + length a = p.moved in
     let moved-b : n ≡ m + length b = q.moved in
-    let front : length (take at x ++ a) ≡ m = rw (length_append (take at x) a, length-take-le at x (omega arith)) (sym moved-a) in
+    let front : length (take at x ++ a) ≡ m = rw (length-append (take at x) a, length-take-le at x (omega arith)) (sym moved-a) in
     let y-is : y ≡ (take at x ++ a) ++ drop (at + length a) x = p.bytes in
     let low : take m y ≡ take at x ++ a = ap (take m) y-is ∙ take_at (take at x ++ a) (drop (at + length a) x) m front in
     let rest : drop m y ≡ drop (at + length a) x = ap (drop m) y-is ∙ drop_at (take at x ++ a) (drop (at + length a) x) m front in

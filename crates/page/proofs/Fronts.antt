@@ -6,7 +6,7 @@ use mathlib.Core.Logic.{◌≢◌}
 use Prim.Native.Nat.{ℕ, ◌+◌, ◌-◌, ◌*◌, ◌≤◌}
 use native.Mathlib.Omega.{arith}
 use lib.Dec.{ltb}
-use lib.ListN.{length, take, drop, length_append, length-drop}
+use lib.ListN.{length, take, drop, length-append, length-drop}
 use lib.Seq.{take-take, take-append_seam, take-append-le, drop_at, length-take-le}
 use borrow.Author.Tests.{lt-ltb, le-ltb}
 use Rattle.answers.specs.Order.{unless}
@@ -29,7 +29,7 @@ pub step-done : (why : List Refusal) (new : List ℕ) (n : ℕ) (came room : Lis
 step-done why new n came room none long fits whole is =
     record {
       told = rw (none, long) refl;
-      whole = ap length is ∙ length_append new (drop n came) ∙ rw (length-drop n came) (omega arith);
+      whole = ap length is ∙ length-append new (drop n came) ∙ rw (length-drop n came) (omega arith);
       front = λ e. ap (take (length new)) is ∙ take-append_seam new (drop n came);
     }
 
@@ -106,7 +106,7 @@ module _ (room : List ℕ) (n : ℕ) (h : Holds room n) where
         let new : List ℕ = take (k * 10) s ++ xs ++ drop (k * 10) s in
         let same : new ≡ inserted_of s xs = ap (λ (j : ℕ). take (j * 10) s ++ xs ++ drop (j * 10) s) below in
         let long : length new ≡ n + 10 =
-        rw (length_append (take (k * 10) s ++ xs) (drop (k * 10) s), length_append (take (k * 10) s) xs, length-take-le (k * 10) s (omega (arith, front_length)), length-drop (k * 10) s, ten) (omega (arith, front_length)) in
+        rw (length-append (take (k * 10) s ++ xs) (drop (k * 10) s), length-append (take (k * 10) s) xs, length-take-le (k * 10) s (omega (arith, front_length)), length-drop (k * 10) s, ten) (omega (arith, front_length)) in
         step-done _ (inserted_of s xs) (n + 10) room left
         (rw (lt-ltb (count_of s) 4096 (omega (arith, front-records, space other, h.whole))) refl)
         (ap length (sym same) ∙ long)
@@ -132,7 +132,7 @@ module _ (room : List ℕ) (n : ℕ) (h : Holds room n) where
         let new : List ℕ = take (k * 10) s ++ drop (k * 10 + 10) s in
         let same : new ≡ removed_of s (first_equal s xs) = ap (λ (j : ℕ). take (j * 10) s ++ drop (j * 10 + 10) s) is in
         let long : length new ≡ n - 10 =
-        rw (length_append (take (k * 10) s) (drop (k * 10 + 10) s), length-take-le (k * 10) s (omega (arith, front_length)), length-drop (k * 10 + 10) s) (omega (arith, front_length)) in
+        rw (length-append (take (k * 10) s) (drop (k * 10 + 10) s), length-take-le (k * 10) s (omega (arith, front_length)), length-drop (k * 10 + 10) s) (omega (arith, front_length)) in
         step-done _ (removed_of s (first_equal s xs)) (n - 10) room left
         (rw (lt-ltb (first_equal s xs) (count_of s) (omega (arith, front-records))) refl)
         (ap length (sym same) ∙ long)

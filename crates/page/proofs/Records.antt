@@ -5,7 +5,7 @@ use mathlib.Core.List.{List, [], ◌∷◌, ◌++◌, append_assoc}
 use mathlib.Core.Logic.{⊎_elim}
 use Prim.Native.Nat.{ℕ, zero, suc, ◌+◌, ◌*◌, ◌-◌, ◌≤◌, ◌<◌}
 use native.Mathlib.Omega.{arith}
-use lib.ListN.{length, get_or, take, length_append, get_or-append}
+use lib.ListN.{length, get_or, take, length-append, get_or-append}
 use lib.Seq.{take_at, drop_at, drop-append-add, get_or-append-add, get_or_at}
 use borrow.Author.Tests.{lt-ltb}
 use Rattle.score.specs.declared.Record.{Record}
@@ -84,7 +84,7 @@ module _ (old : List ℕ) (front back : List Record) (r : Record) (g : IsScore o
   rs = front ++ back
 
   long : length rs ≡ length front + length back
-  long = length_append front back
+  long = length-append front back
 
   cut : Cut old (r.position + 1) (length front)
   cut =
@@ -132,7 +132,7 @@ module _ (old : List ℕ) (front back : List Record) (r : Record) (g : IsScore o
   all = front ++ (r ∷ back)
 
   in_all : length all ≡ length front + suc (length back)
-  in_all = length_append front (r ∷ back)
+  in_all = length-append front (r ∷ back)
 
   there : length front < length all
   there = omega (arith, in_all)

@@ -3,7 +3,7 @@ use mathlib.Core.Path.{◌≡◌, refl, sym, ap, ◌∙◌}
 use mathlib.Core.List.{List, [], ◌∷◌, ◌++◌}
 use Prim.Native.Nat.{ℕ, suc, ◌+◌, ◌-◌, ◌≤◌, ◌<◌}
 use native.Mathlib.Omega.{arith}
-use lib.ListN.{length, get_or, set, take, drop, length_append, length-drop, get_or-append}
+use lib.ListN.{length, get_or, set, take, drop, length-append, length-drop, get_or-append}
 use lib.Seq.{paste, paste-zero, paste-suc, drop-paste, take-length, drop-cons, get_or-take, get_or-drop, set-append_left, take-set-lt, take-suc-set, append_snoc, length-take-le}
 use Rattle.page.specs.Inner.{put_at, opened_of, closed_of}
 
@@ -27,13 +27,13 @@ module _ (b : List ℕ) (n : ℕ) where
         let end : suc j + 10 + (n - suc j) ≡ j + 10 + (n - j) = omega arith in
         let one : n - j ≡ suc (n - suc j) = omega arith in
         let read : get_or (x ++ y ++ z) j 0 ≡ v =
-        get_or-append (x ++ y) z 0 j (rw (length_append x y) (omega arith)) ∙ get_or-append x y 0 j (omega arith) ∙ get_or-take (suc j + 10) b j 0 (omega arith) in
+        get_or-append (x ++ y) z 0 j (rw (length-append x y) (omega arith)) ∙ get_or-append x y 0 j (omega arith) ∙ get_or-take (suc j + 10) b j 0 (omega arith) in
         let front : set x (j + 10) v ≡ take (j + 10) b ++ (v ∷ []) =
         sym (take-set-lt (suc j + 10) b (j + 10) v (omega arith)) ∙ ap (λ (k : ℕ). take k (set b (j + 10) v)) next ∙ take-suc-set b (j + 10) v (omega arith) in
         let seam : take (j + 10) b ++ (v ∷ []) ++ y ≡ take (j + 10) b ++ take (n - j) (drop j b) =
         append_snoc (take (j + 10) b) v y ∙ rw (one, drop-cons b j 0 (omega arith)) refl in
         ap (set (x ++ y ++ z) (j + 10)) read
-        ∙ set-append_left (x ++ y) z (j + 10) v (rw (length_append x y) (omega arith))
+        ∙ set-append_left (x ++ y) z (j + 10) v (rw (length-append x y) (omega arith))
         ∙ ap (λ (r : List ℕ). r ++ z) (set-append_left x y (j + 10) v (omega arith) ∙ ap (λ (r : List ℕ). r ++ y) front ∙ seam)
         ∙ ap (λ (k : ℕ). take (j + 10) b ++ take (n - j) (drop j b) ++ drop k b) end
 

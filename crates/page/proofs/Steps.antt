@@ -6,7 +6,7 @@ use Prim.Native.Nat.{ℕ, suc, ◌+◌, ◌-◌, ◌≤◌, ◌<◌}
 use native.Mathlib.Numerals.{add-one}
 use native.Mathlib.Omega.{arith}
 use lib.Dec.{ltb}
-use lib.ListN.{length, take, drop, length_append, length-drop}
+use lib.ListN.{length, take, drop, length-append, length-drop}
 use lib.Seq.{take_at}
 use Rattle.answers.specs.Order.{unless, first_of}
 use Rattle.answers.specs.declared.Answer.TheVariants.{Done, Refused}
@@ -95,7 +95,7 @@ applying_begins old es n came room accepted whole put =
     let is : room ≡ old ++ drop (length old) came = put ∙ ap (λ (k : ℕ). old ++ drop k came) z in
     let all : n ≡ n - 0 = omega arith in
     record {
-      whole = ap length is ∙ length_append old (drop (length old) came) ∙ rw (length-drop (length old) came) (omega (arith, bytes));
+      whole = ap length is ∙ length-append old (drop (length old) came) ∙ rw (length-drop (length old) came) (omega (arith, bytes));
       inside = omega arith;
       long = refl;
       front = ap (take (length old)) is ∙ take_at old (drop (length old) came) (length old) refl;

@@ -8,7 +8,7 @@ use Prim.Native.Nat.{ℕ, zero, suc, ◌+◌, ◌*◌, ◌-◌, ◌≤◌, ◌<�
 use native.Mathlib.Nat.{eq-or-lt_of_le}
 use native.Mathlib.Omega.{arith}
 use lib.Dec.{ltb}
-use lib.ListN.{length, get_or, take, drop, length_append, length-drop, get_or-append}
+use lib.ListN.{length, get_or, take, drop, length-append, length-drop, get_or-append}
 use lib.Seq.{get_or-take, get_or-drop, get_or-append-add, length-take-le}
 use borrow.Author.Tests.{ltb-true, le-leb}
 use Rattle.answers.specs.Order.{unless}
@@ -85,10 +85,10 @@ module _ (s r : List ℕ) (ten : length r ≡ 10) (c : ℕ) (whole : length s �
   opened_front = front-size s c whole inside
 
   head_size : length (take (c * 10) s ++ r) ≡ c * 10 + 10
-  head_size = length_append (take (c * 10) s) r ∙ omega (arith, opened_front)
+  head_size = length-append (take (c * 10) s) r ∙ omega (arith, opened_front)
 
   opened_size : length opened ≡ suc (count_of s) * 10
-  opened_size = length_append (take (c * 10) s ++ r) (drop (c * 10) s) ∙ omega (arith, head_size, length-drop (c * 10) s)
+  opened_size = length-append (take (c * 10) s ++ r) (drop (c * 10) s) ∙ omega (arith, head_size, length-drop (c * 10) s)
 
   opened_before : (i : ℕ) → i < c → Alike opened i s i
   opened_before i h k l =
@@ -119,7 +119,7 @@ module _ (s : List ℕ) (c : ℕ) (whole : length s ≡ count_of s * 10) (inside
   closed_front = front-size s c whole (omega arith)
 
   closed_size : length closed ≡ (count_of s - 1) * 10
-  closed_size = length_append (take (c * 10) s) (drop (c * 10 + 10) s) ∙ omega (arith, closed_front, length-drop (c * 10 + 10) s)
+  closed_size = length-append (take (c * 10) s) (drop (c * 10 + 10) s) ∙ omega (arith, closed_front, length-drop (c * 10 + 10) s)
 
   closed_before : (i : ℕ) → i < c → Alike closed i s i
   closed_before i h k l =

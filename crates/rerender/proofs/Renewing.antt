@@ -6,7 +6,7 @@ use mathlib.Core.List.{List, ◌∷◌, ◌++◌, append_assoc}
 use Prim.Native.Nat.{ℕ, zero, suc, ◌+◌, ◌-◌, ◌*◌, ◌/◌, ◌≤◌, ◌<◌}
 use native.Mathlib.Nat.{add-zero}
 use native.Mathlib.Omega.{arith}
-use lib.ListN.{length, take, drop, take-append-drop, length_append, length-drop}
+use lib.ListN.{length, take, drop, take-append-drop, length-append, length-drop}
 use Rattle.runs.specs.Runs.{listed}
 use Rattle.runs.proofs.Listed.{listed_on}
 use lib.Seq.{take_at, drop_at, drop-drop, length-take-le}
@@ -74,8 +74,8 @@ pub recounted-length : (s : List ℕ) (k j : ℕ) (ws : List ℕ) → length (re
 unfolding recounted
 recounted-length s k zero ws = refl
 recounted-length s k (suc j) ws =
-    length_append (with_count (take entry_words ws) (count_below s (k * section_size))) (recounted s (suc k) j (drop entry_words ws))
-    ∙ rw (recount-length (take entry_words ws) (count_below s (k * section_size)), recounted-length s (suc k) j (drop entry_words ws)) (sym (length_append (take entry_words ws) (drop entry_words ws)) ∙ ap length (take-append-drop entry_words ws))
+    length-append (with_count (take entry_words ws) (count_below s (k * section_size))) (recounted s (suc k) j (drop entry_words ws))
+    ∙ rw (recount-length (take entry_words ws) (count_below s (k * section_size)), recounted-length s (suc k) j (drop entry_words ws)) (sym (length-append (take entry_words ws) (drop entry_words ws)) ∙ ap length (take-append-drop entry_words ws))
 
 -- entry i of the j
 pub recounted-at : (s : List ℕ) (k j i : ℕ) (ws : List ℕ) → j * entry_words ≤ length ws → i < j → entry_at (recounted s k j ws) i ≡ with_count (entry_at ws i) (count_below s ((k + i) * section_size))
@@ -128,8 +128,8 @@ module _ (s : List ℕ) (k : ℕ) (b : Buffers) (fits : length b.stored ≡ entr
 
   pub renewed_words : length (recounted_from s k b).stored ≡ length b.stored
   renewed_words =
-      length_append (take (k * entry_words) b.stored) _ ∙ ap (λ (i : ℕ). length (take (k * entry_words) b.stored) + i) (recounted-length s k (entries_for (samples_in b) - k) (drop (k * entry_words) b.stored))
-      ∙ sym (length_append (take (k * entry_words) b.stored) (drop (k * entry_words) b.stored)) ∙ ap length (take-append-drop (k * entry_words) b.stored)
+      length-append (take (k * entry_words) b.stored) _ ∙ ap (λ (i : ℕ). length (take (k * entry_words) b.stored) + i) (recounted-length s k (entries_for (samples_in b) - k) (drop (k * entry_words) b.stored))
+      ∙ sym (length-append (take (k * entry_words) b.stored) (drop (k * entry_words) b.stored)) ∙ ap length (take-append-drop (k * entry_words) b.stored)
 
   -- what lies before entry k stays
   pub renewed_before : before k (recounted_from s k b) ≡ before k b

@@ -7,7 +7,7 @@ use Prim.Native.Nat.{ℕ, zero, suc, ◌+◌, ◌<◌}
 use native.Mathlib.Nat.{add-zero, add-suc, eq-or-lt_of_le, le_of_suc-le-suc}
 use native.Mathlib.Numerals.{add-one}
 use native.Mathlib.Omega.{arith}
-use lib.ListN.{length, get_or, length_append, get_or-append}
+use lib.ListN.{length, get_or, length-append, get_or-append}
 use lib.Seq.{get_or_at}
 use Rattle.runs.specs.Runs.{listed}
 
@@ -19,7 +19,7 @@ module _ {A : Type 0} (f : ℕ → A) where
   pub listed-length : (k : ℕ) → length (listed f k) ≡ k
   unfolding listed
   listed-length zero = refl
-  listed-length (suc k) = rw (length_append (listed f k) (f k ∷ []), listed-length k) (add-one k)
+  listed-length (suc k) = rw (length-append (listed f k) (f k ∷ []), listed-length k) (add-one k)
 
   pub listed_at : (k i : ℕ) (d : A) → i < k → get_or (listed f k) i d ≡ f i
   unfolding listed

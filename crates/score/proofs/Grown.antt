@@ -7,7 +7,7 @@ use Prim.Native.Nat.{ℕ, zero, suc, ◌+◌, ◌*◌, ◌-◌, ◌≤◌, ◌<�
 use native.Mathlib.Nat.{add-zero, add-suc}
 use native.Mathlib.Omega.{arith}
 use lib.Dec.{ltb}
-use lib.ListN.{length, length_append, get_or-append}
+use lib.ListN.{length, length-append, get_or-append}
 use borrow.Author.Tests.{le-ltb}
 use Rattle.score.specs.Record.{count_of, byte_at, position_at, record_at}
 use Rattle.score.specs.Below.{below, count_below, Sorted}
@@ -43,7 +43,7 @@ module _ (s u : List ℕ) (whole : length s ≡ count_of s * 10) where
   record_kept i h = rw (position-kept i h, byte-kept i 6 h (omega arith), byte-kept i 7 h (omega arith), byte-kept i 8 h (omega arith)) refl
 
   pub count_grows : count_of s ≤ count_of (s ++ u)
-  count_grows = rw (length_append s u) (omega arith)
+  count_grows = rw (length-append s u) (omega arith)
 
   below-kept : (p n : ℕ) → n ≤ count_of s → below (s ++ u) p n ≡ below s p n
   unfolding below

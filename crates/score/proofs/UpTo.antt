@@ -5,7 +5,7 @@ use mathlib.Core.Logic.{⊎_elim}
 use Prim.Native.Nat.{ℕ, zero, suc, ◌+◌, ◌≤◌, ◌<◌}
 use native.Mathlib.Nat.{eq-or-lt_of_le, le_of_suc-le-suc}
 use native.Mathlib.Omega.{arith}
-use lib.ListN.{length, get_or, take, drop, length_append, length-drop, get_or-append}
+use lib.ListN.{length, get_or, take, drop, length-append, length-drop, get_or-append}
 use lib.Seq.{take-suc, get_or-drop, get_or_at}
 
 module _ {A : Type 0} (f : ℕ → A) where
@@ -16,7 +16,7 @@ module _ {A : Type 0} (f : ℕ → A) where
   pub length-up_to : (k : ℕ) → length (up_to k) ≡ k
   unfolding up_to
   length-up_to zero = refl
-  length-up_to (suc k) = let h : length (up_to k) ≡ k = length-up_to k in rw (length_append, h) (omega arith)
+  length-up_to (suc k) = let h : length (up_to k) ≡ k = length-up_to k in rw (length-append, h) (omega arith)
 
   pub get_d_up_to : (k i : ℕ) (d : A) → i < k → get_or (up_to k) i d ≡ f i
   unfolding up_to

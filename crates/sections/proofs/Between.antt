@@ -5,7 +5,7 @@ use mathlib.Core.List.{List, [], ◌∷◌, ◌++◌, append_assoc, append-nil}
 use mathlib.Core.Logic.{◌⊎◌, inl, inr, ⊎_elim}
 use Prim.Native.Nat.{ℕ, suc, ◌+◌, ◌-◌, ◌≤◌, ◌<◌}
 use native.Mathlib.Omega.{arith}
-use lib.ListN.{length, take, drop, set, take-append-drop, length_append, length-drop, drop_of_length-le}
+use lib.ListN.{length, take, drop, set, take-append-drop, length-append, length-drop, drop_of_length-le}
 use lib.Seq.{take_at, drop_at, take-add, take-nil, drop-drop, drop-cons, set_at, length-take-le}
 use Rattle.score.proofs.Cuts.{lt_or_ge}
 use borrow.Rule.Slice.PartMut.{put_mid}
@@ -31,7 +31,7 @@ module _ {A : Type 0} where
       le-or-gt a b = ⊎_elim (λ l. inr l) (λ l. inl l) (lt_or_ge b a)
 
       length-take-le_of : (xs : List A) (n : ℕ) → length (take n xs) ≤ length xs
-      length-take-le_of xs n = omega (arith, length_append (take n xs) (drop n xs), ap length (take-append-drop n xs))
+      length-take-le_of xs n = omega (arith, length-append (take n xs) (drop n xs), ap length (take-append-drop n xs))
 
   -- what lies from index a on, in two parts
   pub in_parts : (a k : ℕ) (xs : List A) → drop a xs ≡ drop a (take (a + k) xs) ++ drop (a + k) xs
@@ -42,7 +42,7 @@ module _ {A : Type 0} where
     in_two = sym (append_assoc (take a xs) ys (drop b xs))
 
     front_long : length (take a xs ++ ys) ≡ b
-    front_long = length_append (take a xs) ys ∙ rw (length-take-le a xs h) e
+    front_long = length-append (take a xs) ys ∙ rw (length-take-le a xs h) e
 
     -- up to b, and from b on
     pub between-front : take b (between a b xs ys) ≡ take a xs ++ ys
@@ -56,7 +56,7 @@ module _ {A : Type 0} where
     between-before = take_at (take a xs) (ys ++ drop b xs) a (length-take-le a xs h)
 
     pub between-length : b ≤ length xs → length (between a b xs ys) ≡ length xs
-    between-length l = ap length in_two ∙ length_append (take a xs ++ ys) (drop b xs) ∙ rw (front_long, length-drop b xs) (omega arith)
+    between-length l = ap length in_two ∙ length-append (take a xs ++ ys) (drop b xs) ∙ rw (front_long, length-drop b xs) (omega arith)
 
     -- k items more
     pub between_put : (k : ℕ) (zs : List A) → put_mid b k (between a b xs ys) zs ≡ between a (b + k) xs (ys ++ zs)

@@ -3,7 +3,7 @@
 -- number. Assumes of words that they are below 2^64, as every u64 is, and of a state that it is within its limits and
 -- has values of its types, where a law says so, and nothing else.
 use mathlib.Core.Path.{◌≡◌, refl, sym, subst, ap, ◌∙◌}
-use mathlib.Core.Bool.{Bool, true, false, ◌&&◌, and_true, and-false}
+use mathlib.Core.Bool.{Bool, true, false, ◌&&◌, and-true, and-false}
 use mathlib.Core.List.{List, [], ◌∷◌}
 use Prim.Native.Nat.{ℕ, ◌+◌, ◌*◌, ◌/◌, ◌%◌, ◌<◌}
 use native.Mathlib.Omega.{arith}
@@ -164,7 +164,7 @@ module _ (ws : List ℕ) (v : State) where
 
   pub words_meet : alike ≡ true → meets ws v ≡ is_entry ws
   unfolding meets
-  words_meet e = rw e (and_true (is_entry ws))
+  words_meet e = rw e (and-true (is_entry ws))
 
   -- 02: "An entry compared but not a state is simply unequal"
   pub no_entry-meets : is_entry ws ≡ false → meets ws v ≡ false

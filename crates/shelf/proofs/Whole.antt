@@ -3,7 +3,7 @@ use mathlib.Core.Path.{◌≡◌, refl, sym, ap, ◌∙◌}
 use mathlib.Core.List.{List, [], ◌∷◌, ◌++◌, append_assoc, append-nil}
 use Prim.Native.Nat.{ℕ, zero, suc, ◌+◌, ◌*◌, ◌<◌}
 use native.Mathlib.Omega.{arith}
-use lib.ListN.{length, get_or, take, drop, length_append}
+use lib.ListN.{length, get_or, take, drop, length-append}
 use lib.Seq.{take_at, drop-append-add}
 use Rattle.score.proofs.Parted.{none_below}
 use Rattle.state.specs.declared.State.{State}
@@ -23,7 +23,7 @@ shelf_more vs v = shelf_append vs (v ∷ []) ∙ ap (λ (l : List ℕ). shelf_of
 pub shelf_length : (vs : List State) → length (shelf_of vs) ≡ length vs * entry_words
 unfolding shelf_of
 shelf_length [] = refl
-shelf_length (v ∷ vs) = rw (length_append (entry_of v) (shelf_of vs), entry_length v, shelf_length vs) (omega arith)
+shelf_length (v ∷ vs) = rw (length-append (entry_of v) (shelf_of vs), entry_length v, shelf_length vs) (omega arith)
 
 -- the words of entry i are those of state i
 pub entry_words_lem : (vs : List State) (i : ℕ) (d : State) → i < length vs → take entry_words (drop (i * entry_words) (shelf_of vs)) ≡ entry_of (get_or vs i d)

@@ -6,7 +6,7 @@ use mathlib.Core.List.{List, ◌++◌, append_assoc}
 use Prim.Native.Nat.{ℕ, zero, suc, ◌+◌, ◌-◌, ◌%◌, ◌<◌, ◌≤◌}
 use native.Mathlib.Nat.{add-zero, add-suc}
 use native.Mathlib.Omega.{arith}
-use lib.ListN.{length, take, drop, length_append}
+use lib.ListN.{length, take, drop, length-append}
 use lib.Seq.{take_at, length-take-le}
 use borrow.Rule.Slice.PartMut.{put_mid, mid_of, mid_len, same_len_mid}
 use lib.Dec.{eqb}
@@ -26,7 +26,7 @@ use Rattle.spans.proofs.Offsets.{neither}
 -- writing ys over the middle of a list gives the list up to the end of ys
 pub take_mid : {A : Type 0} (a k : ℕ) (xs ys : List A) → a ≤ length xs → length ys ≡ k → take (a + k) (put_mid a k xs ys) ≡ take a xs ++ ys
 take_mid a k xs ys h e =
-    let l : length (take a xs ++ ys) ≡ a + k = length_append (take a xs) ys ∙ omega (arith, length-take-le a xs h) in
+    let l : length (take a xs ++ ys) ≡ a + k = length-append (take a xs) ys ∙ omega (arith, length-take-le a xs h) in
     rw (← append_assoc (take a xs) ys (drop k (drop a xs))) (take_at (take a xs ++ ys) (drop k (drop a xs)) (a + k) l)
 
 -- a span of k samples has k samples

@@ -6,7 +6,7 @@ use Prim.Native.Nat.{ℕ, suc, ◌+◌, ◌≤◌}
 use native.Mathlib.Omega.{arith}
 use lib.Dec.{T, ltb, leb, eqb, le→leb}
 use borrow.Author.Tests.{ltb-true}
-use lib.ListN.{length, length_append}
+use lib.ListN.{length, length-append}
 use lib.Ieee.Fits.{and_i, and_r}
 use Rattle.voice.specs.Keys.{Pair, held_of, keys_of, pushed, others, last_of, is_sounding, fall_back_to, pressed_of, without_of, lifted_of, is_gate_right, is_keys}
 use Rattle.voice.specs.declared.keys.ActiveNote.{ActiveNote}
@@ -68,7 +68,7 @@ pub pushed-few : (ps : List Pair) (p : Pair) → length ps ≤ 16 → length (pu
 pushed-few ps p h = go (ltb (length ps) 16) refl
   where
     go : (t : Bool) → ltb (length ps) 16 ≡ t → length (cond t (ps ++ p ∷ []) ps) ≤ 16
-    go true e = omega (arith, ltb-true (length ps) 16 e, length_append ps (p ∷ []))
+    go true e = omega (arith, ltb-true (length ps) 16 e, length-append ps (p ∷ []))
     go false e = h
 
 others_ranged : (n : ℕ) (ps : List Pair) → AllRanged ps → AllRanged (others n ps)

@@ -10,14 +10,6 @@ use Rattle.floats.proofs.Floors.{from-whole, from-whole-neg, casts}
 use Rattle.floats.proofs.Tests.{no_nan, floor_nan, returns_large, returns_zero, returns_small, returns_middle, plus_zero-is, minus_one_is}
 use Rattle.floats.proofs.floor_by_bits.Goals as goal
 
--- the argument is a value of an f64
-held : (c : tie.Start) → T (fits binary64 c.args.x)
-held c = search rules
-
--- the whole part is at most 2 ^ 53, so the cast to an f64 is exact
-few : (c : tie.After-whole) → c.whole.result ≤ 2 ^ 53
-few c = omega (arith, c.whole.ensures.1)
-
 pub returns-then-x : goal.returns-then-x
 returns-then-x c = floor_nan binary64 c.args.x c.if-x.true
 
@@ -25,25 +17,25 @@ pub float_to_bits-bits : goal.float_to_bits-bits
 float_to_bits-bits c = no_nan c.args.x c.if-x.false
 
 pub returns-then-size-ge4841369599423283200 : goal.returns-then-size-ge4841369599423283200
-returns-then-size-ge4841369599423283200 c = returns_large binary64 c.args.x (held c) c.if-size-ge4841369599423283200.true
+returns-then-size-ge4841369599423283200 c = returns_large binary64 c.args.x (search rules) c.if-size-ge4841369599423283200.true
 
 pub returns-then-size-eq0 : goal.returns-then-size-eq0
-returns-then-size-eq0 c = returns_zero binary64 c.args.x (held c) c.if-size-eq0.true
+returns-then-size-eq0 c = returns_zero binary64 c.args.x (search rules) c.if-size-eq0.true
 
 pub returns-then-negative : goal.returns-then-negative
-returns-then-negative c = minus_one_is binary64 ∙ returns_small binary64 c.args.x (held c) true c.if-negative.true-raw c.if-size-eq0.false c.if-size-lt4607182418800017408.true
+returns-then-negative c = minus_one_is binary64 ∙ returns_small binary64 c.args.x (search rules) true c.if-negative.true-raw c.if-size-eq0.false c.if-size-lt4607182418800017408.true
 
 pub returns-then-size-lt4607182418800017408 : goal.returns-then-size-lt4607182418800017408
-returns-then-size-lt4607182418800017408 c = plus_zero-is binary64 ∙ returns_small binary64 c.args.x (held c) false c.if-negative.false-raw c.if-size-eq0.false c.if-size-lt4607182418800017408.true
+returns-then-size-lt4607182418800017408 c = plus_zero-is binary64 ∙ returns_small binary64 c.args.x (search rules) false c.if-negative.false-raw c.if-size-eq0.false c.if-size-lt4607182418800017408.true
 
 pub int_to_float-result : goal.int_to_float-result
-int_to_float-result c = casts binary64 c.whole-n.result (few c)
+int_to_float-result c = casts binary64 c.whole-n.result (omega (arith, c.whole-n.ensures.1))
 
 pub int_to_float-result-else-negative-2 : goal.int_to_float-result-else-negative-2
-int_to_float-result-else-negative-2 c = casts binary64 c.whole-n.result (few c)
+int_to_float-result-else-negative-2 c = casts binary64 c.whole-n.result (omega (arith, c.whole-n.ensures.1))
 
 pub returns-then-negative-2 : goal.returns-then-negative-2
-returns-then-negative-2 c = let n = c.whole-n in from-whole-neg binary64 n.result ∙ returns_middle binary64 c.args.x (held c) true n.result c.if-negative-2.true-raw c.if-size-lt4607182418800017408.false c.if-size-ge4841369599423283200.false n.ensures.0
+returns-then-negative-2 c = let n = c.whole-n in from-whole-neg binary64 n.result ∙ returns_middle binary64 c.args.x (search rules) true n.result c.if-negative-2.true-raw c.if-size-lt4607182418800017408.false c.if-size-ge4841369599423283200.false n.ensures.0
 
 pub returns-else-negative-2 : goal.returns-else-negative-2
-returns-else-negative-2 c = let n = c.whole-n in from-whole binary64 n.result ∙ returns_middle binary64 c.args.x (held c) false n.result c.if-negative-2.false-raw c.if-size-lt4607182418800017408.false c.if-size-ge4841369599423283200.false n.ensures.0
+returns-else-negative-2 c = let n = c.whole-n in from-whole binary64 n.result ∙ returns_middle binary64 c.args.x (search rules) false n.result c.if-negative-2.false-raw c.if-size-lt4607182418800017408.false c.if-size-ge4841369599423283200.false n.ensures.0
