@@ -16,16 +16,12 @@ use Rattle.high_notes.proofs.Remaking.{remainders_are, made_block}
 use Rattle.high_notes.proofs.Wraps.{rising_fractions}
 use Rattle.filling.proofs.fill_wave.Goals as goal
 
--- what owning a float tells: its format holds it
-held : (c : tie.Start) → T (fits binary64 c.args.start.0)
-held c = search rules
-
 -- the remainders of phases that rise from 0 or above are fractions of a cycle
 fractions : (step p : Float) → T (fits binary64 p) → (within zero64 far p && within zero64 sixteen step) ≡ true → (n : ℕ) (ys : List Float) → ys ≡ remainders_of step p n → AllFractions ys
 fractions step p w h n ys e = rising_fractions step p w h n _ ys refl (e ∙ sym (remainders_are step p n _ _ refl refl))
 
 pub read_pairs-requires : goal.read_pairs-requires
-read_pairs-requires c = record { wave_len = c.requires; all_fractions = fractions _ _ (held c) (rw (← c.is_within.ensures, ← c.is_within-2.ensures) c.if-is_within.true) _ _ c.fill_remainders-end.ensures.0 }
+read_pairs-requires c = record { wave_len = c.requires; all_fractions = fractions _ _ (search rules) (rw (← c.is_within.ensures, ← c.is_within-2.ensures) c.if-is_within.true) _ _ c.fill_remainders-end.ensures.0 }
 
 pub returns-then-is_within : goal.returns-then-is_within
 returns-then-is_within c = let a = c.args in made_block a.step.0 a.start.0 (whole_reading a.wave.now) a.scale _ _ _ _ c.fill_remainders-end.ensures.0 c.fill_remainders-end.ensures.1 c.read_pairs.ensures

@@ -8,13 +8,9 @@ use Rattle.high_notes.proofs.Remaking.{remainders_are}
 use Rattle.high_notes.proofs.Wraps.{rising-below}
 use Rattle.high_notes.proofs.fill_remainders.Goals as goal
 
--- what owning a float tells: its format holds it
-held : (c : tie.Start) → T (fits binary64 c.args.start.0)
-held c = search rules
-
 pub wrap_phases-requires : goal.wrap_phases-requires
 wrap_phases-requires c = λ bound finite below.
-    rising-below _ _ (held c) (sym c.is_rising.ensures ∙ c.if-is_rising.true) _ _ bound finite c.fill_phases-end.ensures.0 (rw (ap (λ (p : Radians). p.0) c.fill_phases-end.ensures.1) at below)
+    rising-below _ _ (search rules) (sym c.is_rising.ensures ∙ c.if-is_rising.true) _ _ bound finite c.fill_phases-end.ensures.0 (rw (ap (λ (p : Radians). p.0) c.fill_phases-end.ensures.1) at below)
 
 pub returns-then-is_rising : goal.returns-then-is_rising
 returns-then-is_rising c = (remainders_are _ _ _ _ _ c.fill_phases-end.ensures.0 c.wrap_phases.ensures, c.fill_phases-end.ensures.1)

@@ -9,11 +9,7 @@ use Rattle.waveform.specs.Waveform.{tau}
 use Rattle.low_notes.proofs.Segments.{guessed}
 use Rattle.low_notes.proofs.guess_from.Goals as goal
 
--- an f64 that the code holds is a value of binary64
-held : (c : tie.Start) → T (fits binary64 c.args.phase.0)
-held c = search rules
-
 pub returns : goal.returns
 returns c = λ holds.
     let (one-cycle, clear) = and_true _ _ c.is_one_cycle.ensures holds in
-    guessed (lt c.args.phase.0 tau) _ _ _ _ _ _ c.base_of-base.ensures c.fraction_of-fraction.ensures c.fraction_of-end_fraction.ensures (is_true _ one-cycle) (held c) (sym c.is_clear_of_ends.ensures ∙ clear)
+    guessed (lt c.args.phase.0 tau) _ _ _ _ _ _ c.base_of-base.ensures c.fraction_of-fraction.ensures c.fraction_of-end_fraction.ensures (is_true _ one-cycle) (search rules) (sym c.is_clear_of_ends.ensures ∙ clear)

@@ -8,10 +8,6 @@ use lib.Ieee.{binary64, fits}
 use Rattle.sine.proofs.Parts.{not-nan, below_none, field_ge, field_le, whole_is, bits-at_most}
 use Rattle.sine.proofs.whole_part_lem.Goals as goal
 
--- what owning a float tells: its format holds it
-held : (c : tie.Start) → T (fits binary64 c.args.p)
-held c = search rules
-
 pub returns-then-p : goal.returns-then-p
 returns-then-p c = (sym (below_none c.args.p c.requires c.if-p.true), lit≤ tt)
 
@@ -19,13 +15,13 @@ pub float_to_bits-bits : goal.float_to_bits-bits
 float_to_bits-bits c = not-nan c.args.p c.requires
 
 pub overflow_sub-result : goal.overflow_sub-result
-overflow_sub-result c = omega (arith, field_le c.args.p c.requires (held c) c.if-p.false)
+overflow_sub-result c = omega (arith, field_le c.args.p c.requires (search rules) c.if-p.false)
 
 pub overflow_shr-result : goal.overflow_shr-result
-overflow_shr-result c = omega (arith, field_ge c.args.p c.requires (held c) c.if-p.false)
+overflow_shr-result c = omega (arith, field_ge c.args.p c.requires (search rules) c.if-p.false)
 
 pub overflow_cast-result : goal.overflow_cast-result
-overflow_cast-result c = record { fits = lt_of_le_of_lt (bits-at_most c.args.p c.requires (held c) c.if-p.false) (lit< tt) }
+overflow_cast-result c = record { fits = lt_of_le_of_lt (bits-at_most c.args.p c.requires (search rules) c.if-p.false) (lit< tt) }
 
 pub returns : goal.returns
-returns c = (whole_is c.args.p c.requires (held c) c.if-p.false, bits-at_most c.args.p c.requires (held c) c.if-p.false)
+returns c = (whole_is c.args.p c.requires (search rules) c.if-p.false, bits-at_most c.args.p c.requires (search rules) c.if-p.false)

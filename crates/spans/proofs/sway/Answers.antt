@@ -6,11 +6,5 @@ use mathlib.Core.Path.{◌∙◌, sym}
 use Rattle.spans.proofs.Swaying.{flat_sways}
 use Rattle.spans.proofs.sway.Goals as goal
 
-depth-held : (c : tie.Start) → T (fits binary64 c.args.settings.lfo.depth)
-depth-held c = search rules
-
-phase-held : (c : tie.Start) → T (fits binary64 c.args.phase.0)
-phase-held c = search rules
-
 pub returns-then-is_flat : goal.returns-then-is_flat
-returns-then-is_flat c = flat_sways c.args.settings c.args.phase.0 _ c.increment-step.ensures _ _ (depth-held c) (phase-held c) (sym c.is_flat.ensures ∙ c.if-is_flat.true) c.advance.ensures
+returns-then-is_flat c = flat_sways c.args.settings c.args.phase.0 _ c.increment-step.ensures _ _ (search rules) (search rules) (sym c.is_flat.ensures ∙ c.if-is_flat.true) c.advance.ensures

@@ -12,11 +12,8 @@ use Rattle.waveform.proofs.Steps.{phase_more}
 use Rattle.tremolo.proofs.Unmoved.{same_bits, unmoved}
 use Rattle.tremolo.proofs.advance.Goals as goal
 
-held : (c : tie.Start invariant-loop decreases-loop) → T (fits binary64 c.args.phase.0)
-held c = search rules
-
 pub returns-then-f64_bits : goal.returns-then-f64_bits
-returns-then-f64_bits c = let a = c.args in let e = same_bits _ a.phase.0 (add-fits binary64 a.phase.0 a.step.0) (held c) (sym c.f64_bits.ensures ∙ c.if-f64_bits.true ∙ c.f64_bits-2.ensures) in
+returns-then-f64_bits c = let a = c.args in let e = same_bits _ a.phase.0 (add-fits binary64 a.phase.0 a.step.0) (search rules) (sym c.f64_bits.ensures ∙ c.if-f64_bits.true ∙ c.f64_bits-2.ensures) in
     ap radians (sym (unmoved a.step.0 a.phase.0 e a.samples))
 
 pub loop-i-init : goal.loop-i-init

@@ -10,17 +10,13 @@ use Rattle.waveform.specs.Waveform.{radians}
 use Rattle.waveform.proofs.Remainders.{below-tau, from-tau, next_cycle, remainder_is}
 use Rattle.waveform.proofs.remainder.Goals as goal
 
--- an f64 that the code holds is a value of binary64
-held : (c : tie.Start) → T (fits binary64 c.args.phase.0)
-held c = search rules
-
 -- a remainder by TAU * 2^50 is below 2^53, so it is exact as an f64
 kept : (n : ℕ) → T (in_float binary64 (pos (n % 7074237752028440)))
 unfolding in_float
 kept n = le→leb (n % 7074237752028440) 9007199254740992 (omega arith)
 
 pub returns-then-x-2 : goal.returns-then-x-2
-returns-then-x-2 c = ap radians (below-tau c.args.phase.0 c.if-x.true (held c) c.if-x-2.true)
+returns-then-x-2 c = ap radians (below-tau c.args.phase.0 c.if-x.true (search rules) c.if-x-2.true)
 
 pub returns-then-x-3 : goal.returns-then-x-3
 returns-then-x-3 c = ap radians (next_cycle c.args.phase.0 c.if-x.true c.if-x-2.false c.if-x-3.true)

@@ -13,10 +13,6 @@ use Rattle.envelope.proofs.levels.scale_fours.Goals as goal
 abbrev stays : Envelope → EnvelopeStage
 stays e = e.stage
 
--- the length of a slice fits in 64 bits
-held : (c : tie.Start invariant-loop decreases-loop) → Fits w64 (length c.args.part.now)
-held c = search rules
-
 pub loop-i-init : goal.loop-i-init
 loop-i-init c = (refl, omega arith, refl, λ e xs b. b)
 
@@ -36,14 +32,14 @@ pub scale_two-requires : goal.scale_two-requires
 scale_two-requires c = let room = c.if-part-i-lt4.false in omega (arith, room)
 
 pub overflow_add-i : goal.overflow_add-i
-overflow_add-i c = omega (arith, c.if-part-i-lt4.false, c.loop-i.invariant.0, held c)
+overflow_add-i c = omega (arith, c.if-part-i-lt4.false, c.loop-i.invariant.0, search rules)
 
 pub scale_two-requires-in-loop-i : goal.scale_two-requires-in-loop-i
 scale_two-requires-in-loop-i c = let room = c.if-part-i-lt4.false in let long = two-long _ _ _ _ _ _ c.scale_two.ensures in
     omega (arith, room, long)
 
 pub overflow_add-i-in-loop-i : goal.overflow_add-i-in-loop-i
-overflow_add-i-in-loop-i c = omega (arith, c.if-part-i-lt4.false, c.loop-i.invariant.0, held c)
+overflow_add-i-in-loop-i c = omega (arith, c.if-part-i-lt4.false, c.loop-i.invariant.0, search rules)
 
 pub loop-i-smaller : goal.loop-i-smaller
 loop-i-smaller c = omega (arith, c.if-part-i-lt4.false, c.loop-i.invariant.0)
