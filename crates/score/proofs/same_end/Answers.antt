@@ -5,7 +5,7 @@ use native.Mathlib.Nat.{sub-zero}
 use native.Mathlib.Omega.{arith}
 use Rattle.runs.proofs.First.{passing_on, passing_stop, passing_end}
 use Rattle.score.proofs.Turns.{back_record}
-use Rattle.score.proofs.same_end_lem.Goals as goal
+use Rattle.score.proofs.same_end.Goals as goal
 
 pub loop-k-init : goal.loop-k-init
 loop-k-init c = (omega arith, rw (sub-zero, c.fewer-most.ensures, c.count-m.ensures, c.count-n.ensures) refl)

@@ -6,7 +6,7 @@ use native.Mathlib.Omega.{arith}
 use lib.Dec.{T, lit<, lit≤}
 use lib.Ieee.{binary64, fits}
 use Rattle.sine.proofs.Parts.{not-nan, below_none, field_ge, field_le, whole_is, bits-at_most}
-use Rattle.sine.proofs.whole_part_lem.Goals as goal
+use Rattle.sine.proofs.whole_part.Goals as goal
 
 pub returns-then-p : goal.returns-then-p
 returns-then-p c = (sym (below_none c.args.p c.requires c.if-p.true), lit≤ tt)
