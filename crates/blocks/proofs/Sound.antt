@@ -101,7 +101,7 @@ module _ (t : Tone) (top : Float) (rate : ℕ) (w : T (fits binary64 t.phase.0))
   after_in_lem n =
       let near = phase-near step t.phase.0 step-nonneg step-le start_near n in
       let q = phase_from step t.phase.0 n in
-      (reduce-nonneg q near.p-fits near.p-nonneg, reduce-below q near.p-fits near.p-nonneg)
+      (reduce-nonneg q near.p_fits near.p_nonneg, reduce-below q near.p_fits near.p_nonneg)
 
 -- ---- a run that is done
 pub record Sound (xs : List Float) (p : Radians) : Type 0 where

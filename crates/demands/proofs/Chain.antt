@@ -90,16 +90,16 @@ record PassedChain (g : Settings) (l : List ℕ) (n : ℕ) : Type 0 where
 chain-passed : (g : Settings) (x : Step) (xs : List Step) (v : State) (p : ℕ) → AllDone g v p (x ∷ xs) → PassedChain g (last_of x.score xs) (p + samples_of (x ∷ xs))
 chain-passed g x [] v p d =
     let q = call-passed g x.score v p x.part (length x.part) (first_done g v p x [] d) in
-    let l : p + length x.part ≤ most_samples = q.in-time in
+    let l : p + length x.part ≤ most_samples = q.in_time in
     record { settings = q.settings; in_time = omega arith; accepted = q.accepted }
 chain-passed g x (y ∷ ys) v p d =
     let q = chain-passed g y ys (after g v p x (y ∷ ys)) (onward g v p x (y ∷ ys)) (rest_done g v p x (y ∷ ys) d) in
-    let l : p + length x.part + samples_of (y ∷ ys) ≤ most_samples = q.in-time in
+    let l : p + length x.part + samples_of (y ∷ ys) ≤ most_samples = q.in_time in
     record { settings = q.settings; in_time = omega arith; accepted = q.accepted }
 
 -- so together the parts are not too long
 pub chain-short : (g : Settings) (x : Step) (xs : List Step) → AllDone g (fresh_of 0) 0 (x ∷ xs) → samples_of (x ∷ xs) ≤ most_samples
-chain-short g x xs d = rw zero-add at (chain-passed g x xs (fresh_of 0) 0 d).in-time
+chain-short g x xs d = rw zero-add at (chain-passed g x xs (fresh_of 0) 0 d).in_time
 
 -- a render into an output of that length, with a shelf and a summary that fit, is done
 render-is : (g : Settings) (s : List ℕ) (n : ℕ) → PassedChain g s n → (b : Buffers) → Lent b → samples_in b ≡ n → render_of g s b ≡ made_of g s n

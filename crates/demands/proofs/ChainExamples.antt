@@ -96,7 +96,7 @@ all_100 : AllAccepted (played 100)
 all_100 = ((1, begins-accepted), ((2, accepted_100), tt))
 
 done_100 : AllDone trembling (fresh_of 0) 0 (played 100)
-done_100 = (chain-done trembling trembling_ok sustain_fits (played 100) all_100 (grows 100) (omega arith)).done-if none_100
+done_100 = (chain-done trembling trembling_ok sustain_fits (played 100) all_100 (grows 100) (omega arith)).done_if none_100
 
 pub on_time : OnTime
 on_time =
@@ -129,7 +129,7 @@ reached = state_from trembling begins 0 (fresh_of 0) 100
 
 first-call : (continue_of trembling begins (fresh_of 0) 0 (replicate 100 half)).result.answer ≡ Done 100
 first-call =
-    let d = (chain-done trembling trembling_ok sustain_fits (first ∷ []) ((1, begins-accepted), tt) (record { added = begins; grown = refl }, tt) (omega arith)).done-if ((λ i a b. omega arith), tt) in
+    let d = (chain-done trembling trembling_ok sustain_fits (first ∷ []) ((1, begins-accepted), tt) (record { added = begins; grown = refl }, tt) (omega arith)).done_if ((λ i a b. omega arith), tt) in
     first_done trembling (fresh_of 0) 0 first [] d
 
 second_call : continue_of trembling (begins ++ ends_at 50) reached 100 (replicate 28 half) ≡ kept_part reached (replicate 28 half) GivenState

@@ -50,7 +50,7 @@ use Rattle.rerender.proofs.Cases.{plan_equal, plan_late, plan_from, checks, chec
 
 -- nothing is refused before the plan is made
 pub checked : (g : Settings) (old new : List ℕ) → Edit g old new → (b : Buffers) → Lent b → checks g old new (room_in b) ≡ []
-checked g old new x b z = rw (none-refused g (room_in b) old x.old-taken.records x.settings (room_in_lem b z) x.old-taken.accepted, none_newly new x.new-taken.records x.new-taken.accepted) refl
+checked g old new x b z = rw (none-refused g (room_in b) old x.old_taken.records x.settings (room_in_lem b z) x.old_taken.accepted, none_newly new x.new-taken.records x.new-taken.accepted) refl
 
 -- demand 3, its last sentence: where the scores are equal or the first change lies at or past the end, nothing is
 -- written and the count is 0, whatever the buffers hold
@@ -60,7 +60,7 @@ module _ (g : Settings) (old new : List ℕ) (x : Edit g old new) (b : Buffers) 
 
   pub nothing_equal : old ≡ new → rerender_of g old new b ≡ leaves (Done 0) b
   nothing_equal e =
-      demand_3_nothing (sym (plan_equal old new (samples_in b) ((equal_exactly old new x.old-taken.records x.new-taken.records x.old-taken.accepted x.new-taken.accepted).no_difference e)))
+      demand_3_nothing (sym (plan_equal old new (samples_in b) ((equal_exactly old new x.old_taken.records x.new-taken.records x.old_taken.accepted x.new-taken.accepted).no_difference e)))
 
   pub nothing_late : (p : ℕ) → difference_of old new ≡ At p → samples_in b ≤ p → rerender_of g old new b ≡ leaves (Done 0) b
   nothing_late p e h = demand_3_nothing (sym (plan_late old new (samples_in b) p e h))
@@ -79,7 +79,7 @@ module _ (g : Settings) (old new : List ℕ) (x : Edit g old new) (p : ℕ) (dif
   starts-before = omega arith
 
   shared : Shared old new (m * section_size) (count_below old (m * section_size))
-  shared = differing_shared old new x.old-taken.records x.new-taken.records p (m * section_size) x.old-taken.accepted x.new-taken.accepted differs starts-before
+  shared = differing_shared old new x.old_taken.records x.new-taken.records p (m * section_size) x.old_taken.accepted x.new-taken.accepted differs starts-before
 
   -- so both scores give one state before the first sample of section m
   pub same_section : at_section g old m ≡ at_section g new m
@@ -99,7 +99,7 @@ module _ (g : Settings) (old new : List ℕ) (x : Edit g old new) (p : ℕ) (dif
     module _ (honestly : entry_at shelf m ≡ entry_of (at_section g old m)) where
       decoded : decoded_of (entry_at shelf m) ≡ record { valid = true; state = at_section g new m }
       decoded =
-          ap decoded_of honestly ∙ honest g x.settings x.sustain-fits old x.old-taken.records x.old-taken.accepted (m * section_size)
+          ap decoded_of honestly ∙ honest g x.settings x.sustain_fits old x.old_taken.records x.old_taken.accepted (m * section_size)
           ∙ ap (λ (v : State). record { valid = true; state = v }) same_section
 
       start_is : start_of shelf m ≡ at_section g new m
@@ -273,7 +273,7 @@ module _ (g : Settings) (old new : List ℕ) (x : Edit g old new) (p : ℕ) (dif
 
       pub entries_remade : EntriesRemade g old new m b (rerender_of g old new b)
       entries_remade =
-          let is-old = left_is g x.settings old x.old-taken n in
+          let is-old = left_is g x.settings old x.old_taken n in
           let is-new = left_is g x.settings new x.new-taken n in
           record {
             stop_section = k honestly;
@@ -314,19 +314,19 @@ module _ (g : Settings) (old new : List ℕ) (x : Edit g old new) (p : ℕ) (dif
 -- ---- the claim
 all_remade : (g : Settings) (old new : List ℕ) (x : Edit g old new) (b : Buffers) (z : Lent b) (p : ℕ) (e : difference_of old new ≡ At p) (heard : p < samples_in b)
     (r : BuffersOf (samples_in b)) → onward (p / section_size) b ≡ onward (p / section_size) (left_in g old r).left → Remade g old new (p / section_size) b (rerender_of g old new b)
-all_remade g old new x b z p e heard r same = remade g old new x p e b z heard (same ∙ ap (onward (p / section_size)) (left_is g x.settings old x.old-taken (samples_in b) r))
+all_remade g old new x b z p e heard r same = remade g old new x p e b z heard (same ∙ ap (onward (p / section_size)) (left_is g x.settings old x.old_taken (samples_in b) r))
 
 entries_alone : (g : Settings) (old new : List ℕ) (x : Edit g old new) (b : Buffers) (z : Lent b) (p : ℕ) (e : difference_of old new ≡ At p) (heard : p < samples_in b)
     (r : BuffersOf (samples_in b)) → (onward (p / section_size) b).stored ≡ (onward (p / section_size) (left_in g old r).left).stored → EntriesRemade g old new (p / section_size) b (rerender_of g old new b)
 entries_alone g old new x b z p e heard r same =
-    entries_remade g old new x p e b z heard (same ∙ ap (λ (c : Buffers). (onward (p / section_size) c).stored) (left_is g x.settings old x.old-taken (samples_in b) r))
+    entries_remade g old new x p e b z heard (same ∙ ap (λ (c : Buffers). (onward (p / section_size) c).stored) (left_is g x.settings old x.old_taken (samples_in b) r))
 
 -- an entry that a render of the old score left is the state there
 start_honest : (g : Settings) (old new : List ℕ) (x : Edit g old new) (b : Buffers) (p : ℕ) (heard : p < samples_in b) (r : BuffersOf (samples_in b))
     → entry_at b.stored (p / section_size) ≡ entry_at (left_in g old r).left.stored (p / section_size) → entry_at b.stored (p / section_size) ≡ entry_of (at_section g old (p / section_size))
 start_honest g old new x b p heard r same =
     let m = p / section_size in
-    same ∙ ap (λ (c : Buffers). entry_at c.stored m) (left_is g x.settings old x.old-taken (samples_in b) r) ∙ entry-left g old (samples_in b) m (start_there (samples_in b) p heard)
+    same ∙ ap (λ (c : Buffers). entry_at c.stored m) (left_is g x.settings old x.old_taken (samples_in b) r) ∙ entry-left g old (samples_in b) m (start_there (samples_in b) p heard)
 
 start_alone : (g : Settings) (old new : List ℕ) (x : Edit g old new) (b : Buffers) (z : Lent b) (p : ℕ) (e : difference_of old new ≡ At p) (heard : p < samples_in b)
     (r : BuffersOf (samples_in b)) → entry_at b.stored (p / section_size) ≡ entry_at (left_in g old r).left.stored (p / section_size) → StartRemade g old new (p / section_size) b (rerender_of g old new b)
@@ -344,16 +344,16 @@ never_8_after : (g : Settings) (old new next : List ℕ) (x : Edit g old new) �
 never_8_after g old new next x t b z p e heard r same q f early l =
     let m = p / section_size in
     let n = samples_in b in
-    let words : drop (m * entry_words) b.stored ≡ drop (m * entry_words) (shelved_of g old n) = same ∙ ap (λ (c : Buffers). (onward m c).stored) (left_is g x.settings old x.old-taken n r) in
+    let words : drop (m * entry_words) b.stored ≡ drop (m * entry_words) (shelved_of g old n) = same ∙ ap (λ (c : Buffers). (onward m c).stored) (left_is g x.settings old x.old_taken n r) in
     let begins = honestly g old new x p e b z heard words in
     let is = call-is g old new x p e b z heard begins in
     let c = left g old new x p e b z heard begins in
     let long : samples_in c ≡ n = left-long g old new m b (start_there n p heard) (room_in_lem b z) in
-    let y : Edit g new next = record { settings = x.settings; sustain_fits = x.sustain-fits; old_taken = x.new-taken; new-taken = t } in
+    let y : Edit g new next = record { settings = x.settings; sustain_fits = x.sustain_fits; old_taken = x.new-taken; new-taken = t } in
     let stored : drop (q / section_size * entry_words) c.stored ≡ drop (q / section_size * entry_words) (shelved_of g new (samples_in c)) =
     later_drop (m * entry_words) (q / section_size * entry_words) c.stored (shelved_of g new n) (omega (arith, l)) (stored_is g old new x p e b z heard words)
     ∙ ap (λ (i : ℕ). drop (q / section_size * entry_words) (shelved_of g new i)) (sym long) in
-    rw is (entries_remade g new next y q f c (left-lent g old new x p e b z heard begins) (omega (arith, long, early)) stored).to-the-stop.never-8
+    rw is (entries_remade g new next y q f c (left-lent g old new x p e b z heard begins) (omega (arith, long, early)) stored).to_the_stop.never_8
 
 pub demand_3_holds : Demand3
 demand_3_holds =

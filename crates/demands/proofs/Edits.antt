@@ -65,7 +65,7 @@ module _ (g : Settings) (old new : List ℕ) (x : Edit g old new) (n : ℕ) (sho
       rw (checks_pass g old new b (checked g old new x b lent), ← q) (record { counted = rw (← ap (plan_of old new) long, ← q) refl; holds = record { sized = h.sized; holds = h.holds ∙ ap (onward k) same }; stays = refl })
 
   shared_to : (p q : ℕ) → difference_of old new ≡ At p → q ≤ p → Shared old new q (count_below old q)
-  shared_to p q e l = differing_shared old new x.old-taken.records x.new-taken.records p q x.old-taken.accepted x.new-taken.accepted e l
+  shared_to p q e l = differing_shared old new x.old_taken.records x.new-taken.records p q x.old_taken.accepted x.new-taken.accepted e l
 
   late : (p : ℕ) → difference_of old new ≡ At p → n ≤ p → OneEdit call
   late p e l =
@@ -103,7 +103,7 @@ module _ (g : Settings) (old new : List ℕ) (x : Edit g old new) (n : ℕ) (sho
     where
       go : (d : Difference) → difference_of old new ≡ d → OneEdit call
       go Equal e =
-          let same : old ≡ new = (equal_exactly old new x.old-taken.records x.new-taken.records x.old-taken.accepted x.new-taken.accepted).no_other e in
+          let same : old ≡ new = (equal_exactly old new x.old_taken.records x.new-taken.records x.old_taken.accepted x.new-taken.accepted).no_other e in
           unchanged (plan_equal old new (samples_in b) e) (ap (λ (s : List ℕ). sound_of g s n) same) (ap (λ (s : List ℕ). shelved_of g s n) same)
       go (At p) e = ⊎_elim (λ l. early p e l) (λ l. late p e l) (lt_or_ge p n)
 
@@ -137,9 +137,9 @@ module _ (g : Settings) (ok : settings_ok g ≡ true) (w : T (fits binary64 g.ad
 edited : (g : Settings) (old : List ℕ) (news : List (List ℕ)) (k : ℕ) (b : Buffers) → Editing g old news k b → Edited g old news k b (edits_from g old news b)
 edited g old news k b e =
     let n = samples_in b in
-    let h : Holds g old n k b = record { sized = lent-sized b e.lent; holds = e.honest.were-left ∙ ap (onward k) (left_is g e.settings old e.old-taken n e.honest.buffers) } in
-    let m = all_edits g e.settings e.sustain-fits n e.lent.short k old news e.old-taken e.news-taken e.none_before b h in
-    record { answered = m.answered; left = from_section g e.settings (last_score old news) (last_taken old news e.old-taken e.news-taken) k b (edits_from g old news b).left m.holds.holds m.stays }
+    let h : Holds g old n k b = record { sized = lent-sized b e.lent; holds = e.honest.were_left ∙ ap (onward k) (left_is g e.settings old e.old_taken n e.honest.buffers) } in
+    let m = all_edits g e.settings e.sustain_fits n e.lent.short k old news e.old_taken e.news_taken e.none_before b h in
+    record { answered = m.answered; left = from_section g e.settings (last_score old news) (last_taken old news e.old_taken e.news_taken) k b (edits_from g old news b).left m.holds.holds m.stays }
 
 -- no edit lies before section 0
 none_before_0 : (n : ℕ) (old : List ℕ) (news : List (List ℕ)) → NoneBefore 0 n old news
@@ -165,14 +165,14 @@ counts g old new x n short m planned =
     let lent : Lent b = sized-lent n b short (whole-sized g old n) in
     let r : BuffersOf (samples_in b) = record { buffers = b; lent = lent; long = refl } in
     let p = plan_says old new n m planned in
-    let same : (left_in g old r).left ≡ b = left_is g x.settings old x.old-taken (samples_in b) r ∙ ap (whole_of g old) long in
-    let made : Remade g old new m b (rerender_of g old new b) = rw (← p.section-is) at (demand_3_holds.re-rendered g old new x b lent p.change p.differs (omega (arith, long, p.heard)) r (ap (onward (p.change / section_size)) (sym same))) in
+    let same : (left_in g old r).left ≡ b = left_is g x.settings old x.old_taken (samples_in b) r ∙ ap (whole_of g old) long in
+    let made : Remade g old new m b (rerender_of g old new b) = rw (← p.section_is) at (demand_3_holds.re_rendered g old new x b lent p.change p.differs (omega (arith, long, p.heard)) r (ap (onward (p.change / section_size)) (sym same))) in
     let one = one_edit_lem g old new x n short 0 (λ q e l. omega arith) b (record { sized = whole-sized g old n; holds = refl }) in
-    let count : Done (count_for g old new (From m) b) ≡ Done (min (made.stop-section * section_size) (samples_in b) - m * section_size) = sym (rw planned at one.counted) ∙ made.to-the-stop.counted in
+    let count : Done (count_for g old new (From m) b) ≡ Done (min (made.stop_section * section_size) (samples_in b) - m * section_size) = sym (rw planned at one.counted) ∙ made.to_the_stop.counted in
     record {
-      stop_section = made.stop-section;
-      stops = subst (λ (i : ℕ). StopsAt g old new m i made.stop-section) long made.stops;
-      count-is = done_inj count ∙ ap (λ (i : ℕ). min (made.stop-section * section_size) i - m * section_size) long;
+      stop_section = made.stop_section;
+      stops = subst (λ (i : ℕ). StopsAt g old new m i made.stop_section) long made.stops;
+      count-is = done_inj count ∙ ap (λ (i : ℕ). min (made.stop_section * section_size) i - m * section_size) long;
     }
   where
     done_inj : {i j : ℕ} → Done i ≡ Done j → i ≡ j

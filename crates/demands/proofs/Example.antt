@@ -113,7 +113,7 @@ heard-from : (p q : ℕ) → At p ≡ At q → p ≡ 5000 → 1 * 4096 ≤ q
 heard-from p q e f = omega (arith, at_inj e)
 
 note-taken : Taken begins
-note-taken = an_edit.old-taken
+note-taken = an_edit.old_taken
 
 pub over_rubbish : Editing trembling begins (edited ∷ begins ∷ []) 1 spoilt
 over_rubbish =
@@ -122,7 +122,7 @@ over_rubbish =
     let r : BuffersOf n = some n (sym e) in
     record {
       settings = trembling_ok;
-      sustain_fits = an_edit.sustain-fits;
+      sustain_fits = an_edit.sustain_fits;
       old_taken = note-taken;
       news_taken = (an_edit.new-taken, (note-taken, tt));
       lent = sized-lent 6000 spoilt (omega arith) spoilt_sized;
@@ -137,7 +137,7 @@ over_rubbish =
 
 -- both calls are done; from section 1 on the buffers are those of the note alone again, and rubbish before section 1
 pub edits_over_rubbish : Edited trembling begins (edited ∷ begins ∷ []) 1 spoilt (edits_from trembling begins (edited ∷ begins ∷ []) spoilt)
-edits_over_rubbish = any_edits.over-rubbish trembling begins (edited ∷ begins ∷ []) 1 spoilt over_rubbish
+edits_over_rubbish = any_edits.over_rubbish trembling begins (edited ∷ begins ∷ []) 1 spoilt over_rubbish
 
 -- ---- an edit that stops: an off at 0, which finds no key held
 abbrev pub stray : List ℕ
@@ -156,7 +156,7 @@ unfolding position_at same_to first_passing
 stray_differs = refl
 
 stray-edit : Edit trembling [] stray
-stray-edit = record { settings = trembling_ok; sustain_fits = an_edit.sustain-fits; old_taken = record { records = 0; accepted = empty_accepted }; new-taken = record { records = 1; accepted = stray-accepted } }
+stray-edit = record { settings = trembling_ok; sustain_fits = an_edit.sustain_fits; old_taken = record { records = 0; accepted = empty_accepted }; new-taken = record { records = 1; accepted = stray-accepted } }
 
 -- neither score has a record from 1 on
 none_from : (q : ℕ) → 1 ≤ q → records_from [] q ≡ records_from stray q
@@ -192,10 +192,10 @@ below-entry_1 = refl
 pub an_edit_that_stops : (b : Buffers) → Lent b → samples_in b ≡ 8192 → (r : BuffersOf (samples_in b)) → onward 0 b ≡ onward 0 (left_in trembling [] r).left
     → ((rerender_of trembling [] stray b).result ≡ Done 4096) × (word (entry_at (rerender_of trembling [] stray b).left.stored 1) 5 / 65536 ≡ 1) × FromSection b (left_in trembling stray) 0 (rerender_of trembling [] stray b).left
 an_edit_that_stops b z e r same =
-    let made = demand_3_holds.re-rendered trembling [] stray stray-edit b z 0 stray_differs (omega (arith, e)) r same in
-    let one : made.stop-section ≡ 1 = one_stop trembling [] stray 0 (samples_in b) made.stop-section 1 made.stops (stops_at_1 (samples_in b) e) in
-    let to = made.to-the-stop in
-    let count : min (made.stop-section * 4096) (samples_in b) - 0 * 4096 ≡ 4096 = omega (arith, one, e) in
+    let made = demand_3_holds.re_rendered trembling [] stray stray-edit b z 0 stray_differs (omega (arith, e)) r same in
+    let one : made.stop_section ≡ 1 = one_stop trembling [] stray 0 (samples_in b) made.stop_section 1 made.stops (stops_at_1 (samples_in b) e) in
+    let to = made.to_the_stop in
+    let count : min (made.stop_section * 4096) (samples_in b) - 0 * 4096 ≡ 4096 = omega (arith, one, e) in
     (to.counted ∙ ap Done count, to.recounted.numbers 1 (omega (arith, one)) (omega (arith, e)) ∙ below-entry_1, made.left)
 
 -- such buffers are there: those that the render leaves
@@ -205,5 +205,5 @@ a_stop =
     let long : samples_in b ≡ 8192 = sound_length trembling [] 8192 in
     let lent : Lent b = sized-lent 8192 b (omega arith) (whole-sized trembling [] 8192) in
     let r : BuffersOf (samples_in b) = record { buffers = b; lent = lent; long = refl } in
-    let same : (left_in trembling [] r).left ≡ b = left_is trembling trembling_ok [] stray-edit.old-taken (samples_in b) r ∙ ap (whole_of trembling []) long in
+    let same : (left_in trembling [] r).left ≡ b = left_is trembling trembling_ok [] stray-edit.old_taken (samples_in b) r ∙ ap (whole_of trembling []) long in
     (an_edit_that_stops b lent long r (ap (onward 0) (sym same))).0

@@ -53,8 +53,8 @@ fresh_fitting acted =
 pub fitting_kept : (g : Settings) (s : List ℕ) (n : ℕ) (v : State) → T (fits binary64 g.adsr.sustain) → Fitting v → (k : ℕ) → Fitting (state_from g s n v k)
 fitting_kept g s n v w f k =
     let x = state-fits g s n v w (record { phase-fits = f.phase-fits; frequency-fits = f.frequency-fits; velocity-fits = f.velocity-fits; envelope-held = f.envelope-fits; lfo-fits = f.lfo-fits }) k in
-    let y = state-sixteen g s n v (record { notes_long = f.notes-long; velocities_long = f.velocities-long }) k in
-    record { phase-fits = x.phase-fits; envelope-fits = x.envelope-held; frequency-fits = x.frequency-fits; velocity-fits = x.velocity-fits; notes_long = y.notes-long; velocities_long = y.velocities-long; lfo-fits = x.lfo-fits }
+    let y = state-sixteen g s n v (record { notes_long = f.notes_long; velocities_long = f.velocities_long }) k in
+    record { phase-fits = x.phase-fits; envelope-fits = x.envelope-held; frequency-fits = x.frequency-fits; velocity-fits = x.velocity-fits; notes_long = y.notes_long; velocities_long = y.velocities_long; lfo-fits = x.lfo-fits }
 
 -- the words ws are those of the state v and are read as v, with as many records acted as s has below n
 pub record HonestEntry (s : List ℕ) (n : ℕ) (v : State) (ws : List ℕ) : Type 0 where

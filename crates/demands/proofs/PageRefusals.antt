@@ -60,7 +60,7 @@ module _ (es : List ℕ) (i : ℕ) where
 
   framed-right : Framed es i → frame_right es i ≡ true
   unfolding frame_right
-  framed-right f = rw (eq-eqb (edit_byte es i 0) 0x45 f.mark-one, eq-eqb (edit_byte es i 1) 0x44 f.mark-two, known f.code, eq-eqb (edit_byte es i 3) 0 f.filler) refl
+  framed-right f = rw (eq-eqb (edit_byte es i 0) 0x45 f.mark_one, eq-eqb (edit_byte es i 1) 0x44 f.mark_two, known f.code, eq-eqb (edit_byte es i 3) 0 f.filler) refl
     where
       known : (edit_byte es i 2 ≡ 1) ⊎ (edit_byte es i 2 ≡ 2) → coded ≡ true
       known c = ⊎_elim (λ e. rw (eq-eqb (edit_byte es i 2) 1 e) refl) (λ e. or_right (eqb (edit_byte es i 2) 1) (eqb (edit_byte es i 2) 2) (eq-eqb _ _ e)) c
@@ -81,7 +81,7 @@ module _ (es space : List ℕ) where
   fits-sized e = let a = both (eqb (length es % 14) 0) (eqb (length space) 40960) e in record { whole_edits = eqb-true _ _ a.0; bytes = eqb-true _ _ a.1 }
 
   sized-fits : PageSized es space → page_fits es space ≡ true
-  sized-fits s = rw (eq-eqb (length es % 14) 0 s.whole-edits, eq-eqb (length space) 40960 s.bytes) refl
+  sized-fits s = rw (eq-eqb (length es % 14) 0 s.whole_edits, eq-eqb (length space) 40960 s.bytes) refl
 
   not-sized : (PageSized es space → ⊥) → page_fits es space ≡ false
   not-sized h = fails (page_fits es space) (λ e. h (fits-sized e))

@@ -126,7 +126,7 @@ module _ (g : Settings) (ok : settings_ok g ≡ true) (w : T (fits binary64 g.ad
       let new = new_score_of old es in
       let b = whole_of g old n in
       let lent : Lent b = sized-lent n b short (whole-sized g old n) in
-      let first : first_refusals g old es b space ≡ [] = rw (none-refused g (room_in b) old a.records ok (room_in_lem b lent) a.accepted, eq-eqb (length es % 14) 0 page.whole-edits, eq-eqb (length space) 40960 room) refl in
+      let first : first_refusals g old es b space ≡ [] = rw (none-refused g (room_in b) old a.records ok (room_in_lem b lent) a.accepted, eq-eqb (length es % 14) 0 page.whole_edits, eq-eqb (length space) 40960 room) refl in
       let x : demand3.Edit g old new = record { settings = ok; sustain_fits = w; old_taken = a; new-taken = new-taken old es a page.all_made } in
       let one = one_edit_lem g old new x n short 0 (λ p e l. omega arith) b (record { sized = whole-sized g old n; holds = refl }) in
       page_done g old es b space first page.all_made (count_for g old new (plan_of old new n) b) one.counted
@@ -281,18 +281,18 @@ module _ (g : Settings) (old : List ℕ) (x : Begins g old) (n : ℕ) (r : Buffe
   b = (left_in g old r).left
 
   came : b ≡ whole_of g old n
-  came = left_is g x.settings old x.old-taken n r
+  came = left_is g x.settings old x.old_taken n r
 
   short : n ≤ most_samples
   short = omega (arith, r.lent.short, r.long)
 
   pages_left : (pages : List (List ℕ)) (space : List ℕ) → AllWhole old pages → length space ≡ 40960 → PageByPage g old pages n (pages_from g old pages b space)
   pages_left pages space c room =
-      let m = all_pages g x.settings x.sustain-fits n short old pages space x.old-taken c room in
+      let m = all_pages g x.settings x.sustain_fits n short old pages space x.old_taken c room in
       subst (λ (d : Buffers). PageByPage g old pages n (pages_from g old pages d space)) (sym came)
       (record {
         answered = m.answered;
-        are_rendered = λ q. m.holds ∙ sym (left_is g x.settings (score_over old pages) (over-taken old pages x.old-taken c) n q);
+        are_rendered = λ q. m.holds ∙ sym (left_is g x.settings (score_over old pages) (over-taken old pages x.old_taken c) n q);
         front-is = λ l. m.front (inl l);
       })
 
@@ -304,13 +304,13 @@ module _ (g : Settings) (old : List ℕ) (x : Begins g old) (n : ℕ) (r : Buffe
     call = edit_of g old es b space
 
     left_page : call ≡ rewrites (once_paged g old edited n) (whole_of g edited n) (edited ++ drop (length edited) space)
-    left_page = ap (λ (d : Buffers). edit_of g old es d space) came ∙ one_page g x.settings x.sustain-fits n short old es space x.old-taken page room
+    left_page = ap (λ (d : Buffers). edit_of g old es d space) came ∙ one_page g x.settings x.sustain_fits n short old es space x.old_taken page room
 
     at_once : AtOnce g old es n space call
     at_once =
         record {
           answered = ap (λ (o : Rewritten Paged). o.result) left_page;
-          are_rendered = λ q. ap (λ (o : Rewritten Paged). o.left) left_page ∙ sym (left_is g x.settings edited (new-taken old es x.old-taken page.all_made) n q);
+          are_rendered = λ q. ap (λ (o : Rewritten Paged). o.left) left_page ∙ sym (left_is g x.settings edited (new-taken old es x.old_taken page.all_made) n q);
           score-is = ap (λ (o : Rewritten Paged). o.space) left_page;
         }
 
@@ -320,15 +320,15 @@ module _ (g : Settings) (old : List ℕ) (x : Begins g old) (n : ℕ) (r : Buffe
 
     -- a chain that leaves a render of its last score, which is the page's
     as_left : (s : List ℕ) → s ≡ edited → (left_in g s r).left ≡ call.left
-    as_left s e = ap (λ (t : List ℕ). (left_in g t r).left) e ∙ sym (at_once.are-rendered r)
+    as_left s e = ap (λ (t : List ℕ). (left_in g t r).left) e ∙ sym (at_once.are_rendered r)
 
     one-at_a_time : OneAtATime g old es n (edits_from g old (scores_of old es) b) call
     unfolding score_after
     one-at_a_time =
         let news = scores_of old es in
-        let all = any_edits.from-a-render g x.settings x.sustain-fits old news x.old-taken (scores_taken old es page.all_made x.old-taken (edits_in es) 0 (omega arith)) n r in
+        let all = any_edits.from_a_render g x.settings x.sustain_fits old news x.old_taken (scores_taken old es page.all_made x.old_taken (edits_in es) 0 (omega arith)) n r in
         let last : last_score old news ≡ edited = scores_last old es (edits_in es) 0 ∙ all_of_them in
-        record { all_done = all.answered; last-is = last; same_left = all.are-rendered r ∙ as_left (last_score old news) last }
+        record { all_done = all.answered; last-is = last; same_left = all.are_rendered r ∙ as_left (last_score old news) last }
 
     pages_of_one : PagesOfOne g old es n (pages_from g old (singles_of es) b space) call
     unfolding score_after
@@ -340,7 +340,7 @@ module _ (g : Settings) (old : List ℕ) (x : Begins g old) (n : ℕ) (r : Buffe
         record {
           by_page = by;
           last-is = last;
-          same_left = by.are-rendered r ∙ as_left (score_over old pages) last;
+          same_left = by.are_rendered r ∙ as_left (score_over old pages) last;
           same-score = λ l.
               ap (λ (s : List ℕ). take (length s) chain.space) (sym last) ∙ by.front-is (omega (arith, l, singles_many es (edits_in es) 0)) ∙ last
               ∙ sym (ap (take (length edited)) at_once.score-is ∙ front-new edited space);

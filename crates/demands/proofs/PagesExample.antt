@@ -88,7 +88,7 @@ swap-whole = record { whole_edits = refl; all_made = swap-made }
 
 -- ---- where it stops
 swap-edit : Edit trembling two swapped
-swap-edit = record { settings = trembling_ok; sustain_fits = swap_begins.sustain-fits; old_taken = swap_begins.old-taken; new-taken = record { records = 2; accepted = swapped_accepted } }
+swap-edit = record { settings = trembling_ok; sustain_fits = swap_begins.sustain_fits; old_taken = swap_begins.old_taken; new-taken = record { records = 2; accepted = swapped_accepted } }
 
 swap_differs : difference_of two swapped ≡ At 0
 unfolding position_at same_to first_passing
@@ -123,8 +123,8 @@ pub swap_once : once_paged trembling two swapped 8192 ≡ paged (Done 4096) 20
 swap_once =
     let planned : plan_of two swapped 8192 ≡ From 0 = sym (plan_from two swapped 8192 0 swap_differs (omega arith)) in
     let c = any_edits.counts trembling two swapped swap-edit 8192 (omega arith) 0 planned in
-    let one : c.stop-section ≡ 1 = one_stop trembling two swapped 0 8192 c.stop-section 1 c.stops stops_at_1 in
-    let count : min (c.stop-section * 4096) 8192 - 0 * 4096 ≡ 4096 = omega (arith, one) in
+    let one : c.stop_section ≡ 1 = one_stop trembling two swapped 0 8192 c.stop_section 1 c.stops stops_at_1 in
+    let count : min (c.stop_section * 4096) 8192 - 0 * 4096 ≡ 4096 = omega (arith, one) in
     ap (λ (p : Plan). paged (Done (count_for trembling two swapped p (whole_of trembling two 8192))) 20) planned ∙ ap (λ (k : ℕ). paged (Done k) 20) (c.count-is ∙ count)
 
 -- ---- the calls
@@ -153,7 +153,7 @@ a_page = (
 
 -- what the page leaves is what its two edits leave one at a time, as re-renders and as pages
 pub two_rerenders : OneAtATime trembling two swap 8192 (edits_from trembling two (scores_of two swap) (left_in trembling two lent_ones).left) swap_call
-two_rerenders = pages_of_edits.one-at-a-time trembling two swap paper swap_begins swap-whole paper-long 8192 lent_ones
+two_rerenders = pages_of_edits.one-at_a_time trembling two swap paper swap_begins swap-whole paper-long 8192 lent_ones
 
 pub two_pages : PagesOfOne trembling two swap 8192 (pages_from trembling two (singles_of swap) (left_in trembling two lent_ones).left paper) swap_call
-two_pages = pages_of_edits.pages-of-one trembling two swap paper swap_begins swap-whole paper-long 8192 lent_ones
+two_pages = pages_of_edits.pages_of_one trembling two swap paper swap_begins swap-whole paper-long 8192 lent_ones

@@ -87,10 +87,10 @@ stops_first g old new b m planned c e =
 -- ---- a state of a render
 module _ (g : Settings) (old new : List ℕ) (x : Edit g old new) where
   is_state_lem : (s : List ℕ) → Taken s → (k : ℕ) → is_state (at_section g s k) ≡ true
-  is_state_lem s t k = honest-is_state g x.settings x.sustain-fits s t.records t.accepted (k * section_size)
+  is_state_lem s t k = honest-is_state g x.settings x.sustain_fits s t.records t.accepted (k * section_size)
 
   is_fitting : (s : List ℕ) (k : ℕ) → Fitting (at_section g s k)
-  is_fitting s k = fitting_kept g s 0 (fresh_of 0) x.sustain-fits (fresh_fitting 0) (k * section_size)
+  is_fitting s k = fitting_kept g s 0 (fresh_of 0) x.sustain_fits (fresh_fitting 0) (k * section_size)
 
   acted_is : (k : ℕ) → (at_section g new k).acted ≡ count_below new (k * section_size)
   acted_is k = acted_fresh g new (accepted-few new x.new-taken.records x.new-taken.accepted) (k * section_size)
@@ -105,11 +105,11 @@ module _ (g : Settings) (old new : List ℕ) (x : Edit g old new) where
 
     later_states : (i : ℕ) → SameButActed (state_from g old (k * section_size) (at_section g old k) (i * section_size)) (state_from g new (k * section_size) (at_section g new k) (i * section_size))
     later_states i =
-        tail_states old new (sorted old x.old-taken) (sorted new x.new-taken) (whole old x.old-taken) (whole new x.new-taken) (k * section_size) s.records g (at_section g old k) (at_section g new k) s.states (i * section_size)
+        tail_states old new (sorted old x.old_taken) (sorted new x.new-taken) (whole old x.old_taken) (whole new x.new-taken) (k * section_size) s.records g (at_section g old k) (at_section g new k) s.states (i * section_size)
 
     later_samples : (j : ℕ) → samples_from g old (k * section_size) (at_section g old k) j ≡ samples_from g new (k * section_size) (at_section g new k) j
     later_samples j =
-        tail_samples old new (sorted old x.old-taken) (sorted new x.new-taken) (whole old x.old-taken) (whole new x.new-taken) (k * section_size) s.records g (at_section g old k) (at_section g new k) s.states j
+        tail_samples old new (sorted old x.old_taken) (sorted new x.new-taken) (whole old x.old_taken) (whole new x.new-taken) (k * section_size) s.records g (at_section g old k) (at_section g new k) s.states j
 
     -- entry i after entry k: the old render's, with the new score's number, is the new render's
     renewed : (i : ℕ) → Renewed new (k + i) (state_from g old (k * section_size) (at_section g old k) (i * section_size)) (state_from g new (k * section_size) (at_section g new k) (i * section_size))
@@ -118,7 +118,7 @@ module _ (g : Settings) (old new : List ℕ) (x : Edit g old new) where
         let at_old : state_from g old (k * section_size) (at_section g old k) (i * section_size) ≡ at_section g old (k + i) = rw e at (section_on g old k (k + i) (omega arith)) in
         let at_new : state_from g new (k * section_size) (at_section g new k) (i * section_size) ≡ at_section g new (k + i) = rw e at (section_on g new k (k + i) (omega arith)) in
         record {
-          old_state = rw at_old (is_state_lem old x.old-taken (k + i));
+          old_state = rw at_old (is_state_lem old x.old_taken (k + i));
           new-state = rw at_new (is_state_lem new x.new-taken (k + i));
           same = later_states i;
           acted = rw at_new (acted_is (k + i));
@@ -143,14 +143,14 @@ module _ (g : Settings) (old new : List ℕ) (x : Edit g old new) where
     over-settled k l u s =
         record {
           records = s.records;
-          states = meets-same (at_section g old k) (at_section g new k) (is_state_lem old x.old-taken k) (is_state_lem new x.new-taken k) (is_fitting old k) (is_fitting new k) (rw (left k l u, section_on g new m k (omega arith)) at s.entry);
+          states = meets-same (at_section g old k) (at_section g new k) (is_state_lem old x.old_taken k) (is_state_lem new x.new-taken k) (is_fitting old k) (is_fitting new k) (rw (left k l u, section_on g new m k (omega arith)) at s.entry);
         }
 
     settled-over_again : (k : ℕ) → m < k → k < entries_for (samples_in b) → Settled g old new k → SettledOver g old new m (at_section g new m) b k
     settled-over_again k l u s =
         record {
           records = s.records;
-          entry = rw (left k l u, section_on g new m k (omega arith)) (same_meets (at_section g old k) (at_section g new k) (is_state_lem old x.old-taken k) (is_state_lem new x.new-taken k) (is_fitting old k) s.states);
+          entry = rw (left k l u, section_on g new m k (omega arith)) (same_meets (at_section g old k) (at_section g new k) (is_state_lem old x.old_taken k) (is_state_lem new x.new-taken k) (is_fitting old k) s.states);
         }
 
     pub stops_at : (k : ℕ) → StopsOver g old new m (at_section g new m) b k → StopsAt g old new m (samples_in b) k

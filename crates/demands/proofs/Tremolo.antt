@@ -149,11 +149,11 @@ pub lfo-is_ported : LfoIsPorted
 lfo-is_ported =
     record {
       from_any = from_any;
-      in_a_render = λ g ok w s m a n. from_any g ok s n (state_from g s 0 (fresh_of 0) n) (in_kept _ (fresh-begun-kept g ok w s m a n)).lfo-in;
+      in_a_render = λ g ok w s m a n. from_any g ok s n (state_from g s 0 (fresh_of 0) n) (in_kept _ (fresh-begun-kept g ok w s m a n)).lfo_in;
     }
 
 silent : (depth : Float) → IsDepth0 depth → Silent depth
-silent depth z = zero_is depth z.is-f64 z.is_zero
+silent depth z = zero_is depth z.is_f64 z.is_zero
 
 pub depth_0_is-dry : Depth0IsDry
 unfolding samples_from state_from

@@ -87,8 +87,8 @@ module _ (s t : List ℕ) (h : SameButReleases s t) (a : Taken s) (b : Taken t) 
   re_rendered : settings_ok g ≡ true → T (fits binary64 g.adsr.sustain) → (n : ℕ) (r : BuffersOf n) → (rerender_of g s t (left_in g s r).left).left ≡ (left_in g s r).left
   unfolding edits_from last_score
   re_rendered ok w n r =
-      let e : EditedWhole g s (t ∷ []) n (edits_from g s (t ∷ []) (left_in g s r).left) = any_edits.from-a-render g ok w s (t ∷ []) a (b, tt) n r in
-      e.are-rendered r ∙ ap (λ (o : Outcome Rendered). o.left) (sym (rendered r.buffers))
+      let e : EditedWhole g s (t ∷ []) n (edits_from g s (t ∷ []) (left_in g s r).left) = any_edits.from_a_render g ok w s (t ∷ []) a (b, tt) n r in
+      e.are_rendered r ∙ ap (λ (o : Outcome Rendered). o.left) (sym (rendered r.buffers))
 
 pub velocity_nought : VelocityNought
 velocity_nought =

@@ -25,7 +25,7 @@ one-fits = of_bits-fits binary64 0x3ff0_0000_0000_0000
 
 module _ (e : Envelope) (h : Held e) where
   moved_holds : (s : EnvelopeStage) (x y : Float) → T (fits binary64 x) → T (fits binary64 y) → Held (with_stage e s x y)
-  moved_holds s x y p q = record { level-fits = p; release_fits = h.release-fits; time_fits = q }
+  moved_holds s x y p q = record { level-fits = p; release_fits = h.release_fits; time_fits = q }
 
   grown-holds : (t : Float) → Held (grown_of t e)
   grown-holds t = choice Held (is_moving e.stage) _ _ (λ p. moved_holds e.stage e.level _ h.level-fits (add-fits binary64 e.stage_time t)) (λ p. h)
@@ -39,17 +39,17 @@ module _ (e : Envelope) (h : Held e) where
 
   module _ (k : Adsr) (w : T (fits binary64 k.sustain)) where
     rule_holds : (s : EnvelopeStage) → Held (rule_of s k e)
-    rule_holds Idle = moved_holds Idle zero64 e.stage_time zero64-fits h.time-fits
+    rule_holds Idle = moved_holds Idle zero64 e.stage_time zero64-fits h.time_fits
     rule_holds Attack =
         choice Held (le one (attack_level k.attack e)) _ _ (λ p. moved_holds Decay one zero64 one-fits zero64-fits)
-        (λ p. moved_holds Attack (attack_level k.attack e) e.stage_time (div-fits binary64 e.stage_time k.attack) h.time-fits)
+        (λ p. moved_holds Attack (attack_level k.attack e) e.stage_time (div-fits binary64 e.stage_time k.attack) h.time_fits)
     rule_holds Decay =
         choice Held (le (decay_level k.decay k.sustain e) k.sustain) _ _ (λ p. moved_holds Sustain k.sustain zero64 w zero64-fits)
-        (λ p. moved_holds Decay (decay_level k.decay k.sustain e) e.stage_time (sub-fits binary64 one ((one ⊖ k.sustain) ⊗ (e.stage_time ⊘ k.decay))) h.time-fits)
-    rule_holds Sustain = moved_holds Sustain k.sustain e.stage_time w h.time-fits
+        (λ p. moved_holds Decay (decay_level k.decay k.sustain e) e.stage_time (sub-fits binary64 one ((one ⊖ k.sustain) ⊗ (e.stage_time ⊘ k.decay))) h.time_fits)
+    rule_holds Sustain = moved_holds Sustain k.sustain e.stage_time w h.time_fits
     rule_holds Release =
         choice Held (le (release_level k.release e) release_floor) _ _ (λ p. moved_holds Idle zero64 zero64 zero64-fits zero64-fits)
-        (λ p. moved_holds Release (release_level k.release e) e.stage_time (mul-fits binary64 e.release_level (one ⊖ e.stage_time ⊘ k.release)) h.time-fits)
+        (λ p. moved_holds Release (release_level k.release e) e.stage_time (mul-fits binary64 e.release_level (one ⊖ e.stage_time ⊘ k.release)) h.time_fits)
 
 pub step-holds : (k : Adsr) (t : Float) (e : Envelope) → T (fits binary64 k.sustain) → Held e → Held (step_of k t e)
 unfolding step_of

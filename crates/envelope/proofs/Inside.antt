@@ -52,7 +52,7 @@ unfolding is_envelope
 accepted e i =
     let a = within zero64 one e.level in
     let b = within zero64 one e.release_level in
-    and_i (a && b) (within zero64 eleven e.stage_time) (and_i a b i.level_in i.release-in) i.time-in
+    and_i (a && b) (within zero64 eleven e.stage_time) (and_i a b i.level_in i.release_in) i.time_in
 
 -- so no field is a NaN or an infinity
 pub record FiniteFields (e : Envelope) : Type 0 where
@@ -66,8 +66,8 @@ finite_fields e h =
     let i = is-inside e h in
     record {
       level-finite = nonneg→finite e.level (within-nonneg one e.level tt i.level_in);
-      release_finite = nonneg→finite e.release_level (within-nonneg one e.release_level tt i.release-in);
-      time_finite = nonneg→finite e.stage_time (within-nonneg eleven e.stage_time tt i.time-in);
+      release_finite = nonneg→finite e.release_level (within-nonneg one e.release_level tt i.release_in);
+      time_finite = nonneg→finite e.stage_time (within-nonneg eleven e.stage_time tt i.time_in);
     }
 
 -- ---- the settings

@@ -62,7 +62,7 @@ module _ (k : Adsr) (t : Float) (e : Envelope) (c : Bounded k) (d : Tick t) (i :
 
   time_nonneg : T (nonneg time)
   unfolding of_bits
-  time_nonneg = within-nonneg eleven time tt i.time-in
+  time_nonneg = within-nonneg eleven time tt i.time_in
 
   -- a time up to a limit y may grow, because y is at most 10 s
   on_time : (y : Float) → T (within milli ten y) → T (le time y) → T (within zero64 eleven (add binary64 time t))
@@ -75,7 +75,7 @@ module _ (k : Adsr) (t : Float) (e : Envelope) (c : Bounded k) (d : Tick t) (i :
 
   progress_most : (y : Float) → T (within milli ten y) → T (le (div binary64 time y) most)
   unfolding of_bits le
-  progress_most y h = div_mono binary64 time eleven y milli time_nonneg tt (time_positive y h) tt (upper zero64 eleven time i.time-in) (lower milli ten y h)
+  progress_most y h = div_mono binary64 time eleven y milli time_nonneg tt (time_positive y h) tt (upper zero64 eleven time i.time_in) (lower milli ten y h)
 
   progress_nonneg : (y : Float) → T (within milli ten y) → T (nonneg (div binary64 time y))
   unfolding of_bits le div
@@ -85,74 +85,74 @@ module _ (k : Adsr) (t : Float) (e : Envelope) (c : Bounded k) (d : Tick t) (i :
   unfolding of_bits le
   attack_inside =
       let a = k.attack in
-      let pa : T (positive a) = time_positive a c.attack-in in
+      let pa : T (positive a) = time_positive a c.attack_in in
       let v = attack_level a e in
       choice (λ (x : Envelope). Inside (grown_of t x)) (le one v) _ _
-      (λ (h : T (le one v)). record { level_in = tt; release_in = i.release-in; time_in = later zero64 t tt tt d })
+      (λ (h : T (le one v)). record { level_in = tt; release_in = i.release_in; time_in = later zero64 t tt tt d })
       (λ (h : T (not (le one v))).
       let l : T (le time a) = not-past time a time_nonneg pa (λ (u : T (le a time)). T_not (le one v) h (one-le-div binary64 time a time_nonneg pa u)) in
-      record { level_in = unit_in v (div-ge0 binary64 time a time_nonneg pa) (div-le-one binary64 time a time_nonneg pa l); release_in = i.release-in; time_in = on_time a c.attack-in l })
+      record { level_in = unit_in v (div-ge0 binary64 time a time_nonneg pa) (div-le-one binary64 time a time_nonneg pa l); release_in = i.release_in; time_in = on_time a c.attack_in l })
 
   decay_inside : Inside (grown_of t (decay_rule k.decay k.sustain e))
   unfolding of_bits le mul div
   decay_inside =
       let a = k.decay in
       let s = k.sustain in
-      let pa : T (positive a) = time_positive a c.decay-in in
-      let ns : T (nonneg s) = within-nonneg one s tt c.sustain-in in
-      let s1 : T (le s one) = upper zero64 one s c.sustain-in in
+      let pa : T (positive a) = time_positive a c.decay_in in
+      let ns : T (nonneg s) = within-nonneg one s tt c.sustain_in in
+      let s1 : T (le s one) = upper zero64 one s c.sustain_in in
       let p = div binary64 time a in
-      let np : T (nonneg p) = progress_nonneg a c.decay-in in
+      let np : T (nonneg p) = progress_nonneg a c.decay_in in
       let f = sub binary64 one s in
       let f1 : T (le f one) = sub-le binary64 one s (unfold fits in tt) tt ns s1 in
       let nf : T (nonneg f) = under f one (sub-ge0 binary64 one s tt ns s1) tt f1 in
       let x = mul binary64 f p in
-      let nx : T (nonneg x) = under x (mul binary64 one most) (mul-ge0 binary64 f p nf np) tt (mul_mono binary64 f one p most nf tt np tt f1 (progress_most a c.decay-in)) in
+      let nx : T (nonneg x) = under x (mul binary64 one most) (mul-ge0 binary64 f p nf np) tt (mul_mono binary64 f one p most nf tt np tt f1 (progress_most a c.decay_in)) in
       let v = decay_level a s e in
       choice (λ (x : Envelope). Inside (grown_of t x)) (le v s) _ _
-      (λ (h : T (le v s)). record { level_in = c.sustain-in; release_in = i.release-in; time_in = tt })
+      (λ (h : T (le v s)). record { level_in = c.sustain_in; release_in = i.release_in; time_in = tt })
       (λ (h : T (not (le v s))).
-      let x1 : T (le x one) = not-past x one nx tt (λ (l : T (le one x)). T_not (le v s) h (fle_trans v plus_zero s (sub_nonpos binary64 one x tt nx l) (lower zero64 one s c.sustain-in))) in
+      let x1 : T (le x one) = not-past x one nx tt (λ (l : T (le one x)). T_not (le v s) h (fle_trans v plus_zero s (sub_nonpos binary64 one x tt nx l) (lower zero64 one s c.sustain_in))) in
       let l : T (le time late) =
       not-past time late time_nonneg tt
       (λ (l : T (le late time)). T_not (le v s) h
-      (settled s p c.sustain-fits ns s1 np
-      (fle_trans enough (div binary64 late ten) p tt (div_mono binary64 late time ten a tt time_nonneg tt pa l (upper milli ten a c.decay-in))) nx)) in
-      record { level_in = unit_in v (sub-ge0 binary64 one x tt nx x1) (sub-le binary64 one x (unfold fits in tt) tt nx x1); release_in = i.release-in; time_in = later time t time_nonneg l d })
+      (settled s p c.sustain_fits ns s1 np
+      (fle_trans enough (div binary64 late ten) p tt (div_mono binary64 late time ten a tt time_nonneg tt pa l (upper milli ten a c.decay_in))) nx)) in
+      record { level_in = unit_in v (sub-ge0 binary64 one x tt nx x1) (sub-le binary64 one x (unfold fits in tt) tt nx x1); release_in = i.release_in; time_in = later time t time_nonneg l d })
 
   release_inside : Inside (grown_of t (release_rule k.release e))
   unfolding of_bits le mul fits
   release_inside =
       let a = k.release in
       let r = e.release_level in
-      let pa : T (positive a) = time_positive a c.release-in in
-      let nr : T (nonneg r) = within-nonneg one r tt i.release-in in
+      let pa : T (positive a) = time_positive a c.release_in in
+      let nr : T (nonneg r) = within-nonneg one r tt i.release_in in
       let p = div binary64 time a in
       let q = sub binary64 one p in
       let v = release_level a e in
       choice (λ (x : Envelope). Inside (grown_of t x)) (le v release_floor) _ _
-      (λ (h : T (le v release_floor)). record { level_in = tt; release_in = i.release-in; time_in = tt })
+      (λ (h : T (le v release_floor)). record { level_in = tt; release_in = i.release_in; time_in = tt })
       (λ (h : T (not (le v release_floor))).
       let l : T (le time a) =
       not-past time a time_nonneg pa
       (λ (u : T (le a time)). T_not (le v release_floor) h
-      (fle_trans v plus_zero release_floor (mul_nonpos binary64 r q nr (neg-sub-nonneg binary64 one p (div-fits binary64 time a) tt (progress_nonneg a c.release-in) (one-le-div binary64 time a time_nonneg pa u))) tt)) in
+      (fle_trans v plus_zero release_floor (mul_nonpos binary64 r q nr (neg-sub-nonneg binary64 one p (div-fits binary64 time a) tt (progress_nonneg a c.release_in) (one-le-div binary64 time a time_nonneg pa u))) tt)) in
       let p1 : T (le p one) = div-le-one binary64 time a time_nonneg pa l in
-      let np : T (nonneg p) = progress_nonneg a c.release-in in
+      let np : T (nonneg p) = progress_nonneg a c.release_in in
       let q1 : T (le q one) = sub-le binary64 one p tt tt np p1 in
       let nq : T (nonneg q) = under q one (sub-ge0 binary64 one p tt np p1) tt q1 in
       record {
-        level_in = unit_in v (mul-ge0 binary64 r q nr nq) (fle_trans v (mul binary64 one one) one (mul_mono binary64 r one q one nr tt nq tt (upper zero64 one r i.release-in) q1) tt);
-        release_in = i.release-in;
-        time_in = on_time a c.release-in l;
+        level_in = unit_in v (mul-ge0 binary64 r q nr nq) (fle_trans v (mul binary64 one one) one (mul_mono binary64 r one q one nr tt nq tt (upper zero64 one r i.release_in) q1) tt);
+        release_in = i.release_in;
+        time_in = on_time a c.release_in l;
       })
 
   by_stage : (s : EnvelopeStage) → Inside (grown_of t (rule_of s k e))
   unfolding of_bits le
-  by_stage Idle = record { level_in = tt; release_in = i.release-in; time_in = i.time-in }
+  by_stage Idle = record { level_in = tt; release_in = i.release_in; time_in = i.time_in }
   by_stage Attack = attack_inside
   by_stage Decay = decay_inside
-  by_stage Sustain = record { level_in = c.sustain-in; release_in = i.release-in; time_in = i.time-in }
+  by_stage Sustain = record { level_in = c.sustain_in; release_in = i.release_in; time_in = i.time_in }
   by_stage Release = release_inside
 
   pub step-inside : Inside (step_of k t e)
@@ -169,7 +169,7 @@ unfolding is_envelope of_bits le
 fresh-accepted = tt
 
 pub triggered_keeps : (e : Envelope) → T (is_envelope e) → T (is_envelope (triggered_of e))
-triggered_keeps e h = let i = is-inside e h in accepted _ (record { level_in = i.level_in; release_in = i.release-in; time_in = unfold of_bits in unfold le in tt })
+triggered_keeps e h = let i = is-inside e h in accepted _ (record { level_in = i.level_in; release_in = i.release_in; time_in = unfold of_bits in unfold le in tt })
 
 pub released_keeps : (e : Envelope) → T (is_envelope e) → T (is_envelope (released_of e))
 unfolding released_of

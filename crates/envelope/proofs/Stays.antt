@@ -48,7 +48,7 @@ pub record Good (b : EnvelopeBlock) : Type 0 where
 
 -- a refused call hands the block back, and a done one leaves a good one
 change_keeps : (b : EnvelopeBlock) (e : Envelope) → Good b → T (is_envelope e) → Good (changed_of b e).block
-change_keeps b e g h = first_keeps (unless (is_envelope b.envelope) Argument) _ _ (λ (r : Processed). Good r.block) (λ why. g) (λ t. record { sustain_fits = g.sustain-fits; accepted = h })
+change_keeps b e g h = first_keeps (unless (is_envelope b.envelope) Argument) _ _ (λ (r : Processed). Good r.block) (λ why. g) (λ t. record { sustain_fits = g.sustain_fits; accepted = h })
 
 process_keeps : (b : EnvelopeBlock) (rate : ℕ) (xs : List Float) → Good b → Good (process_of b rate xs).result.block
 unfolding process_of
@@ -59,8 +59,8 @@ process_keeps b rate xs g =
     (λ e.
     let t = (both-held usable sound Setting Argument e).0 in
     record {
-      sustain_fits = g.sustain-fits;
-      accepted = run_keeps b.adsr rate b.envelope (and_l (is_adsr b.adsr) (is_rate rate) t) g.sustain-fits (and_r (is_adsr b.adsr) (is_rate rate) t) g.accepted (length xs);
+      sustain_fits = g.sustain_fits;
+      accepted = run_keeps b.adsr rate b.envelope (and_l (is_adsr b.adsr) (is_rate rate) t) g.sustain_fits (and_r (is_adsr b.adsr) (is_rate rate) t) g.accepted (length xs);
     })
 
 pub data Call : Type 0 where
@@ -110,5 +110,5 @@ process_in attack decay sustain release w cs rate xs n done i l =
     first_keeps (unless usable Setting ++ unless sound Argument) _ _ (λ (o : Outcome Processed). o.result.answer ≡ Done n → T (within zero64 one (get_or o.lent i nan))) (λ why e. absurd (clash (cc)))
     (λ e d.
     let t = (both-held usable sound Setting Argument e).0 in
-    levels_in b.adsr rate b.envelope (and_l (is_adsr b.adsr) (is_rate rate) t) g.sustain-fits (and_r (is_adsr b.adsr) (is_rate rate) t) g.accepted i (length xs) l)
+    levels_in b.adsr rate b.envelope (and_l (is_adsr b.adsr) (is_rate rate) t) g.sustain_fits (and_r (is_adsr b.adsr) (is_rate rate) t) g.accepted i (length xs) l)
     done

@@ -60,7 +60,7 @@ sustain_fits : T (fits binary64 trembling.adsr.sustain)
 sustain_fits = of_bits-fits binary64 0x3fe0_0000_0000_0000
 
 all_zero : AllZero played_in_words.result
-all_zero = (desk_chain-done square sustain_fits rubbish refl trembling known trembling_ok (played 100) on_time.accepted on_time.growing (omega arith)).zero-if on_time.none_below
+all_zero = (desk_chain-done square sustain_fits rubbish refl trembling known trembling_ok (played 100) on_time.accepted on_time.growing (omega arith)).zero_if on_time.none_below
 
 -- the buffers of `on_time`, of 128 samples
 fit : Lent room
@@ -98,7 +98,7 @@ pub record SwappedInWords : Type 0 where
   pub pages_of_one : FfiPagesOfOne square two swap 8192 (words_pages_from square two (singles_of swap) (ffi_left square two lent_ones).left paper) swapped_in_words
 
 render-zero : Zero (ffi_left square two lent_ones).result
-render-zero = (desk_edits_done square sustain_fits two [] lent_ones.buffers trembling known trembling_ok lent_ones.lent swap_begins.old-taken tt).0
+render-zero = (desk_edits_done square sustain_fits two [] lent_ones.buffers trembling known trembling_ok lent_ones.lent swap_begins.old_taken tt).0
 
 swap-zero : Zero swapped_in_words.result
 swap-zero = words_pages.zero-whenever square sustain_fits two swap paper 8192 lent_ones render-zero swap-whole paper-long
@@ -111,8 +111,8 @@ swapped_in_words_lem =
     record {
       word = once.word ∙ ap (λ (g : Settings). packed_page (once_paged g two (new_score_of two swap) 8192)) (sym same) ∙ ap (λ (s : List ℕ). packed_page (once_paged trembling two s 8192)) swaps ∙ ap packed_page swap_once;
       at_once = once;
-      one-at_a_time = words_pages.one-at-a-time square sustain_fits two swap paper 8192 lent_ones render-zero swap-zero;
-      pages_of_one = words_pages.pages-of-one square sustain_fits two swap paper 8192 lent_ones render-zero swap-zero;
+      one-at_a_time = words_pages.one-at_a_time square sustain_fits two swap paper 8192 lent_ones render-zero swap-zero;
+      pages_of_one = words_pages.pages_of_one square sustain_fits two swap paper 8192 lent_ones render-zero swap-zero;
     }
   where
     known-settings : {g h : Settings} → Known g ≡ Known h → g ≡ h

@@ -82,8 +82,8 @@ module _ (a : Asked) (sus : T (fits binary64 a.sustain)) (room : List ℕ) (thir
       let h = invariant_fresh a g is fit in
       let c = chain-done g ok fit xs b grow l in
       record {
-        zero_only_if = λ z. c.done-only-if (zero_all a g is fit xs [] 0 (fresh_of 0) h grow (subst (λ (o : Continued (List ℕ)). AllZero o.result) (from-fresh xs) z));
-        zero_if = λ f. rw (from-fresh xs, (tells a g is fit xs [] 0 (fresh_of 0) h grow (c.done-if f)).result) (done_zeros xs);
+        zero_only_if = λ z. c.done_only_if (zero_all a g is fit xs [] 0 (fresh_of 0) h grow (subst (λ (o : Continued (List ℕ)). AllZero o.result) (from-fresh xs) z));
+        zero_if = λ f. rw (from-fresh xs, (tells a g is fit xs [] 0 (fresh_of 0) h grow (c.done_if f)).result) (done_zeros xs);
       }
 
   -- ---- one gav_continue over the whole output
@@ -107,7 +107,7 @@ module _ (a : Asked) (sus : T (fits binary64 a.sustain)) (room : List ℕ) (thir
       let p = render-passed g s b d.0 d.1 in
       let whole : Step = record { score = s; part = out } in
       let grows : Grows [] (whole ∷ []) = (record { added = s; grown = refl }, tt) in
-      let zeros = (desk_chain-done g q.known p.settings (whole ∷ []) ((count_of s, p.accepted), tt) grows (omega arith)).zero-if ((λ i a b. omega arith), tt) in
+      let zeros = (desk_chain-done g q.known p.settings (whole ∷ []) ((count_of s, p.accepted), tt) grows (omega arith)).zero_if ((λ i a b. omega arith), tt) in
       many.words ∙ sym (desk_chain whole [] grows zeros b fit (omega arith)).words
 
 -- ---- the claim

@@ -55,12 +55,12 @@ module _ (a : Asked) (g : Settings) (is : choice_of a ≡ Known g) (s : List ℕ
   desk_left r = ap (λ (c : Choice). (render_for c s r.buffers).left) is
 
   pub desk_from : (m : ℕ) (came left : Buffers) → FromSection came (left_in g s) m left → FromSection came (ffi_left a s) m left
-  desk_from m came left f = record { are_rendered = λ r. f.are-rendered r ∙ sym (ap (onward m) (desk_left r)); stay = f.stay }
+  desk_from m came left f = record { are_rendered = λ r. f.are_rendered r ∙ sym (ap (onward m) (desk_left r)); stay = f.stay }
 
 -- ---- the claim
 module _ (a : Asked) (sus : T (fits binary64 a.sustain)) (old new : List ℕ) (t : Taken new) (b : Buffers) (z : Lent b) where
   edit : (r : BuffersOf (samples_in b)) (q : Good a old r.buffers) → Edit q.settings old new
-  edit r q = record { settings = q.in-domain; sustain_fits = sustain_fits a sus q.settings q.known; old_taken = q.taken; new-taken = t }
+  edit r q = record { settings = q.in_domain; sustain_fits = sustain_fits a sus q.settings q.known; old_taken = q.taken; new-taken = t }
 
   in_words : (g : Settings) → choice_of a ≡ Known g → rerender_for (choice_of a) old new b ≡ rerendered (rerender_of g old new b)
   in_words g is = ap (λ (c : Choice). rerender_for c old new b) is
@@ -78,30 +78,30 @@ module _ (a : Asked) (sus : T (fits binary64 a.sustain)) (old new : List ℕ) (t
     remade : onward m b ≡ onward m (ffi_left a old r).left → FfiRemade a old new m b (rerender_for (choice_of a) old new b)
     remade left =
         let g = q.settings in
-        let d = demand_3_holds.re-rendered g old new (edit r q) b z p e heard r (left ∙ ap (onward m) (desk_left a g q.known old r)) in
+        let d = demand_3_holds.re_rendered g old new (edit r q) b z p e heard r (left ∙ ap (onward m) (desk_left a g q.known old r)) in
         rw (in_words g q.known)
         (record {
           settings = g;
           known = q.known;
-          stop_section = d.stop-section;
+          stop_section = d.stop_section;
           stops = d.stops;
-          says = says g m d.stop-section d.to-the-stop.counted;
+          says = says g m d.stop_section d.to_the_stop.counted;
           left = desk_from a g q.known new m b (rerender_of g old new b).left d.left;
         })
 
     start_remade : entry_at b.stored m ≡ entry_at (ffi_left a old r).left.stored m → FfiStartRemade a old new m b (rerender_for (choice_of a) old new b)
     start_remade left =
         let g = q.settings in
-        let d = demand_3_holds.start-alone g old new (edit r q) b z p e heard r (left ∙ ap (λ (c : Buffers). entry_at c.stored m) (desk_left a g q.known old r)) in
-        let to = d.to-the-stop in
+        let d = demand_3_holds.start_alone g old new (edit r q) b z p e heard r (left ∙ ap (λ (c : Buffers). entry_at c.stored m) (desk_left a g q.known old r)) in
+        let to = d.to_the_stop in
         rw (in_words g q.known)
         (record {
           settings = g;
           known = q.known;
-          stop_section = d.stop-section;
+          stop_section = d.stop_section;
           stops = d.stops;
-          says = says g m d.stop-section to.counted;
-          are_rendered = λ s. to.are-rendered s ∙ sym (ap (λ (c : Buffers). onward m (before d.stop-section c)) (desk_left a g q.known new s));
+          says = says g m d.stop_section to.counted;
+          are_rendered = λ s. to.are_rendered s ∙ sym (ap (λ (c : Buffers). onward m (before d.stop_section c)) (desk_left a g q.known new s));
           stay = to.stay;
           recounted = to.recounted;
           to_the_end = λ i. desk_from a g q.known new m b (rerender_of g old new b).left (d.to_the_end i);
@@ -110,14 +110,14 @@ module _ (a : Asked) (sus : T (fits binary64 a.sustain)) (old new : List ℕ) (t
     entries_remade : (onward m b).stored ≡ (onward m (ffi_left a old r).left).stored → FfiEntriesRemade a old new m b (rerender_for (choice_of a) old new b)
     entries_remade left =
         let g = q.settings in
-        let d = demand_3_holds.entries-alone g old new (edit r q) b z p e heard r (left ∙ ap (λ (c : Buffers). (onward m c).stored) (desk_left a g q.known old r)) in
+        let d = demand_3_holds.entries_alone g old new (edit r q) b z p e heard r (left ∙ ap (λ (c : Buffers). (onward m c).stored) (desk_left a g q.known old r)) in
         rw (in_words g q.known)
         (record {
           settings = g;
           known = q.known;
-          stop_section = d.stop-section;
+          stop_section = d.stop_section;
           stops = d.stops;
-          says = says g m d.stop-section d.to-the-stop.counted;
+          says = says g m d.stop_section d.to_the_stop.counted;
           entries = λ s. d.entries s ∙ sym (ap (λ (c : Buffers). (onward m c).stored) (desk_left a g q.known new s));
         })
 

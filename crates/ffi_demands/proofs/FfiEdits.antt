@@ -80,15 +80,15 @@ module _ (a : Asked) (old : List ℕ) (news : List (List ℕ)) (m : ℕ) (b : Bu
       let is = q.known in
       let h : Editing g old news m b =
       record {
-        settings = q.in-domain;
-        sustain_fits = sustain_fits a e.sustain-fits g is;
+        settings = q.in_domain;
+        sustain_fits = sustain_fits a e.sustain_fits g is;
         old_taken = q.taken;
         news_taken = c;
         lent = e.lent;
-        honest = record { buffers = r; were_left = e.honest.were-left ∙ ap (onward m) (desk_left a g is old r) };
+        honest = record { buffers = r; were_left = e.honest.were_left ∙ ap (onward m) (desk_left a g is old r) };
         none_before = e.none_before;
       } in
-      let d = any_edits.over-rubbish g old news m b h in
+      let d = any_edits.over_rubbish g old news m b h in
       rw (edits_are a g is news old b)
       (record { settings = g; known = is; result = ap (map packed_of) d.answered; left = desk_from a g is (last_score old news) m b (edits_from g old news b).left d.left })
 
@@ -117,7 +117,7 @@ module _ (a : Asked) (sus : T (fits binary64 a.sustain)) (first : List ℕ) (new
     left r =
         let s = last_score first news in
         let own = sustain_fits a sus g is in
-        let d = any_edits.from-a-render g ok own first news one c n (record { buffers = b; lent = fit; long = refl }) in
+        let d = any_edits.from_a_render g ok own first news one c n (record { buffers = b; lent = fit; long = refl }) in
         let last = ap (λ (x : Choice). render_for x s r.buffers) is ∙ ap desk.rendered (rendered g ok s (last_taken first news one c) r.buffers r.lent) in
         record {
           settings = g;
@@ -127,14 +127,14 @@ module _ (a : Asked) (sus : T (fits binary64 a.sustain)) (first : List ℕ) (new
               ∙ ap (λ (o : Outcome Rendered). packed_of o.result.answer ∷ map packed_of (edits_from g first news begun.left).result) (rendered g ok first one b fit)
               ∙ ap (λ (q : List Answer). packed_of (Done n) ∷ map packed_of q) d.answered;
           done = ap (λ (o : Outcome ℕ). o.result) last ∙ ap (λ (i : ℕ). packed_of (Done i)) r.long;
-          left = ap (λ (o : Outcome (List ℕ)). o.left) all_packed ∙ d.are-rendered r ∙ sym (desk_left a g is s r);
+          left = ap (λ (o : Outcome (List ℕ)). o.left) all_packed ∙ d.are_rendered r ∙ sym (desk_left a g is s r);
         }
 
   pub desk_edits : AllZero edits.result → (r : BuffersOf n) → LastFfiRender a first news n r.buffers edits
   desk_edits z r =
       let q = zero_good a first b z.0 in
       let c = render_for (choice_of a) first b in
-      left q.settings q.known q.in-domain q.lent q.taken (words-taken a q.settings q.known news first c.left z.1) r
+      left q.settings q.known q.in_domain q.lent q.taken (words-taken a q.settings q.known news first c.left z.1) r
 
   pub desk_edits_done : (g : Settings) → choice_of a ≡ Known g → settings_ok g ≡ true → Lent b → Taken first → AllTaken news → AllZero edits.result
   desk_edits_done g is ok fit one c =

@@ -102,7 +102,7 @@ module _ (a : Asked) (sus : T (fits binary64 a.sustain)) (old es space : List �
   page = edit_of g old es b space
 
   begins : Begins g old
-  begins = record { settings = q.in-domain; sustain_fits = sustain_fits a sus g q.known; old_taken = q.taken }
+  begins = record { settings = q.in_domain; sustain_fits = sustain_fits a sus g q.known; old_taken = q.taken }
 
   in_words : call ≡ edited page
   in_words = ap (λ (c : Choice). edit_for c old es (render_for c old r.buffers).left space) q.known
@@ -112,8 +112,8 @@ module _ (a : Asked) (sus : T (fits binary64 a.sustain)) (old es space : List �
   zero-whole z =
       let d = paged-zero page.result (subst (λ (o : Rewritten ℕ). Zero o.result) in_words z) in
       let c = edit-decided g old es b space in
-      let e = (page_exactly g old es b space).done.only-when (c.is-done (c.done d.0 d.1)) in
-      (record { whole_edits = e.0.sized.whole-edits; all_made = e.1 }, e.0.sized.bytes)
+      let e = (page_exactly g old es b space).done.only_when (c.is-done (c.done d.0 d.1)) in
+      (record { whole_edits = e.0.sized.whole_edits; all_made = e.1 }, e.0.sized.bytes)
 
   whole-zero : Whole old es → length space ≡ 40960 → Zero call.result
   whole-zero w room =
@@ -131,7 +131,7 @@ module _ (a : Asked) (sus : T (fits binary64 a.sustain)) (old es space : List �
     next-zero s =
         let taken : Taken new = pages_of_edits.new-taken old es q.taken whole.all_made in
         let done : (ffi_left a new s).result ≡ packed_of (Done (samples_in s.buffers)) =
-        ap (λ (c : Choice). (render_for c new s.buffers).result) q.known ∙ ap (λ (o : Outcome Rendered). (desk.rendered o).result) (rendered g q.in-domain new taken s.buffers s.lent) in
+        ap (λ (c : Choice). (render_for c new s.buffers).result) q.known ∙ ap (λ (o : Outcome Rendered). (desk.rendered o).result) (rendered g q.in_domain new taken s.buffers s.lent) in
         subst Zero (sym done) (done-zero (samples_in s.buffers))
 
     at_once : FfiAtOnce a old es n space call
@@ -145,7 +145,7 @@ module _ (a : Asked) (sus : T (fits binary64 a.sustain)) (old es space : List �
           reads =
               ap (λ (o : Rewritten ℕ). numbers_in o.result) in_words ∙ edit-done-reads g old es b space count (ap (λ (p : Paged). p.answer) d.answered)
               ∙ ap (λ (p : Paged). done-in p.bytes count) d.answered;
-          are_rendered = λ s. ap (λ (o : Rewritten ℕ). o.left) in_words ∙ d.are-rendered s ∙ sym (desk_left a g q.known new s);
+          are_rendered = λ s. ap (λ (o : Rewritten ℕ). o.left) in_words ∙ d.are_rendered s ∙ sym (desk_left a g q.known new s);
           next = next-zero;
           score-is = ap (λ (o : Rewritten ℕ). o.space) in_words ∙ d.score-is;
         }
@@ -155,7 +155,7 @@ module _ (a : Asked) (sus : T (fits binary64 a.sustain)) (old es space : List �
 
     one-at_a_time : FfiOneAtATime old es (words_edits_from a old (scores_of old es) (ffi_left a old r).left) call
     one-at_a_time =
-        let d = pages_of_edits.one-at-a-time g old es space begins whole room n r in
+        let d = pages_of_edits.one-at_a_time g old es space begins whole room n r in
         let chain = words_edits_from a old (scores_of old es) (ffi_left a old r).left in
         let packed : chain ≡ packed_all (edits_from g old (scores_of old es) b) =
         ap (words_edits_from a old (scores_of old es)) (desk_left a g q.known old r) ∙ edits_are a g q.known (scores_of old es) old b in
@@ -167,13 +167,13 @@ module _ (a : Asked) (sus : T (fits binary64 a.sustain)) (old es space : List �
 
     pages_of_one : FfiPagesOfOne a old es n (words_pages_from a old (singles_of es) (ffi_left a old r).left space) call
     pages_of_one =
-        let d = pages_of_edits.pages-of-one g old es space begins whole room n r in
+        let d = pages_of_edits.pages_of_one g old es space begins whole room n r in
         let pages = singles_of es in
         let chain = words_pages_from a old pages (ffi_left a old r).left space in
         let packed : chain ≡ packed_pages (pages_from g old pages b space) =
         ap (λ (c : Buffers). words_pages_from a old pages c space) (desk_left a g q.known old r)
-        ∙ pages_are a g q.known pages old b space (subst (λ (l : List Paged). AllZero (map packed_page l)) (sym d.by-page.answered) (paged_zeros g n pages old)) in
-        let words : chain.result ≡ map packed_page (all_paged g old pages n) = ap (λ (o : Rewritten (List ℕ)). o.result) packed ∙ ap (map packed_page) d.by-page.answered in
+        ∙ pages_are a g q.known pages old b space (subst (λ (l : List Paged). AllZero (map packed_page l)) (sym d.by_page.answered) (paged_zeros g n pages old)) in
+        let words : chain.result ≡ map packed_page (all_paged g old pages n) = ap (λ (o : Rewritten (List ℕ)). o.result) packed ∙ ap (map packed_page) d.by_page.answered in
         record {
           settings = g;
           known = q.known;

@@ -186,11 +186,11 @@ module _ (step p : Float) (w : T (fits binary64 p)) (h : (within zero64 far p &&
   near = phase-near step p step-nonneg (and_r (le zero64 step) (le step sixteen) both.1) (record { p_fits = w; p_nonneg = nonneg_of far p (unfold of_bits in tt) both.0; p_le = and_r (le zero64 p) (le p far) both.0 })
 
   rises : (k j : ℕ) → T (le (phase_from step p k) (phase_from step p (k + j)))
-  rises k zero = rw (nat.add-zero k) (fle_refl (phase_from step p k) (nonneg→finite (phase_from step p k) (near k).p-nonneg))
+  rises k zero = rw (nat.add-zero k) (fle_refl (phase_from step p k) (nonneg→finite (phase_from step p k) (near k).p_nonneg))
   rises k (suc j) =
       let q = phase_from step p (k + j) in
       fle_trans (phase_from step p k) q (phase_from step p (k + suc j)) (rises k j)
-      (subst (λ (x : Float). T (le q x)) (sym (phase_more step p (k + j)) ∙ ap (phase_from step p) (omega arith)) (add_grows binary64 q step (near (k + j)).p-fits (near (k + j)).p-nonneg step-nonneg))
+      (subst (λ (x : Float). T (le q x)) (sym (phase_more step p (k + j)) ∙ ap (phase_from step p) (omega arith)) (add_grows binary64 q step (near (k + j)).p_fits (near (k + j)).p_nonneg step-nonneg))
 
   -- below any bound that the end is below
   pub rising-below : (n : ℕ) (xs : List Float) (bound : Float) → T (finite bound) → xs ≡ listed (phase_from step p) n → T (lt (phase_from step p n) bound) → AllBelow bound xs
@@ -199,7 +199,7 @@ module _ (step p : Float) (w : T (fits binary64 p)) (h : (within zero64 far p &&
       let ends : i + (n - i) ≡ n = omega arith in
       let up : T (le (phase_from step p i) (phase_from step p n)) = subst (λ (k : ℕ). T (le (phase_from step p i) (phase_from step p k))) ends (rises i (n - i)) in
       rw (e, listed_at (phase_from step p) n i nan less)
-      (record { fit = (near i).p-fits; sign = (near i).p-nonneg; under = le-lt-lt (phase_from step p i) (phase_from step p n) bound (nonneg→finite (phase_from step p i) (near i).p-nonneg) f up l })
+      (record { fit = (near i).p_fits; sign = (near i).p_nonneg; under = le-lt-lt (phase_from step p i) (phase_from step p n) bound (nonneg→finite (phase_from step p i) (near i).p_nonneg) f up l })
 
   -- their remainders over TAU are fractions of a cycle
   pub rising_fractions : (n : ℕ) (xs ys : List Float) → xs ≡ listed (phase_from step p) n → ys ≡ made_of remainder_of xs (length xs) → AllFractions ys
@@ -207,4 +207,4 @@ module _ (step p : Float) (w : T (fits binary64 p)) (h : (within zero64 far p &&
       let long : length xs ≡ n = ap length e ∙ listed-length _ n in
       let less : i < length xs = rw (ap length h ∙ made-length remainder_of xs (length xs)) at g in
       let at : get_or xs i nan ≡ phase_from step p i = ap (λ (l : List Float). get_or l i nan) e ∙ listed_at (phase_from step p) n i nan (rw long at less) in
-      rw (h, made_at remainder_of xs (length xs) i less, at) (normal_in (phase_from step p i) (near i).p-fits (near i).p-nonneg)
+      rw (h, made_at remainder_of xs (length xs) i less, at) (normal_in (phase_from step p i) (near i).p_fits (near i).p_nonneg)

@@ -162,7 +162,7 @@ module _ (g : Guess) (dt edge : Float) (value : Float → Float) (before behind 
     sided s all q i = let (is, l) = lying q i in let t = fraction_of g.base.0 q in rw is (two t l ∙ ap (λ (b : Bool). line_of (cond b before behind) t) (all t l))
 
     pub before_edge : T (finite edge) → lt g.end_fraction edge ≡ true → Straight (λ (q : Float). value (normal_of q)) (segment_of g before)
-    before_edge f e = sided true (λ t l. is_true (lt t edge) (le-lt-lt t g.end_fraction edge (unit_finite t l.phase-in) f l.to (subst T (sym e) tt)))
+    before_edge f e = sided true (λ t l. is_true (lt t edge) (le-lt-lt t g.end_fraction edge (unit_finite t l.phase_in) f l.to (subst T (sym e) tt)))
 
     pub behind_edge : le edge g.fraction ≡ true → Straight (λ (q : Float). value (normal_of q)) (segment_of g behind)
     behind_edge e = sided false (λ t l. is_false (lt t edge) (not_T (lt t edge) (λ (z : T (lt t edge)). lt_not_le t edge z (fle_trans edge g.fraction t (subst T (sym e) tt) l.from))))

@@ -34,10 +34,10 @@ module _ (t : List ℕ) (i : ℕ) (s : List ℕ) (j : ℕ) (a : Alike t i s j) w
   alike_right : Right s j → Right t i
   alike_right r =
       record {
-        mark_one = rw (a 0 (omega arith)) r.mark-one;
-        mark_two = rw (a 1 (omega arith)) r.mark-two;
-        kind_low = rw (a 6 (omega arith)) r.kind-low;
-        kind_high = rw (a 6 (omega arith)) r.kind-high;
+        mark_one = rw (a 0 (omega arith)) r.mark_one;
+        mark_two = rw (a 1 (omega arith)) r.mark_two;
+        kind_low = rw (a 6 (omega arith)) r.kind_low;
+        kind_high = rw (a 6 (omega arith)) r.kind_high;
         note-right = rw (a 7 (omega arith), a 6 (omega arith)) r.note-right;
         velocity-right = rw (a 8 (omega arith), a 6 (omega arith)) r.velocity-right;
         last = rw (a 9 (omega arith)) r.last;

@@ -92,10 +92,10 @@ plan_says old new n m h = go (difference_of old new) refl h
 
 -- section m starts at or before that position, and section m + 1 after it
 pub plan_last : (old new : List ℕ) (n m : ℕ) (p : Planned old new n m) → (m * section_size ≤ p.change) × (p.change < suc m * section_size)
-plan_last old new n m p = rw p.section-is (omega arith, omega arith)
+plan_last old new n m p = rw p.section_is (omega arith, omega arith)
 
 pub plan_there : (old new : List ℕ) (n m : ℕ) → plan_of old new n ≡ From m → m < entries_for n
-plan_there old new n m h = let p : Planned old new n m = plan_says old new n m h in rw p.section-is (start_there n p.change p.heard)
+plan_there old new n m h = let p : Planned old new n m = plan_says old new n m h in rw p.section_is (start_there n p.change p.heard)
 
 -- ---- the run
 -- where the sizes fit, the words of entry m lie within the shelf

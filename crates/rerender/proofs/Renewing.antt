@@ -114,7 +114,7 @@ recounted-listed s k (suc j) old new h =
       drop_at (entry_of (old 0)) (shelf_of (listed (λ (i : ℕ). old (1 + i)) j)) entry_words (entry_length (old 0)),
       rest,
       ← r.acted,
-      entry-same (old 0) (new 0) r.old-state r.new-state r.same,
+      entry-same (old 0) (new 0) r.old_state r.new-state r.same,
     ) refl
 
 -- ---- the buffers

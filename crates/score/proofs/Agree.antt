@@ -59,18 +59,18 @@ module _ (s t : List ℕ) (os : Sorted s) (ot : Sorted t) (p : ℕ) (found : dif
       (λ g. let low : position_at s i < q = cut.lows i l in
       let w : c ≤ count_of s = cut.inside in
       let e : position_at s d ≤ position_at s i = sorted-le s os d i g (omega arith) in
-      let high : p ≤ position_at s d = bound.high-s (omega arith) in absurd (clash (omega arith))) (lt_or_ge i d)
+      let high : p ≤ position_at s d = bound.high_s (omega arith) in absurd (clash (omega arith))) (lt_or_ge i d)
 
   cut-other : Cut t q c
   cut-other =
-      let in_s : d ≤ count_of s = first.in-s in
-      let in_t : d ≤ count_of t = first.in-t in
+      let in_s : d ≤ count_of s = first.in_s in
+      let in_t : d ≤ count_of t = first.in_t in
       record {
         inside = ⊎_elim (λ l. let u : c - 1 < d = before (c - 1) (omega arith) in omega arith) (λ g. omega arith) (lt_or_ge 0 c);
         lows = λ i l. (let e : position_at s i ≡ position_at t i = same-position s i t i (first.same i (before i l)) in let a : position_at s i < q = cut.lows i l in omega arith);
         highs = λ i a b. ⊎_elim
             (λ l. let e : position_at s i ≡ position_at t i = same-position s i t i (first.same i l) in let u : q ≤ position_at s i = cut.highs i a (omega arith) in omega arith)
-            (λ g. let e : position_at t d ≤ position_at t i = sorted-le t ot d i g b in let u : p ≤ position_at t d = bound.high-t (omega arith) in omega arith)
+            (λ g. let e : position_at t d ≤ position_at t i = sorted-le t ot d i g b in let u : p ≤ position_at t d = bound.high_t (omega arith) in omega arith)
             (lt_or_ge i d);
       }
 
@@ -105,8 +105,8 @@ equal_exactly s t n m a b =
       no_other = λ e. (
           let f : First s t (first_index s t) = first_index_lem s t in
           let ends = equal-ends s t (first_index s t) e in
-          let in_s : first_index s t ≤ count_of s = f.in-s in
-          let in_t : first_index s t ≤ count_of t = f.in-t in
+          let in_s : first_index s t ≤ count_of s = f.in_s in
+          let in_t : first_index s t ≤ count_of t = f.in_t in
           let ls : length s ≡ count_of s * 10 = accepted-length s n a in
           let lt : length t ≡ count_of t * 10 = accepted-length t m b in
           sym (take_all (first_index s t * 10) s (omega (arith, ends.0))) ∙ front_same s t (first_index s t) in_s in_t f.same ∙ take_all (first_index s t * 10) t (omega (arith, ends.1)));

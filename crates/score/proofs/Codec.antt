@@ -115,11 +115,11 @@ tests_right s i m k f =
 module _ (s : List ℕ) (i : ℕ) (r : Right s i) where
   pub right_mark : mark_right s i ≡ true
   unfolding mark_right
-  right_mark = rw (r.mark-one, r.mark-two)
+  right_mark = rw (r.mark_one, r.mark_two)
 
   pub right_kind : kind_right s i ≡ true
   unfolding kind_right
-  right_kind = rw (le-leb _ _ r.kind-low, le-leb _ _ r.kind-high)
+  right_kind = rw (le-leb _ _ r.kind_low, le-leb _ _ r.kind_high)
 
   pub right_fields : fields_right s i ≡ true
   unfolding fields_right
@@ -152,9 +152,9 @@ module _ (s : List ℕ) (i : ℕ) (bytes : Bytes s) (r : Right s i) where
         byte_1 a b c d (small 2) (small 3) (small 4) (small 5),
         byte_2 a b c d (small 2) (small 3) (small 4) (small 5),
         byte_3 a b c d (small 2) (small 3) (small 4) (small 5),
-        byte_of_kind (byte_at s i 6) r.kind-low r.kind-high,
-        r.mark-one,
-        r.mark-two,
+        byte_of_kind (byte_at s i 6) r.kind_low r.kind_high,
+        r.mark_one,
+        r.mark_two,
         r.last,
       )
       refl
@@ -162,7 +162,7 @@ module _ (s : List ℕ) (i : ℕ) (bytes : Bytes s) (r : Right s i) where
   -- the record that is read is valid
   pub valid_record : Valid (record_at s i)
   valid_record =
-      let most : field_limit (byte_at s i 6) ≡ field_limit_of (kind_of (byte_at s i 6)) = most_of_kind (byte_at s i 6) r.kind-low r.kind-high in
+      let most : field_limit (byte_at s i 6) ≡ field_limit_of (kind_of (byte_at s i 6)) = most_of_kind (byte_at s i 6) r.kind_low r.kind_high in
       record {
         position-fits = position_bound s i bytes;
         note-most = rw (← most) r.note-right;

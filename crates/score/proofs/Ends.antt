@@ -168,15 +168,15 @@ module _ (s t : List ℕ) (os : Sorted s) (ot : Sorted t) (ws : length s ≡ cou
       -- record i of t, one of the last d, is record count_of s - suc j of s where j records follow it
       back_position : (i : ℕ) → count_of t ≤ i + d → i < count_of t → position_at s (from_end s (count_of t - suc i)) ≡ position_at t i
       back_position i a b =
-          let in_t : d ≤ count_of t = last.in-t in
+          let in_t : d ≤ count_of t = last.in_t in
           let j = count_of t - suc i in
           let at : count_of t - suc j ≡ i = omega arith in
           same-position s (from_end s j) t (from_end t j) (last.same j (omega arith)) ∙ ap (position_at t) at
 
       cut-other : Cut t q (count_of t - e)
       cut-other =
-          let in_s : d ≤ count_of s = last.in-s in
-          let in_t : d ≤ count_of t = last.in-t in
+          let in_s : d ≤ count_of s = last.in_s in
+          let in_t : d ≤ count_of t = last.in_t in
           let inside : c ≤ count_of s = cut.inside in
           let most : e ≤ d = few in
           record {
@@ -194,8 +194,8 @@ module _ (s t : List ℕ) (os : Sorted s) (ot : Sorted t) (ws : length s ≡ cou
 
       same_above : records_from s q ≡ records_from t q
       same_above =
-          let in_s : d ≤ count_of s = last.in-s in
-          let in_t : d ≤ count_of t = last.in-t in
+          let in_s : d ≤ count_of s = last.in_s in
+          let in_t : d ≤ count_of t = last.in_t in
           let inside : c ≤ count_of s = cut.inside in
           let most : e ≤ d = few in
           let at : count_of s - e ≡ c = omega arith in
@@ -235,7 +235,7 @@ module _ (s t : List ℕ) (os : Sorted s) (ot : Sorted t) (ws : length s ≡ cou
     same_from_lem p found =
         let bound : AtOrAbove s t p d = at_above s t d p found in
         ⊎_elim
-        (λ l. records-same s t q (same_above (λ h. let a = bound.low-s h in omega (arith, a)) (λ h. let a = bound.low-t h in omega (arith, a))) ∙ sym (lt-ltb p q l))
+        (λ l. records-same s t q (same_above (λ h. let a = bound.low_s h in omega (arith, a)) (λ h. let a = bound.low_t h in omega (arith, a))) ∙ sym (lt-ltb p q l))
         (λ g. records-unlike s t q (apart_below p found g) ∙ sym (le-ltb p q g))
         (lt_or_ge p q)
 

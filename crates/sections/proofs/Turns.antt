@@ -112,7 +112,7 @@ module _ (g : Settings) (s : List ℕ) (m : ℕ) (p : Place) (quiet : ℕ) (b : 
 
     module _ (h : sample < length out) where
       begins : sample ≡ k * section_size
-      begins = w.at-section (omega (arith, w.len))
+      begins = w.at_section_lem (omega (arith, w.len))
 
       -- so a number of a sample fits a word
       pub few : length out ≤ most_samples
@@ -126,10 +126,10 @@ module _ (g : Settings) (s : List ℕ) (m : ℕ) (p : Place) (quiet : ℕ) (b : 
       room = omega (arith, begins, room-is.fits, w.len, w.lens)
 
       pub room-magnitudes : k < length magnitudes
-      room-magnitudes = omega (arith, begins, room-is.magnitudes-fit, w.len, w.len-magnitudes)
+      room-magnitudes = omega (arith, begins, room-is.magnitudes-fit, w.len, w.len_magnitudes)
 
       pub room-numbers : k < length numbers
-      room-numbers = omega (arith, begins, room-is.numbers_fit, w.len, w.len-numbers)
+      room-numbers = omega (arith, begins, room-is.numbers_fit, w.len, w.len_numbers)
 
       steps : sample - m * section_size ≡ (k - m) * section_size
       steps = omega (arith, w.past, begins)
@@ -247,12 +247,12 @@ module _ (g : Settings) (s : List ℕ) (m : ℕ) (p : Place) (quiet : ℕ) (b : 
 
         pub turn_largests : magnitudes' ≡ between m (k + 1) b.summary.magnitudes (said_from largest out' m (k + 1 - m))
         turn_largests =
-            said_turn largest out out' m k b.summary.magnitudes magnitudes q.magnitude w.past (omega (arith, room-magnitudes, w.len-magnitudes)) front-stays
+            said_turn largest out out' m k b.summary.magnitudes magnitudes q.magnitude w.past (omega (arith, room-magnitudes, w.len_magnitudes)) front-stays
             w.largests (ap (λ (p : Peak). p.magnitude) turn_peak)
 
         pub turn_firsts : numbers' ≡ between m (k + 1) b.summary.numbers (said_from first_number out' m (k + 1 - m))
         turn_firsts =
-            said_turn first_number out out' m k b.summary.numbers numbers (sample + q.offset) w.past (omega (arith, room-numbers, w.len-numbers)) front-stays
+            said_turn first_number out out' m k b.summary.numbers numbers (sample + q.offset) w.past (omega (arith, room-numbers, w.len_numbers)) front-stays
             w.firsts (ap (λ (i : ℕ). i + q.offset) begins ∙ ap (λ (p : Peak). k * section_size + p.offset) turn_peak)
 
         pub walk_on : Walked g s m p quiet b out' shelf' magnitudes' numbers' r (k + 1) e
@@ -262,8 +262,8 @@ module _ (g : Settings) (s : List ℕ) (m : ℕ) (p : Place) (quiet : ℕ) (b : 
             record {
               len = long ∙ w.len;
               lens = same_len_mid (k * entry_words) entry_words shelf zs (lz ∙ sym (rw d at (mid_len (k * entry_words) (k * entry_words + entry_words) shelf room))) ∙ w.lens;
-              len_magnitudes = length-set magnitudes k q.magnitude ∙ w.len-magnitudes;
-              len_numbers = length-set numbers k (sample + q.offset) ∙ w.len-numbers;
+              len_magnitudes = length-set magnitudes k q.magnitude ∙ w.len_magnitudes;
+              len_numbers = length-set numbers k (sample + q.offset) ∙ w.len_numbers;
               from = omega (arith, w.from, z.after);
               within = omega (arith, z.within, w.len);
               past = omega (arith, w.past);

@@ -109,17 +109,17 @@ decode-encode ws l h =
     let c = word ws 10 in
     let d = word ws 11 in
     rw (
-      float_same (word ws 0) (l 0) n.phase-number,
+      float_same (word ws 0) (l 0) n.phase_number,
       stage_same (word ws 1) (entry_has_stage ws h),
-      float_same (word ws 2) (l 2) n.level-number,
-      float_same (word ws 3) (l 3) n.time-number,
-      float_same (word ws 4) (l 4) n.release-number,
+      float_same (word ws 2) (l 2) n.level_number,
+      float_same (word ws 3) (l 3) n.time_number,
+      float_same (word ws 4) (l 4) n.release_number,
       packed-same p a b c d (l 5),
-      float_same (word ws 6) (l 6) n.frequency-number,
-      float_same (word ws 7) (l 7) n.velocity-number,
+      float_same (word ws 6) (l 6) n.frequency_number,
+      float_same (word ws 7) (l 7) n.velocity_number,
       first-same p a b c d (l 8),
       second-same p a b c d (l 9),
       third-same p a b c d (l 10),
       last-same p a b c d (l 11),
-      float_same (word ws 12) (l 12) n.lfo-number,
+      float_same (word ws 12) (l 12) n.lfo_number,
     ) (thirteen ws (entry-is-long ws h))

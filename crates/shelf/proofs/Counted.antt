@@ -141,7 +141,7 @@ unfolding in_limits
 with_is_state v h n l = in_state (with_acted v n) (state_in v h) (omega arith)
 
 with_fits : (v : State) → Fitting v → (n : ℕ) → Fitting (with_acted v n)
-with_fits v f n = record { phase-fits = f.phase-fits; envelope-fits = f.envelope-fits; frequency-fits = f.frequency-fits; velocity-fits = f.velocity-fits; notes_long = f.notes-long; velocities_long = f.velocities-long; lfo-fits = f.lfo-fits }
+with_fits v f n = record { phase-fits = f.phase-fits; envelope-fits = f.envelope-fits; frequency-fits = f.frequency-fits; velocity-fits = f.velocity-fits; notes_long = f.notes_long; velocities_long = f.velocities_long; lfo-fits = f.lfo-fits }
 
 pub entry-recounted : (ws : List ℕ) → is_entry ws ≡ true → (n : ℕ) → is_entry (with_count ws n) ≡ true
 unfolding is_entry

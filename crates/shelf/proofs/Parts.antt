@@ -31,8 +31,8 @@ all_numbers v h =
     record {
       phase_number = no_nan v.phase.0 f.phase-finite;
       level_number = no_nan v.envelope.level f.envelope-finite.level-finite;
-      time_number = no_nan v.envelope.stage_time f.envelope-finite.time-finite;
-      release_number = no_nan v.envelope.release_level f.envelope-finite.release-finite;
+      time_number = no_nan v.envelope.stage_time f.envelope-finite.time_finite;
+      release_number = no_nan v.envelope.release_level f.envelope-finite.release_finite;
       frequency_number = no_nan v.frequency f.frequency-finite;
       velocity_number = no_nan v.velocity f.velocity-finite;
       lfo_number = no_nan v.lfo.0 f.lfo-finite;

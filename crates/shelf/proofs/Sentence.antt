@@ -75,29 +75,29 @@ sounding_is b g s = go (eqb b 255) refl
     go true e = rw (s.gate-down (eqb-true b 255 e)) tt
     go false e =
         let n = eqb-false b 255 e in
-        and_i (leb b 127) (eqb g 1) (⊎_elim (λ l. le→leb b 127 l) (λ z. absurd (n z)) s.a-note-or-none) (rw (s.gate-up n) tt)
+        and_i (leb b 127) (eqb g 1) (⊎_elim (λ l. le→leb b 127 l) (λ z. absurd (n z)) s.a_note_or_none) (rw (s.gate-up n) tt)
 
 -- ---- the whole
 pub entry-says : (ws : List ℕ) → is_entry ws ≡ true → Sentence ws
 unfolding state_of
 entry-says ws h =
     let w = in_kept (state_of ws) (state_in (state_of ws) (entry-is_state ws h)) in
-    let i = is-inside (state_of ws).envelope w.envelope-in in
+    let i = is-inside (state_of ws).envelope w.envelope_in_lem in
     let k = (state_of ws).keys in
     record {
       thirteen-words = entry-is-long ws h;
-      phase_in = w.phase-in;
+      phase_in = w.phase_in;
       stage_in = entry_has_stage ws h;
       level_in = i.level_in;
-      time_in = i.time-in;
-      release_in = i.release-in;
+      time_in = i.time_in;
+      release_in = i.release_in;
       sounding = says_sounding (word ws 5 % 256) (word ws 5 / 256 % 2) (omega arith) (keys_sound k w.keys_in);
       held_in = keys-few k w.keys_in;
-      frequency_in = w.pitch-in;
-      velocity_in_lem = w.velocity-in;
+      frequency_in = w.pitch_in;
+      velocity_in_lem = w.velocity_in_lem;
       notes_in = keys_notes k w.keys_in;
       velocities_in = keys_velocities k w.keys_in;
-      lfo_in = w.lfo-in;
+      lfo_in = w.lfo_in;
     }
 
 pub says-entry : (ws : List ℕ) → word ws 5 < beyond → Sentence ws → is_entry ws ≡ true
@@ -105,18 +105,18 @@ unfolding is_entry state_of
 says-entry ws l s =
     let p = word ws 5 in
     let k = keys_in p (word ws 8) (word ws 9) (word ws 10) (word ws 11) in
-    let keys : T (is_keys k) = keys_are k (sounding_is (p % 256) (p / 256 % 2) s.sounding) s.held_in s.notes-in s.velocities-in in
+    let keys : T (is_keys k) = keys_are k (sounding_is (p % 256) (p / 256 % 2) s.sounding) s.held_in s.notes_in s.velocities_in in
     let limits =
     kept_in_lem (state_of ws)
     (record {
-      phase_in = s.phase-in;
-      envelope_in_lem = accepted (state_of ws).envelope (record { level_in = s.level_in; release_in = s.release-in; time_in = s.time-in });
-      pitch_in = s.frequency-in;
-      velocity_in_lem = s.velocity-in;
+      phase_in = s.phase_in;
+      envelope_in_lem = accepted (state_of ws).envelope (record { level_in = s.level_in; release_in = s.release_in; time_in = s.time_in });
+      pitch_in = s.frequency_in;
+      velocity_in_lem = s.velocity_in_lem;
       keys_in = keys;
-      lfo_in = s.lfo-in;
+      lfo_in = s.lfo_in;
     }) in
     let state = from-true (is_state (state_of ws)) (in_state (state_of ws) limits (omega arith)) in
     is_true (is_entry ws)
     (and_i (eqb (length ws) entry_words && leb (word ws 1) 4) (is_state (state_of ws))
-    (and_i (eqb (length ws) entry_words) (leb (word ws 1) 4) (rw s.thirteen-words tt) (le→leb (word ws 1) 4 s.stage-in)) state)
+    (and_i (eqb (length ws) entry_words) (leb (word ws 1) 4) (rw s.thirteen-words tt) (le→leb (word ws 1) 4 s.stage_in)) state)

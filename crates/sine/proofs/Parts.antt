@@ -112,7 +112,7 @@ module _ (p : Float) (h : T (within zero64 steps p)) where
 
     -- the exponent's field is that of 1 or more, and at most 1,074, so that the shift down is by 1 bit or more
     pub field_ge : emax binary64 ≤ field
-    field_ge = fields.field-ge binary64 p w above 0 at_least
+    field_ge = fields.field_ge binary64 p w above 0 at_least
 
     pub field_le : field ≤ low binary64
     field_le = nat.le_trans (nat.le_of_lt (fields.field_lt binary64 p w above 13 (room (num p) (den p) (den_pos p) at_most_lem))) (lit≤ tt)

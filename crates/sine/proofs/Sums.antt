@@ -61,6 +61,9 @@ naught_whole = record { ends = tt; plain = refl; sign = tt; is = refl }
 
 unsigned : (x : Float) → T (positive x) → signed x ≡ false
 unsigned (fin false m e) q = refl
+unsigned nan q = elim q [ ]
+unsigned (inf _) q = elim q [ ]
+unsigned (fin true m e) q = elim q [ ]
 
 -- the difference of two is exact
 minus_is : (a b c : ℕ) → b ≤ a → sum binary64 false a true b c ≡ round binary64 false (a - b) c
@@ -85,7 +88,7 @@ whole-less x y b k v w =
 -- the digits are the number above 2^52
 digits_are : (x : Float) → T (fits binary64 x) → T (positive x) → 2 ^ 52 * den x ≤ num x → num x < 2 ^ 53 * den x → num x ≡ (2 ^ 52 + to_bits binary64 x % hid binary64) * den x
 digits_are x w p from to =
-    let e : to_bits binary64 x / hid binary64 ≡ 1075 = nat.le_antisymm (nat.le_of_suc-le-suc (fields.field_lt binary64 x w p 53 to)) (fields.field-ge binary64 x w p 52 from) in
+    let e : to_bits binary64 x / hid binary64 ≡ 1075 = nat.le_antisymm (nat.le_of_suc-le-suc (fields.field_lt binary64 x w p 53 to)) (fields.field_ge binary64 x w p 52 from) in
     cancel (num x) (den x) (to_bits binary64 x % hid binary64) (2 ^ 1074) (pow_pos 1074) (rw e at (fields.crossed binary64 x w p))
   where
     cancel : (a c t u : ℕ) → 0 < u → a * u ≡ (2 ^ 52 + t) * u * c → a ≡ (2 ^ 52 + t) * c

@@ -156,11 +156,11 @@ module _ (g : Settings) (P : Float → Type 0) (v : State) (k : Kept P v) (w : V
   voice_in =
       is_true (is_voice w)
       (and_i (is_keys w.keys && is_loud w.velocity) (is_pitch binary32 w.frequency)
-      (and_i (is_keys w.keys) (is_loud w.velocity) (rw a.keys at k.keys_in) (rw (a.velocity, same-zero, same-one) at k.velocity-in))
-      (rw (a.frequency, same-zero, same-top) at k.pitch-in))
+      (and_i (is_keys w.keys) (is_loud w.velocity) (rw a.keys at k.keys_in) (rw (a.velocity, same-zero, same-one) at k.velocity_in_lem))
+      (rw (a.frequency, same-zero, same-top) at k.pitch_in))
 
   block_in : is_envelope b.envelope ≡ true
-  block_in = is_true (is_envelope b.envelope) (rw a.envelope at k.envelope-in)
+  block_in = is_true (is_envelope b.envelope) (rw a.envelope at k.envelope_in_lem)
 
   pub calls_done : (e : Event) → EventIn e → ((voice_call w e).answer ≡ Done 0) × ((envelope_call g w b e).answer ≡ Done 0)
   calls_done (event.Strike note velocity) h = (rw (voice_in, le-leb note 127 h.0, le-leb velocity 127 h.1) refl, go (not (skips_on g.keying w)))

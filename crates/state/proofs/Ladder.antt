@@ -44,7 +44,7 @@ rung_near j =
     (record { p_fits = of_bits-fits binary64 0x4024_0000_0000_0000; p_nonneg = ten-nonneg; p_le = unfold of_bits in unfold le in tt }) j
 
 pub rung_nonneg : (j : ℕ) → T (nonneg (ladder j))
-rung_nonneg j = (rung_near j).p-nonneg
+rung_nonneg j = (rung_near j).p_nonneg
 
 -- a later bound is not lower
 pub rungs_rise : (i j : ℕ) → i ≤ j → T (le (ladder i) (ladder j))
@@ -52,7 +52,7 @@ unfolding run phase_from
 rungs_rise i zero h = let z : i ≡ 0 = omega arith in rw z (unfold of_bits in unfold le in tt)
 rungs_rise i (suc j) h =
     ⊎_elim (λ e. rw e (fle_refl (ladder (suc j)) (nonneg→finite (ladder (suc j)) (rung_nonneg (suc j)))))
-    (λ l. fle_trans (ladder i) (ladder j) (ladder j ⊕ ten) (rungs_rise i j (le_of_suc-le-suc l)) (add_grows binary64 (ladder j) ten (rung_near j).p-fits (rung_nonneg j) ten-nonneg)) (eq-or-lt_of_le h)
+    (λ l. fle_trans (ladder i) (ladder j) (ladder j ⊕ ten) (rungs_rise i j (le_of_suc-le-suc l)) (add_grows binary64 (ladder j) ten (rung_near j).p_fits (rung_nonneg j) ten-nonneg)) (eq-or-lt_of_le h)
 
 -- the highest bound that is needed
 last_below_lem : T (lt (ladder 64) thousand)

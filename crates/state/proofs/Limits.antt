@@ -67,7 +67,7 @@ PhaseIn x = T (is_radians x)
 
 pub weaken : (P Q : Float → Type 0) (v : State) → ((x : Float) → P x → Q x) → Kept P v → Kept Q v
 weaken P Q v f k =
-    record { phase_in = f v.phase.0 k.phase-in; envelope_in_lem = k.envelope-in; pitch_in = k.pitch-in; velocity_in_lem = k.velocity-in; keys_in = k.keys_in; lfo_in = f v.lfo.0 k.lfo-in }
+    record { phase_in = f v.phase.0 k.phase_in; envelope_in_lem = k.envelope_in_lem; pitch_in = k.pitch_in; velocity_in_lem = k.velocity_in_lem; keys_in = k.keys_in; lfo_in = f v.lfo.0 k.lfo_in }
 
 module _ (v : State) where
   abbrev phased : Bool
@@ -112,9 +112,9 @@ module _ (v : State) where
       is_true (in_limits v)
       (and_i (phased && shaped && pitched && loud && keyed) swaying
       (and_i (phased && shaped && pitched && loud) keyed
-      (and_i (phased && shaped && pitched) loud (and_i (phased && shaped) pitched (and_i phased shaped k.phase-in k.envelope-in) k.pitch-in) k.velocity-in)
+      (and_i (phased && shaped && pitched) loud (and_i (phased && shaped) pitched (and_i phased shaped k.phase_in k.envelope_in_lem) k.pitch_in) k.velocity_in_lem)
       k.keys_in)
-      k.lfo-in)
+      k.lfo_in)
 
   -- a state passes the test if it is within the limits and its number of records acted fits in 48 bits
   pub state_in : is_state v ≡ true → in_limits v ≡ true
@@ -159,11 +159,11 @@ loud_nonneg x h = under x one (le→ge0 x (from_literal x (and_l (le zero64 x) (
 pub kept-finite : (P : Float → Type 0) (v : State) → ((x : Float) → P x → T (nonneg x)) → Kept P v → AllFinite v
 kept-finite P v f k =
     record {
-      phase-finite = nonneg→finite v.phase.0 (f v.phase.0 k.phase-in);
-      frequency-finite = nonneg→finite v.frequency (pitch_nonneg v.frequency k.pitch-in);
-      velocity-finite = nonneg→finite v.velocity (loud_nonneg v.velocity k.velocity-in);
-      envelope-finite = finite_fields v.envelope k.envelope-in;
-      lfo-finite = nonneg→finite v.lfo.0 (f v.lfo.0 k.lfo-in);
+      phase-finite = nonneg→finite v.phase.0 (f v.phase.0 k.phase_in);
+      frequency-finite = nonneg→finite v.frequency (pitch_nonneg v.frequency k.pitch_in);
+      velocity-finite = nonneg→finite v.velocity (loud_nonneg v.velocity k.velocity_in_lem);
+      envelope-finite = finite_fields v.envelope k.envelope_in_lem;
+      lfo-finite = nonneg→finite v.lfo.0 (f v.lfo.0 k.lfo_in);
     }
 
 pub in_finite : (v : State) → in_limits v ≡ true → AllFinite v
@@ -196,7 +196,7 @@ pitch_in_limits : (n : ℕ) → n ≤ 127 → T (is_pitch binary64 (frequency_of
 pitch_in_limits n h = frequency_in n (omega arith)
 
 loudness_in : (v : ℕ) → v ≤ 127 → T (within zero64 one (velocity_of v))
-loudness_in v h = go (loudness.velocity-in v h)
+loudness_in v h = go (loudness.velocity_in_lem v h)
   where
     go : T (within (zero_of binary32) (one_of binary32) (velocity_of v)) → T (within zero64 one (velocity_of v))
     go t = rw (zero_of-is binary64, one_of-is binary64) (rw (zero_of-is binary32, one_of-is binary32) at t)
@@ -238,24 +238,24 @@ accepted_events s m a i h =
 -- an event keeps the limits, and a property of the phases that is true of 0
 module _ (g : Settings) (P : Float → Type 0) (p : P zero64) (v : State) (k : Kept P v) where
   lift_keeps : (l : Keys) (off : NoteOff) → T (is_keys l) → BackRanged off → Kept P (after_note_off v l off)
-  lift_keeps l Released h b = record { phase_in = k.phase-in; envelope_in_lem = released_keeps v.envelope k.envelope-in; pitch_in = k.pitch-in; velocity_in_lem = k.velocity-in; keys_in = h; lfo_in = k.lfo-in }
-  lift_keeps l (FellBack n w) h b = record { phase_in = k.phase-in; envelope_in_lem = k.envelope-in; pitch_in = pitch_in_limits n b.0; velocity_in_lem = loudness_in w b.1; keys_in = h; lfo_in = k.lfo-in }
-  lift_keeps l NoChange h b = record { phase_in = k.phase-in; envelope_in_lem = k.envelope-in; pitch_in = k.pitch-in; velocity_in_lem = k.velocity-in; keys_in = h; lfo_in = k.lfo-in }
+  lift_keeps l Released h b = record { phase_in = k.phase_in; envelope_in_lem = released_keeps v.envelope k.envelope_in_lem; pitch_in = k.pitch_in; velocity_in_lem = k.velocity_in_lem; keys_in = h; lfo_in = k.lfo_in }
+  lift_keeps l (FellBack n w) h b = record { phase_in = k.phase_in; envelope_in_lem = k.envelope_in_lem; pitch_in = pitch_in_limits n b.0; velocity_in_lem = loudness_in w b.1; keys_in = h; lfo_in = k.lfo_in }
+  lift_keeps l NoChange h b = record { phase_in = k.phase_in; envelope_in_lem = k.envelope_in_lem; pitch_in = k.pitch_in; velocity_in_lem = k.velocity_in_lem; keys_in = h; lfo_in = k.lfo_in }
 
   triggered_if_keeps : (t : Bool) → T (is_envelope (triggered_if t v.envelope))
-  triggered_if_keeps true = triggered_keeps v.envelope k.envelope-in
-  triggered_if_keeps false = k.envelope-in
+  triggered_if_keeps true = triggered_keeps v.envelope k.envelope_in_lem
+  triggered_if_keeps false = k.envelope_in_lem
 
   pub act_keeps : (e : Event) → EventIn e → Kept P (act_of g v e)
   unfolding act_of
   act_keeps (event.Strike n w) h =
       record {
-        phase_in = k.phase-in;
+        phase_in = k.phase_in;
         envelope_in_lem = triggered_if_keeps (triggers g v);
         pitch_in = pitch_in_limits n h.0;
         velocity_in_lem = loudness_in w h.1;
         keys_in = pressed_keeps v.keys n w k.keys_in h.0 h.1;
-        lfo_in = k.lfo-in;
+        lfo_in = k.lfo_in;
       }
   act_keeps (event.Lift n) h = let l = lifted_keeps v.keys n k.keys_in in lift_keeps (lifted_of v.keys n).keys (lifted_of v.keys n).off l.within l.back
   act_keeps event.Reset h = fresh_keeps P p _

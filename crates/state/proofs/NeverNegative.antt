@@ -31,10 +31,10 @@ module _ (g : Settings) (ok : settings_ok g ≡ true) (w : T (fits binary64 g.ad
   module _ (n : ℕ) (v : State) (l : in_limits v ≡ true) where
     -- before every sample, and a phase is reduced at no other moment
     pub phase_nonnegative : (k : ℕ) → T (nonneg (state_from g s n v k).phase.0)
-    phase_nonnegative k = (others-kept g ok w s m a n v l k).phase-in.not_negative
+    phase_nonnegative k = (others-kept g ok w s m a n v l k).phase_in.not_negative
 
     pub lfo_nonnegative : (k : ℕ) → T (nonneg (state_from g s n v k).lfo.0)
-    lfo_nonnegative k = (others-kept g ok w s m a n v l k).lfo-in.not_negative
+    lfo_nonnegative k = (others-kept g ok w s m a n v l k).lfo_in.not_negative
 
     reduces_same : (k : ℕ) → reduced_of (state_from g s n v k) ≡ branching_of (state_from g s n v k)
     reduces_same k =

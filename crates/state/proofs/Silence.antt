@@ -46,7 +46,7 @@ module _ (g : Settings) (ok : settings_ok g ≡ true) (w : T (fits binary64 g.ad
       let e = next_envelope_of g v in
       let level = within zero64 one e.level in
       let release = within zero64 one e.release_level in
-      and_l level release (and_l (level && release) (within zero64 eleven e.stage_time) (step_keeps g.adsr g.rate v.envelope (adsr_in g ok w) w (rate_in g ok w) k.envelope-in))
+      and_l level release (and_l (level && release) (within zero64 eleven e.stage_time) (step_keeps g.adsr g.rate v.envelope (adsr_in g ok w) w (rate_in g ok w) k.envelope_in_lem))
 
   -- the oscillator's value times the level
   abbrev loudness : Float
@@ -54,18 +54,18 @@ module _ (g : Settings) (ok : settings_ok g ≡ true) (w : T (fits binary64 g.ad
 
   loudness_size : Size ceiling loudness
   loudness_size =
-      scaled-size ceiling _ _ ceiling-fits (wave_size g.waveform (phase_step_of g v) v.phase.0 (waveform_in g ok w) f.phase-fits k.phase-in (phase-step_in g ok w v k.pitch-in)) level_in
+      scaled-size ceiling _ _ ceiling-fits (wave_size g.waveform (phase_step_of g v) v.phase.0 (waveform_in g ok w) f.phase-fits k.phase_in (phase-step_in g ok w v k.pitch_in)) level_in
 
   dry-size : Size ceiling (dry_of g v)
   unfolding dry_of
-  dry-size = scaled-size ceiling loudness v.velocity ceiling-fits loudness_size k.velocity-in
+  dry-size = scaled-size ceiling loudness v.velocity ceiling-fits loudness_size k.velocity_in_lem
 
   -- the LFO's value, and the factor
   abbrev swing : Float
   swing = value_at g.lfo.waveform (lfo_step_of g) v.lfo.0
 
   swing_size : Size ceiling swing
-  swing_size = wave_size g.lfo.waveform (lfo_step_of g) v.lfo.0 (lfo_waveform g.lfo (lfo_in g ok w)) f.lfo-fits k.lfo-in (lfo-step_in g ok w)
+  swing_size = wave_size g.lfo.waveform (lfo_step_of g) v.lfo.0 (lfo_waveform g.lfo (lfo_in g ok w)) f.lfo-fits k.lfo_in (lfo-step_in g ok w)
 
   abbrev factor : Float
   factor = factor_of g.lfo.depth (lfo_at g.lfo (lfo_step_of g) v.lfo.0)

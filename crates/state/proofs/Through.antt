@@ -32,7 +32,7 @@ use Rattle.state.proofs.Ladder.{pace_le, pace_nonneg}
 -- ---- the steps
 pub reduced_keeps : (P Q : Float → Type 0) (v : State) → ((x : Float) → P x → Q (remainder_of x)) → Kept P v → Kept Q (reduced_of v)
 reduced_keeps P Q v f k =
-    record { phase_in = f v.phase.0 k.phase-in; envelope_in_lem = k.envelope-in; pitch_in = k.pitch-in; velocity_in_lem = k.velocity-in; keys_in = k.keys_in; lfo_in = f v.lfo.0 k.lfo-in }
+    record { phase_in = f v.phase.0 k.phase_in; envelope_in_lem = k.envelope_in_lem; pitch_in = k.pitch_in; velocity_in_lem = k.velocity_in_lem; keys_in = k.keys_in; lfo_in = f v.lfo.0 k.lfo_in }
 
 -- an advance
 module _ (g : Settings) (ok : settings_ok g ≡ true) (w : T (fits binary64 g.adsr.sustain)) where
@@ -73,12 +73,12 @@ module _ (g : Settings) (ok : settings_ok g ≡ true) (w : T (fits binary64 g.ad
   unfolding advance_of
   advance_keeps P Q v f k =
       record {
-        phase_in = let s = phase-step_in v k.pitch-in in f v.phase.0 (phase_step_of g v) s.0 s.1 k.phase-in;
-        envelope_in_lem = step_keeps g.adsr g.rate v.envelope adsr_in w rate_in k.envelope-in;
-        pitch_in = k.pitch-in;
-        velocity_in_lem = k.velocity-in;
+        phase_in = let s = phase-step_in v k.pitch_in in f v.phase.0 (phase_step_of g v) s.0 s.1 k.phase_in;
+        envelope_in_lem = step_keeps g.adsr g.rate v.envelope adsr_in w rate_in k.envelope_in_lem;
+        pitch_in = k.pitch_in;
+        velocity_in_lem = k.velocity_in_lem;
         keys_in = k.keys_in;
-        lfo_in = f v.lfo.0 (lfo_step_of g) lfo-step_in.0 lfo-step_in.1 k.lfo-in;
+        lfo_in = f v.lfo.0 (lfo_step_of g) lfo-step_in.0 lfo-step_in.1 k.lfo_in;
       }
 
 -- ---- consecutive samples

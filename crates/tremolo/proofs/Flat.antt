@@ -99,4 +99,4 @@ module _ (l : Lfo) (step p : Float) (w : T (fits binary64 l.depth)) (f : T (fits
       let near = phase-near step p step-nonneg step-le start_near k in
       flat_factor l.depth (zero_is l.depth w (and_l flat waved (and_l (flat && waved) stepped first_tests)))
       (value_at l.waveform step (phase_from step p k))
-      (size-finite ceiling (value_at l.waveform step (phase_from step p k)) (value_at-size l.waveform step (phase_from step p k) shaped near.p-fits near.p-nonneg (step_in step step-nonneg step-le)))
+      (size-finite ceiling (value_at l.waveform step (phase_from step p k)) (value_at-size l.waveform step (phase_from step p k) shaped near.p_fits near.p_nonneg (step_in step step-nonneg step-le)))

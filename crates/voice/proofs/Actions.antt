@@ -139,6 +139,6 @@ lifted_keeps k n t = by_cases k n LiftKept same none back
         let q = last_ranged p ps r in
         let g = gate-up k.active k.gate n (keys_sound k t) e in
         record {
-          within = holds_limits (Note (last_of p ps).note) k.gate (p ∷ ps) (and_i (leb (last_of p ps).note 127) k.gate (le→leb (last_of p ps).note 127 q.note-in) g) (rw h at few) r;
-          back = (q.note-in, q.velocity-in);
+          within = holds_limits (Note (last_of p ps).note) k.gate (p ∷ ps) (and_i (leb (last_of p ps).note 127) k.gate (le→leb (last_of p ps).note 127 q.note_in) g) (rw h at few) r;
+          back = (q.note_in, q.velocity_in_lem);
         }

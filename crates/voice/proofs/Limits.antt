@@ -105,13 +105,13 @@ unused-zero k i t h = (past k.count i k.notes (notes_in k t) h, past k.count i k
 notes_at_most : (ps : List Pair) → AllRanged ps → T (at_most 127 (map note_of ps))
 unfolding at_most AllRanged
 notes_at_most [] r = tt
-notes_at_most (p ∷ ps) r = and_i (leb p.note 127) (at_most 127 (map note_of ps)) (le→leb p.note 127 r.0.note-in) (notes_at_most ps r.1)
+notes_at_most (p ∷ ps) r = and_i (leb p.note 127) (at_most 127 (map note_of ps)) (le→leb p.note 127 r.0.note_in) (notes_at_most ps r.1)
 
 velocities_at_most : (ps : List Pair) → AllRanged ps → T (at_most 127 (map velocity_in ps))
 unfolding at_most AllRanged
 velocities_at_most [] r = tt
 velocities_at_most (p ∷ ps) r =
-    and_i (leb p.velocity 127) (at_most 127 (map velocity_in ps)) (le→leb p.velocity 127 r.0.velocity-in) (velocities_at_most ps r.1)
+    and_i (leb p.velocity 127) (at_most 127 (map velocity_in ps)) (le→leb p.velocity 127 r.0.velocity_in_lem) (velocities_at_most ps r.1)
 
 padded-filled : (xs : List ℕ) (c : ℕ) → length xs ≡ c → T (at_most 127 xs) → T (is_filled c (padded xs))
 padded-filled xs c h t =

@@ -42,7 +42,7 @@ module _ (n : ℕ) (ns₀ vs₀ : List ℕ) (hn : length ns₀ ≡ 16) (hv : len
   -- the pair that was held at i is the one at i now
   here : i < c → get_or held i unused ≡ record { note = get_or ns i 0; velocity = get_or vs i 0 }
   here h =
-      rw (pairs-at i (take c ns₀) (take c vs₀) (is_held h), get_or-take c ns₀ i 0 h, get_or-take c vs₀ i 0 h, w.notes-ahead i (omega arith), w.velocities-ahead i (omega arith)) refl
+      rw (pairs-at i (take c ns₀) (take c vs₀) (is_held h), get_or-take c ns₀ i 0 h, get_or-take c vs₀ i 0 h, w.notes_ahead i (omega arith), w.velocities_ahead i (omega arith)) refl
 
   -- a pair of n is left behind
   pub walk_drops : i < c → get_or ns i 0 ≡ n → Walks n ns₀ vs₀ c ns vs k (i + 1)
@@ -51,11 +51,11 @@ module _ (n : ℕ) (ns₀ vs₀ : List ℕ) (hn : length ns₀ ≡ 16) (hv : len
         behind = omega (arith, w.behind);
         inside = omega arith;
         few = w.few;
-        notes_long = w.notes-long;
-        velocities_long = w.velocities-long;
+        notes_long = w.notes_long;
+        velocities_long = w.velocities_long;
         kept = rw (add-one i) (w.kept ∙ sym (others_drops n i held (is_held h) (ap note_of (here h) ∙ e)));
-        notes_ahead = λ j l. w.notes-ahead j (omega arith);
-        velocities_ahead = λ j l. w.velocities-ahead j (omega arith);
+        notes_ahead = λ j l. w.notes_ahead j (omega arith);
+        velocities_ahead = λ j l. w.velocities_ahead j (omega arith);
       }
 
   -- a pair of another note moves down to the place k
@@ -67,11 +67,11 @@ module _ (n : ℕ) (ns₀ vs₀ : List ℕ) (hn : length ns₀ ≡ 16) (hv : len
         behind = omega (arith, w.behind);
         inside = omega arith;
         few = w.few;
-        notes_long = length-set ns k (get_or ns i 0) ∙ w.notes-long;
-        velocities_long = length-set vs k (get_or vs i 0) ∙ w.velocities-long;
-        kept = rw (add-one i, more, here h, ← w.kept) (first-pushed ns vs w.notes-long w.velocities-long k (get_or ns i 0) (get_or vs i 0) low);
-        notes_ahead = λ j l. get_or-set_other ns k j (get_or ns i 0) 0 (λ q. omega (arith, w.behind)) ∙ w.notes-ahead j (omega arith);
-        velocities_ahead = λ j l. get_or-set_other vs k j (get_or vs i 0) 0 (λ q. omega (arith, w.behind)) ∙ w.velocities-ahead j (omega arith);
+        notes_long = length-set ns k (get_or ns i 0) ∙ w.notes_long;
+        velocities_long = length-set vs k (get_or vs i 0) ∙ w.velocities_long;
+        kept = rw (add-one i, more, here h, ← w.kept) (first-pushed ns vs w.notes_long w.velocities_long k (get_or ns i 0) (get_or vs i 0) low);
+        notes_ahead = λ j l. get_or-set_other ns k j (get_or ns i 0) 0 (λ q. omega (arith, w.behind)) ∙ w.notes_ahead j (omega arith);
+        velocities_ahead = λ j l. get_or-set_other vs k j (get_or vs i 0) 0 (λ q. omega (arith, w.behind)) ∙ w.velocities_ahead j (omega arith);
       }
 
   -- at the end the first k pairs are those kept of all that were held

@@ -96,7 +96,7 @@ module _ (step p : Float) (s : T (nonneg step)) (l : T (le step sixteen)) (h : N
   -- 2^60 + 16 rounds to 2^60
   grown-le : (q : Float) → Near q → T (le (q ⊕ step) far)
   grown-le q n =
-      fle_trans (q ⊕ step) (far ⊕ sixteen) far (add-mono binary64 q far step sixteen n.p-nonneg (unfold of_bits in tt) s (unfold of_bits in tt) n.p-le l)
+      fle_trans (q ⊕ step) (far ⊕ sixteen) far (add-mono binary64 q far step sixteen n.p_nonneg (unfold of_bits in tt) s (unfold of_bits in tt) n.p_le l)
       (unfold of_bits in unfold add in unfold le in tt)
 
   pub phase-near : (k : ℕ) → Near (phase_from step p k)
@@ -104,7 +104,7 @@ module _ (step p : Float) (s : T (nonneg step)) (l : T (le step sixteen)) (h : N
   phase-near = repeated_keeps (λ (q : Float). q ⊕ step) p Near grown h
     where
       grown : (q : Float) → Near q → Near (q ⊕ step)
-      grown q n = record { p_fits = add-fits binary64 q step; p_nonneg = under (q ⊕ step) far (add-ge0 binary64 q step n.p-nonneg s) (unfold of_bits in tt) (grown-le q n); p_le = grown-le q n }
+      grown q n = record { p_fits = add-fits binary64 q step; p_nonneg = under (q ⊕ step) far (add-ge0 binary64 q step n.p_nonneg s) (unfold of_bits in tt) (grown-le q n); p_le = grown-le q n }
 
 -- ---- samples
 module _ (w : Waveform) (step scale p : Float) (c : T (is_waveform w)) (s : T (nonneg step)) (l : T (le step sixteen)) (d : T (within zero64 four (step ⊗ inv_tau))) (t : T (within zero64 one scale)) (h : Near p) where
@@ -112,4 +112,4 @@ module _ (w : Waveform) (step scale p : Float) (c : T (is_waveform w)) (s : T (n
   samples-finite i n lt =
       let q = phase_from step p i in
       let near = phase-near step p s l h i in
-      rw (sample_at_lem (value_at w step) step scale p i n lt) (size-finite ceiling (value_at w step q ⊗ scale) (scaled-size ceiling (value_at w step q) scale ceiling-fits (value_at-size w step q c near.p-fits near.p-nonneg d) t))
+      rw (sample_at_lem (value_at w step) step scale p i n lt) (size-finite ceiling (value_at w step q ⊗ scale) (scaled-size ceiling (value_at w step q) scale ceiling-fits (value_at-size w step q c near.p_fits near.p_nonneg d) t))

@@ -23,10 +23,10 @@ pub shape_of-shelf-then-is_stop : goal.shape_of-shelf-then-is_stop
 shape_of-shelf-then-is_stop c = c.loop-sample.invariant.lens
 
 pub shape_of-magnitudes-then-is_stop : goal.shape_of-magnitudes-then-is_stop
-shape_of-magnitudes-then-is_stop c = c.loop-sample.invariant.len-magnitudes
+shape_of-magnitudes-then-is_stop c = c.loop-sample.invariant.len_magnitudes
 
 pub shape_of-numbers-then-is_stop : goal.shape_of-numbers-then-is_stop
-shape_of-numbers-then-is_stop c = c.loop-sample.invariant.len-numbers
+shape_of-numbers-then-is_stop c = c.loop-sample.invariant.len_numbers
 
 pub returns-then-is_stop : goal.returns-then-is_stop
 returns-then-is_stop c = let pre = c.requires in walk_stop _ _ _ _ _ _ pre.0 pre.1 _ _ _ _ _ _ _ c.loop-sample.invariant c.loop-sample-test.true (sym c.is_stop.ensures ∙ c.if-is_stop.true)
@@ -70,10 +70,10 @@ pub shape_of-shelf : goal.shape_of-shelf
 shape_of-shelf c = c.loop-sample.invariant.lens
 
 pub shape_of-magnitudes : goal.shape_of-magnitudes
-shape_of-magnitudes c = c.loop-sample.invariant.len-magnitudes
+shape_of-magnitudes c = c.loop-sample.invariant.len_magnitudes
 
 pub shape_of-numbers : goal.shape_of-numbers
-shape_of-numbers c = c.loop-sample.invariant.len-numbers
+shape_of-numbers c = c.loop-sample.invariant.len_numbers
 
 pub returns : goal.returns
 returns c = let pre = c.requires in walk_last _ _ _ _ _ _ pre.0 pre.1 _ _ _ _ _ _ _ c.loop-sample.invariant c.loop-sample-test.false

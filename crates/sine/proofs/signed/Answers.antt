@@ -34,13 +34,13 @@ pub overflow_sub-result : goal.overflow_sub-result
 overflow_sub-result c = rw (is-self c.args.size (search rules), negated c.args.size) (room c.args.size (search rules))
 
 pub int_to_float-result : goal.int_to_float-result
-int_to_float-result c = let n = c.args.size in let h = search rules in rw (is-self n h, negated n, to_z-of_z (room n h)) (kept-negated n h)
+int_to_float-result c = let n = c.args.size in let h : n < 4294967296 = search rules in rw (is-self n h, negated n, to_z-of_z (room n h)) (kept-negated n h)
 
 pub int_to_float-result-else-negative : goal.int_to_float-result-else-negative
-int_to_float-result-else-negative c = let n = c.args.size in let h = search rules in rw (is-self n h) (kept n h)
+int_to_float-result-else-negative c = let n = c.args.size in let h : n < 4294967296 = search rules in rw (is-self n h) (kept n h)
 
 pub returns-then-negative : goal.returns-then-negative
-returns-then-negative c = let n = c.args.size in let h = search rules in rw (c.if-negative.true, is-self n h, negated n, to_z-of_z (room n h)) refl
+returns-then-negative c = let n = c.args.size in let h : n < 4294967296 = search rules in rw (c.if-negative.true, is-self n h, negated n, to_z-of_z (room n h)) refl
 
 pub returns-else-negative : goal.returns-else-negative
 returns-else-negative c = let n = c.args.size in rw (c.if-negative.false, is-self n (search rules)) refl
