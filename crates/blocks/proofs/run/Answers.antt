@@ -13,7 +13,7 @@ returns-then-not-is_tone c = let a = c.args in argument_refused a.tone a.highest
     (rw (← c.is_tone.ensures) (no c.is_tone.result c.if-not-is_tone.true-raw))
 
 pub returns : goal.returns
-returns c = let a = c.args in run-done a.tone a.highest a.rate a.out.now c.increment-step.result c.fill-last.result c.reduced-after.result c.fill-last.new.0
+returns c = let a = c.args in run-done a.tone a.highest a.rate a.out.now c.increment-step.result c.fill-last.result c.reduced-after.result c.fill-last.new.out
     (rw (← c.is_rate.ensures, ← c.is_waveform.ensures) (yes (c.is_rate.result && c.is_waveform.result) c.if-not-is_rate-is_waveform.false-raw))
     (rw (← c.is_tone.ensures) (yes c.is_tone.result c.if-not-is_tone.false-raw))
     c.increment-step.ensures c.fill-last.ensures c.reduced-after.ensures

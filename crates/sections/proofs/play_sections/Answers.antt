@@ -14,7 +14,7 @@ pub loop-sample-init : goal.loop-sample-init
 loop-sample-init c = walk_first _ _ _ _ _ _ c.requires.numbers_value c.requires.section_bound
 
 pub slice_bounds-is_stop-end : goal.slice_bounds-is_stop-end
-slice_bounds-is_stop-end c = let pre = c.requires in room _ _ _ _ _ _ pre.0 pre.1 _ _ _ _ _ _ _ c.loop-sample.invariant c.loop-sample-test.true
+slice_bounds-is_stop-end c = let pre = c.requires in room _ _ _ _ _ _ pre.numbers_value pre.section_bound _ _ _ _ _ _ _ c.loop-sample.invariant c.loop-sample-test.true
 
 pub shape_of-out-then-is_stop : goal.shape_of-out-then-is_stop
 shape_of-out-then-is_stop c = c.loop-sample.invariant.len
@@ -29,39 +29,39 @@ pub shape_of-numbers-then-is_stop : goal.shape_of-numbers-then-is_stop
 shape_of-numbers-then-is_stop c = c.loop-sample.invariant.len_numbers
 
 pub returns-then-is_stop : goal.returns-then-is_stop
-returns-then-is_stop c = let pre = c.requires in walk_stop _ _ _ _ _ _ pre.0 pre.1 _ _ _ _ _ _ _ c.loop-sample.invariant c.loop-sample-test.true (sym c.is_stop.ensures ∙ c.if-is_stop.true)
+returns-then-is_stop c = let pre = c.requires in walk_stop _ _ _ _ _ _ pre.numbers_value pre.section_bound _ _ _ _ _ _ _ c.loop-sample.invariant c.loop-sample-test.true (sym c.is_stop.ensures ∙ c.if-is_stop.true)
 
 pub slice_bounds-store-end : goal.slice_bounds-store-end
-slice_bounds-store-end c = let pre = c.requires in room _ _ _ _ _ _ pre.0 pre.1 _ _ _ _ _ _ _ c.loop-sample.invariant c.loop-sample-test.true
+slice_bounds-store-end c = let pre = c.requires in room _ _ _ _ _ _ pre.numbers_value pre.section_bound _ _ _ _ _ _ _ c.loop-sample.invariant c.loop-sample-test.true
 
 pub offset_bounds-out-sample-in-loop-sample : goal.offset_bounds-out-sample-in-loop-sample
-offset_bounds-out-sample-in-loop-sample c = let pre = c.requires in let h : at.loop.sample < length at.loop.out = c.loop-sample-test.true in omega (arith, h, few _ _ _ _ _ _ pre.0 pre.1 _ _ _ _ _ _ _ c.loop-sample.invariant h)
+offset_bounds-out-sample-in-loop-sample c = let pre = c.requires in let h : c.loop-sample.sample < length c.loop-sample.out = c.loop-sample-test.true in omega (arith, h, few _ _ _ _ _ _ pre.numbers_value pre.section_bound _ _ _ _ _ _ _ c.loop-sample.invariant h)
 
 pub offset_bounds-magnitudes-k : goal.offset_bounds-magnitudes-k
-offset_bounds-magnitudes-k c = let pre = c.requires in let k = c.loop-sample.k in omega (arith, few_sections _ _ _ _ _ _ pre.0 pre.1 _ _ _ _ _ _ _ c.loop-sample.invariant c.loop-sample-test.true)
+offset_bounds-magnitudes-k c = let pre = c.requires in let k = c.loop-sample.k in omega (arith, few_sections _ _ _ _ _ _ pre.numbers_value pre.section_bound _ _ _ _ _ _ _ c.loop-sample.invariant c.loop-sample-test.true)
 
 pub bounds-magnitudes-k : goal.bounds-magnitudes-k
-bounds-magnitudes-k c = let pre = c.requires in room-magnitudes _ _ _ _ _ _ pre.0 pre.1 _ _ _ _ _ _ _ c.loop-sample.invariant c.loop-sample-test.true
+bounds-magnitudes-k c = let pre = c.requires in room-magnitudes _ _ _ _ _ _ pre.numbers_value pre.section_bound _ _ _ _ _ _ _ c.loop-sample.invariant c.loop-sample-test.true
 
 pub overflow_add-numbers : goal.overflow_add-numbers
-overflow_add-numbers c = let pre = c.requires in let n = number_below _ _ _ _ _ _ pre.0 pre.1 _ _ _ _ _ _ _ c.loop-sample.invariant c.loop-sample-test.true (sym c.is_stop.ensures ∙ c.if-is_stop.false) _ c.section_end-end.ensures _ _ c.play-place.ensures _ c.store.ensures _ c.peak_of-peak.ensures in
-    omega (arith, n, few _ _ _ _ _ _ pre.0 pre.1 _ _ _ _ _ _ _ c.loop-sample.invariant c.loop-sample-test.true)
+overflow_add-numbers c = let pre = c.requires in let n = number_below _ _ _ _ _ _ pre.numbers_value pre.section_bound _ _ _ _ _ _ _ c.loop-sample.invariant c.loop-sample-test.true (sym c.is_stop.ensures ∙ c.if-is_stop.false) _ c.section_end-end.ensures _ _ c.play-place.ensures _ c.store.ensures _ c.peak_of-peak.ensures in
+    omega (arith, n, few _ _ _ _ _ _ pre.numbers_value pre.section_bound _ _ _ _ _ _ _ c.loop-sample.invariant c.loop-sample-test.true)
 
 pub offset_bounds-numbers-k : goal.offset_bounds-numbers-k
-offset_bounds-numbers-k c = let pre = c.requires in let k = c.loop-sample.k in omega (arith, few_sections _ _ _ _ _ _ pre.0 pre.1 _ _ _ _ _ _ _ c.loop-sample.invariant c.loop-sample-test.true)
+offset_bounds-numbers-k c = let pre = c.requires in let k = c.loop-sample.k in omega (arith, few_sections _ _ _ _ _ _ pre.numbers_value pre.section_bound _ _ _ _ _ _ _ c.loop-sample.invariant c.loop-sample-test.true)
 
 pub bounds-numbers-k : goal.bounds-numbers-k
-bounds-numbers-k c = let pre = c.requires in room-numbers _ _ _ _ _ _ pre.0 pre.1 _ _ _ _ _ _ _ c.loop-sample.invariant c.loop-sample-test.true
+bounds-numbers-k c = let pre = c.requires in room-numbers _ _ _ _ _ _ pre.numbers_value pre.section_bound _ _ _ _ _ _ _ c.loop-sample.invariant c.loop-sample-test.true
 
 pub overflow_add-k : goal.overflow_add-k
-overflow_add-k c = let pre = c.requires in let k = c.loop-sample.k in omega (arith, few_sections _ _ _ _ _ _ pre.0 pre.1 _ _ _ _ _ _ _ c.loop-sample.invariant c.loop-sample-test.true)
+overflow_add-k c = let pre = c.requires in let k = c.loop-sample.k in omega (arith, few_sections _ _ _ _ _ _ pre.numbers_value pre.section_bound _ _ _ _ _ _ _ c.loop-sample.invariant c.loop-sample-test.true)
 
 pub loop-sample-smaller : goal.loop-sample-smaller
-loop-sample-smaller c = let pre = c.requires in let z = c.section_end-end.ensures in let h : at.loop.sample < length at.loop.out = c.loop-sample-test.true in omega (arith, z.after, c.loop-sample.invariant.len)
+loop-sample-smaller c = let pre = c.requires in let z = c.section_end-end.ensures in let h : c.loop-sample.sample < length c.loop-sample.out = c.loop-sample-test.true in omega (arith, z.after, c.loop-sample.invariant.len)
 
 pub loop-sample-preserved : goal.loop-sample-preserved
 loop-sample-preserved c = let pre = c.requires in let k = c.loop-sample.k in let d : k * entry_words + entry_words - k * entry_words ≡ entry_words = omega arith in
-    rw d (walk_on _ _ _ _ _ _ pre.0 pre.1 _ _ _ _ _ _ _ c.loop-sample.invariant c.loop-sample-test.true (sym c.is_stop.ensures ∙ c.if-is_stop.false) _ c.section_end-end.ensures _ _ c.play-place.ensures _ c.store.ensures _ c.peak_of-peak.ensures)
+    rw d (walk_on _ _ _ _ _ _ pre.numbers_value pre.section_bound _ _ _ _ _ _ _ c.loop-sample.invariant c.loop-sample-test.true (sym c.is_stop.ensures ∙ c.if-is_stop.false) _ c.section_end-end.ensures _ _ c.play-place.ensures _ c.store.ensures _ c.peak_of-peak.ensures)
 
 pub shape_of-out : goal.shape_of-out
 shape_of-out c = c.loop-sample.invariant.len
@@ -76,4 +76,4 @@ pub shape_of-numbers : goal.shape_of-numbers
 shape_of-numbers c = c.loop-sample.invariant.len_numbers
 
 pub returns : goal.returns
-returns c = let pre = c.requires in walk_last _ _ _ _ _ _ pre.0 pre.1 _ _ _ _ _ _ _ c.loop-sample.invariant c.loop-sample-test.false
+returns c = let pre = c.requires in walk_last _ _ _ _ _ _ pre.numbers_value pre.section_bound _ _ _ _ _ _ _ c.loop-sample.invariant c.loop-sample-test.false

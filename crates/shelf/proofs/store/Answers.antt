@@ -17,7 +17,7 @@ pub loop-i-init : goal.loop-i-init
 loop-i-init c = (c.if-words-ne-ENTRY_WORDS.false, ap length c.encode-entry.ensures ∙ entry_length _, omega arith, refl)
 
 pub loop-i-preserved : goal.loop-i-preserved
-loop-i-preserved c = let i = c.loop-i.i in let entry = c.encode-entry.result in let h : i < length at.loop.words = c.loop-i-test.true in let l : i < length entry = omega (arith, c.loop-i.invariant.0, c.loop-i.invariant.1) in (
+loop-i-preserved c = let i = c.loop-i.i in let entry = c.encode-entry.result in let h : i < length c.loop-i.words = c.loop-i-test.true in let l : i < length entry = omega (arith, c.loop-i.invariant.0, c.loop-i.invariant.1) in (
       simp length-set c.loop-i.invariant.0,
       c.loop-i.invariant.1,
       omega (arith, c.loop-i.invariant.0),

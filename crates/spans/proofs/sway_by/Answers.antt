@@ -14,4 +14,4 @@ pub returns : goal.returns
 returns c = let n = length c.args.part.now in
     let taken = length-take-le (n - 0) c.args.values.now (omega (arith, c.requires.part_in_bounds)) in
     made_sways c.args.settings c.args.phase.0 _ c.increment-step.ensures c.args.wave.now _ _ _ _ _ c.requires.wave_table (omega (arith, taken)) c.fill_in-end.ensures
-    (c.multiply.ensures ∙ ap (λ (ls : List Float). multiplied_of c.args.settings.lfo.depth ls c.args.part.now) (take_at c.fill_in-end.new.1.0 (drop (n - 0) c.args.values.now) (n - 0) (filled-long _ _ _ _ _ _ _ c.fill_in-end.ensures ∙ taken)))
+    (c.multiply.ensures ∙ ap (λ (ls : List Float). multiplied_of c.args.settings.lfo.depth ls c.args.part.now) (take_at c.fill_in-end.new.out (drop (n - 0) c.args.values.now) (n - 0) (filled-long _ _ _ _ _ _ _ c.fill_in-end.ensures ∙ taken)))

@@ -6,7 +6,7 @@ use Rattle.envelope.proofs.EnvelopeBlock.process.Goals as goal
 
 pub returns-then-usable-sound : goal.returns-then-usable-sound
 returns-then-usable-sound c = let a = c.args in rw c.judged-answer.ensures
-    (process-done a.self a.rate a.out.now c.clamped.result c.sample_time.result c.fill-envelope.new.1.1.1.0 c.fill-envelope.result
+    (process-done a.self a.rate a.out.now c.clamped.result c.sample_time.result c.fill-envelope.new.out c.fill-envelope.result
     (c.is_adsr.result && c.is_rate.result) c.is_envelope-sound.result
     (rw (c.is_adsr.ensures, c.is_rate.ensures) refl) c.is_envelope-sound.ensures c.if-usable-sound.true
     c.clamped.ensures c.sample_time.ensures c.fill-envelope.ensures)

@@ -21,7 +21,7 @@ pub shape_of-part-then-part-i : goal.shape_of-part-then-part-i
 shape_of-part-then-part-i c = let a = c.args in (c.scale_stage-reach.ensures.1 a.start a.part.now c.loop-i.invariant).long
 
 pub returns-then-part-i : goal.returns-then-part-i
-returns-then-part-i c = let a = c.args in scaled_all a.adsr a.sample-time a.start a.velocity a.part.now _ _ _ c.if-part-i.true (c.scale_stage-reach.ensures.1 a.start a.part.now c.loop-i.invariant)
+returns-then-part-i c = let a = c.args in scaled_all a.adsr a.sample_time a.start a.velocity a.part.now _ _ _ c.if-part-i.true (c.scale_stage-reach.ensures.1 a.start a.part.now c.loop-i.invariant)
 
 pub loop-i-smaller : goal.loop-i-smaller
 loop-i-smaller c = let a = c.args in let r = c.scale_stage-reach.ensures.1 a.start a.part.now c.loop-i.invariant in
@@ -29,10 +29,10 @@ loop-i-smaller c = let a = c.args in let r = c.scale_stage-reach.ensures.1 a.sta
     omega (arith, c.scale_stage-reach.ensures.0, more)
 
 pub loop-i-preserved : goal.loop-i-preserved
-loop-i-preserved c = let a = c.args in reached_more a.adsr a.sample-time a.start a.velocity a.part.now _ c.scale_stage-reach.result.envelope _ _ c.scale_stage-reach.result.count c.if-part-i.false c.step-envelope.ensures refl (c.scale_stage-reach.ensures.1 a.start a.part.now c.loop-i.invariant)
+loop-i-preserved c = let a = c.args in reached_more a.adsr a.sample_time a.start a.velocity a.part.now _ c.scale_stage-reach.result.envelope _ _ c.scale_stage-reach.result.count c.if-part-i.false c.step-envelope.ensures refl (c.scale_stage-reach.ensures.1 a.start a.part.now c.loop-i.invariant)
 
 pub shape_of-part : goal.shape_of-part
 shape_of-part c = c.loop-i.invariant.long
 
 pub returns : goal.returns
-returns c = let a = c.args in scaled_all a.adsr a.sample-time a.start a.velocity a.part.now c.loop-i.part _ c.loop-i.i (omega arith) c.loop-i.invariant
+returns c = let a = c.args in scaled_all a.adsr a.sample_time a.start a.velocity a.part.now c.loop-i.part _ c.loop-i.i (omega arith) c.loop-i.invariant

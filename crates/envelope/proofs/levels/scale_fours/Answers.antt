@@ -49,14 +49,14 @@ loop-i-preserved c = let a = c.args in let stage = a.at.envelope.stage in
     let (soon, late) = neither _ _ c.if-soon-late.false in
     let (o₁, o₂) = neither _ _ soon in
     let (o₃, o₄) = neither _ _ late in
-    let d₁ = c.next_in-first in let d₂ = c.next_in-second in let d₃ = c.next_in-third in let d₄ = c.next_in-fourth in let two = c.scale_two.ensures in let four = c.scale_two-in-loop-i.ensures in let q₁ = runs a.adsr a.sample-time c.loop-i.envelope stage d₁.result c.loop-i.invariant.2 d₁.ensures (sym c.ends_at.ensures ∙ o₁) in
-    let q₂ = runs a.adsr a.sample-time d₁.result stage d₂.result (ap stays d₁.ensures) d₂.ensures (sym c.ends_at-in-loop-i.ensures ∙ o₂) in
-    let q₃ = runs a.adsr a.sample-time d₂.result stage d₃.result (ap stays d₂.ensures) d₃.ensures (sym c.ends_at-in-loop-i-2.ensures ∙ o₃) in
-    let q₄ = runs a.adsr a.sample-time d₃.result stage d₄.result (ap stays d₃.ensures) d₄.ensures (sym c.ends_at-in-loop-i-3.ensures ∙ o₄) in (
+    let d₁ = c.next_in-first in let d₂ = c.next_in-second in let d₃ = c.next_in-third in let d₄ = c.next_in-fourth in let two = c.scale_two.ensures in let four = c.scale_two-in-loop-i.ensures in let q₁ = runs a.adsr a.sample_time c.loop-i.envelope stage d₁.result c.loop-i.invariant.2 d₁.ensures (sym c.ends_at.ensures ∙ o₁) in
+    let q₂ = runs a.adsr a.sample_time d₁.result stage d₂.result (ap stays d₁.ensures) d₂.ensures (sym c.ends_at-in-loop-i.ensures ∙ o₂) in
+    let q₃ = runs a.adsr a.sample_time d₂.result stage d₃.result (ap stays d₂.ensures) d₃.ensures (sym c.ends_at-in-loop-i-2.ensures ∙ o₃) in
+    let q₄ = runs a.adsr a.sample_time d₃.result stage d₄.result (ap stays d₃.ensures) d₄.ensures (sym c.ends_at-in-loop-i-3.ensures ∙ o₄) in (
       two-long _ _ _ _ _ _ four ∙ two-long _ _ _ _ _ _ two ∙ c.loop-i.invariant.0,
       omega (arith, c.loop-i.invariant.1),
       ap stays d₄.ensures,
-      λ e xs b. reached-four a.adsr a.sample-time e a.velocity xs c.loop-i.part _ _ c.loop-i.envelope d₁.result d₂.result d₃.result d₄.result c.loop-i.i (omega (arith, c.if-part-i-lt4.false)) q₁ q₂ q₃ q₄ two four (c.loop-i.invariant.3 e xs b),
+      λ e xs b. reached-four a.adsr a.sample_time e a.velocity xs c.loop-i.part _ _ c.loop-i.envelope d₁.result d₂.result d₃.result d₄.result c.loop-i.i (omega (arith, c.if-part-i-lt4.false)) q₁ q₂ q₃ q₄ two four (c.loop-i.invariant.3 e xs b),
     )
 
 pub shape_of-part : goal.shape_of-part

@@ -18,11 +18,11 @@ returns-then-ends_at c = (c.loop-i.invariant.1, c.loop-i.invariant.3)
 
 pub loop-i-preserved : goal.loop-i-preserved
 loop-i-preserved c = let a = c.args in let stage = a.at.envelope.stage in
-    let step = runs a.adsr a.sample-time c.loop-i.envelope stage c.next_in-next.result c.loop-i.invariant.2 c.next_in-next.ensures (sym c.ends_at.ensures ∙ c.if-ends_at.false) in (
+    let step = runs a.adsr a.sample_time c.loop-i.envelope stage c.next_in-next.result c.loop-i.invariant.2 c.next_in-next.ensures (sym c.ends_at.ensures ∙ c.if-ends_at.false) in (
       simp length-set c.loop-i.invariant.0,
       omega (arith, c.loop-i.invariant.1),
       ap (λ (x : Envelope). x.stage) c.next_in-next.ensures,
-      λ e xs b. reached_more a.adsr a.sample-time e a.velocity xs c.loop-i.part c.loop-i.envelope _ _ c.loop-i.i c.loop-i-test.true step refl (c.loop-i.invariant.3 e xs b),
+      λ e xs b. reached_more a.adsr a.sample_time e a.velocity xs c.loop-i.part c.loop-i.envelope _ _ c.loop-i.i c.loop-i-test.true step refl (c.loop-i.invariant.3 e xs b),
     )
 
 pub shape_of-part : goal.shape_of-part

@@ -27,6 +27,6 @@ shape_of-part c = c.loop-i.invariant.0
 
 pub returns : goal.returns
 returns c = let a = c.args in let p = c.requires in let n = c.loop-i.i - a.at.count in
-    let s = c.step-held.ensures in let from : (n : ℕ) → 0 < n → c.step-held.result ≡ envelope_from a.adsr a.sample-time a.at.envelope n = λ n h. s ∙ stands a.adsr a.sample-time a.at.envelope p.0 n h in
+    let s = c.step-held.ensures in let from : (n : ℕ) → 0 < n → c.step-held.result ≡ envelope_from a.adsr a.sample_time a.at.envelope n = λ n h. s ∙ stands a.adsr a.sample_time a.at.envelope p.0 n h in
     λ e xs b. rw (from n (omega (arith, p.1, c.loop-i.invariant.0)))
-    (scaled_all a.adsr a.sample-time e a.velocity xs c.loop-i.part _ c.loop-i.i (omega arith) (c.loop-i.invariant.2 a.adsr a.at.envelope (λ n. ap (λ (e : Envelope). e.level) (from (suc n) (omega arith))) e xs b))
+    (scaled_all a.adsr a.sample_time e a.velocity xs c.loop-i.part _ c.loop-i.i (omega arith) (c.loop-i.invariant.2 a.adsr a.at.envelope (λ n. ap (λ (e : Envelope). e.level) (from (suc n) (omega arith))) e xs b))

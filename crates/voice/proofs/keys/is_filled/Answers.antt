@@ -19,15 +19,15 @@ pub loop-i-init : goal.loop-i-init
 loop-i-init c = (omega arith, rw (sub-zero c.args.count) refl)
 
 pub returns-then-limit-bytes : goal.returns-then-limit-bytes
-returns-then-limit-bytes c = let a = c.args in let i = c.loop-i.i in let n : length a.t1 ≡ 16 = search rules in
+returns-then-limit-bytes c = let a = c.args in let i = c.loop-i.i in let n : length a.bytes ≡ 16 = search rules in
     let l = limit_is c in
-    sym (c.loop-i.invariant.1 ∙ filled-stops a.t1 a.count i (omega arith) (omega arith))
+    sym (c.loop-i.invariant.1 ∙ filled-stops a.bytes a.count i (omega arith) (omega arith))
 
 pub loop-i-preserved : goal.loop-i-preserved
-loop-i-preserved c = let a = c.args in let i = c.loop-i.i in let n : length a.t1 ≡ 16 = search rules in
+loop-i-preserved c = let a = c.args in let i = c.loop-i.i in let n : length a.bytes ≡ 16 = search rules in
     let l = limit_is c in
-    (omega arith, c.loop-i.invariant.1 ∙ filled-goes_on a.t1 a.count i (omega arith) (omega arith))
+    (omega arith, c.loop-i.invariant.1 ∙ filled-goes_on a.bytes a.count i (omega arith) (omega arith))
 
 pub returns : goal.returns
-returns c = let a = c.args in let n : length a.t1 ≡ 16 = search rules in
-    sym (c.loop-i.invariant.1 ∙ filled-ends a.t1 (a.count - c.loop-i.i) c.loop-i.i (omega arith))
+returns c = let a = c.args in let n : length a.bytes ≡ 16 = search rules in
+    sym (c.loop-i.invariant.1 ∙ filled-ends a.bytes (a.count - c.loop-i.i) c.loop-i.i (omega arith))
