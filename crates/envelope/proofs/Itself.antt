@@ -8,6 +8,7 @@ use lib.Ieee.{Float, nan, inf, fin, up, down, eq, is_nan}
 -- a test that holds is true
 is_true : (b : Bool) → T b → b ≡ true
 is_true true t = refl
+is_true false t = elim t [ ]
 
 same : (n : ℕ) → (eqb n n && true) ≡ true
 same n = rw (is_true (eqb n n) (eqb_refl n)) refl

@@ -25,7 +25,7 @@ returns-then-part-i c = let a = c.args in scaled_all a.adsr a.sample_time a.star
 
 pub loop-i-smaller : goal.loop-i-smaller
 loop-i-smaller c = let a = c.args in let r = c.scale_stage-reach.ensures.1 a.start a.part.now c.loop-i.invariant in
-    let more : c.scale_stage-reach.result.count < length a.part.now = rw r.long c c.if-part-i.false in
+    let more : c.scale_stage-reach.result.count < length a.part.now = rw r.long at c.if-part-i.false in
     omega (arith, c.scale_stage-reach.ensures.0, more)
 
 pub loop-i-preserved : goal.loop-i-preserved

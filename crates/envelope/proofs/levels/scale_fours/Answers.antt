@@ -32,14 +32,18 @@ pub scale_two-requires : goal.scale_two-requires
 scale_two-requires c = let room = c.if-part-i-lt4.false in omega (arith, room)
 
 pub overflow_add-i : goal.overflow_add-i
-overflow_add-i c = omega (arith, c.if-part-i-lt4.false, c.loop-i.invariant.0, search rules)
+overflow_add-i c =
+    let held : Fits w64 (length c.args.part.now) = search rules in
+    omega (arith, c.if-part-i-lt4.false, c.loop-i.invariant.0, held)
 
 pub scale_two-requires-in-loop-i : goal.scale_two-requires-in-loop-i
 scale_two-requires-in-loop-i c = let room = c.if-part-i-lt4.false in let long = two-long _ _ _ _ _ _ c.scale_two.ensures in
     omega (arith, room, long)
 
 pub overflow_add-i-in-loop-i : goal.overflow_add-i-in-loop-i
-overflow_add-i-in-loop-i c = omega (arith, c.if-part-i-lt4.false, c.loop-i.invariant.0, search rules)
+overflow_add-i-in-loop-i c =
+    let held : Fits w64 (length c.args.part.now) = search rules in
+    omega (arith, c.if-part-i-lt4.false, c.loop-i.invariant.0, held)
 
 pub loop-i-smaller : goal.loop-i-smaller
 loop-i-smaller c = omega (arith, c.if-part-i-lt4.false, c.loop-i.invariant.0)
