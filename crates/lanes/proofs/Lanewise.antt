@@ -38,9 +38,11 @@ each_of f t =
 -- ---- a call whose test passes exactly where every lane is inside
 pub is-done : (ok : Bool) (kept values : List Float) → T ok → lanes_or (unless ok Argument) kept values ≡ record { answer = Done 0; values = values }
 is-done true kept values t = refl
+is-done false kept values t = elim t [ ]
 
 is-refused : (ok : Bool) (kept values : List Float) → T (not ok) → lanes_or (unless ok Argument) kept values ≡ record { answer = Refused Argument; values = kept }
 is-refused false kept values t = refl
+is-refused true kept values t = elim t [ ]
 
 clash : (b : Bool) → T (not b) → T b → ⊥
 clash true n t = n

@@ -24,9 +24,13 @@ module _ (after before : Float → Float) (x y : Float) where
 
   single-both : (a b : Bool) → T (a && b) → singly a b ≡ after x
   single-both true true t = refl
+  single-both false b t = elim t [ ]
+  single-both true false t = elim t [ ]
 
   lane-both : (a b : Bool) → T (a && b) → laned a b ≡ before y
   lane-both true true t = refl
+  lane-both false b t = elim t [ ]
+  lane-both true false t = elim t [ ]
 
   same_else : (a b : Bool) → T (not (a && b)) → laned a b ≡ singly a b
   same_else true true n = absurd n
