@@ -29,6 +29,10 @@ all_of f h = four-in (f 0) (f 1) (f 2) (f 3) (h 0 (omega arith)) (h 1 (omega ari
   where
     four-in : (a b c d : Bool) → T a → T b → T c → T d → T (a && b && c && d)
     four-in true true true true p q r s = tt
+    four-in false b c d p q r s = elim p [ ]
+    four-in true false c d p q r s = elim q [ ]
+    four-in true true false d p q r s = elim r [ ]
+    four-in true true true false p q r s = elim s [ ]
 
 pub each_of : (f : ℕ → Bool) → T (all_four f) → (i : ℕ) → i < 4 → T (f i)
 each_of f t =
