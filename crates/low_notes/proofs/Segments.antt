@@ -34,6 +34,9 @@ use Rattle.waveform.proofs.Remainders.{far, next_cycle}
 -- a conjunction of three tests passes: each passes
 three_pass : (a b c : Bool) → T (a && b && c) → T a × T b × T c
 three_pass true true true t = (tt, tt, tt)
+three_pass false b c t = elim t [ ]
+three_pass true false c t = elim t [ ]
+three_pass true true false t = elim t [ ]
 
 two_tau-finite : T (finite two_tau)
 two_tau-finite = unfold of_bits in tt
