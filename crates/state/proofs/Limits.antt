@@ -48,6 +48,7 @@ use Rattle.state.specs.Limits.{in_limits, most_acted, is_state}
 -- a test that holds is true, and the converse
 pub is_true : (b : Bool) → T b → b ≡ true
 is_true true t = refl
+is_true false t = elim t [ ]
 
 pub from-true : (b : Bool) → b ≡ true → T b
 from-true b e = subst T (sym e) tt
