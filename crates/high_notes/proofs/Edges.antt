@@ -41,10 +41,12 @@ corner_apart correction u dt h apart none =
 -- ---- the test
 either_l : (a b : Bool) → T a → (a || b) ≡ true
 either_l true b t = refl
+either_l false b t = elim t [ ]
 
 either_r : (a b : Bool) → T b → (a || b) ≡ true
 either_r true b t = refl
 either_r false true t = refl
+either_r false false t = elim t [ ]
 
 module _ (other : Float → Float) (grows : (x y : Float) → InUnit x → InUnit y → T (le x y) → T (le (other x) (other y))) (held : (x : Float) → T (fits binary64 (other x))) (from to dt : Float)
     (e : is_apart from to (other zero64) (other from) (other to) (other one) dt ≡ true)
