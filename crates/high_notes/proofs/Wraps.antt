@@ -55,12 +55,24 @@ from x y e h py = not-lt-le x y (nonneg→finite x h) (nonneg→finite y (positi
 -- ---- over z, which is k times y
 exact : (x z : Float) → T (fits binary64 x) → T (fits binary64 z) → T (positive x) → T (positive z) → HasValue (rem binary64 x z) false (num x * den z % (num z * den x)) (den x * den z)
 exact (fin false m e) (fin false (suc n) d) w v p q = rw (rem_is binary64 (fin false m e) (fin false (suc n) d) tt q) (rem_value binary64 false m e n d w v)
+exact nan z w v p q = elim p [ ]
+exact (inf _) z w v p q = elim p [ ]
+exact (fin false m e) nan w v p q = elim q [ ]
+exact (fin false m e) (inf _) w v p q = elim q [ ]
+exact (fin false m e) (fin false zero d) w v p q = elim q [ ]
+exact (fin false m e) (fin true _ d) w v p q = elim q [ ]
+exact (fin true m e) z w v p q = elim p [ ]
 
 valued : (r : Float) (a c : ℕ) → HasValue r false a c → T (finite r) × (signed r ≡ false) × (num r * c ≡ a * den r)
 valued (fin t m e) a c h = (tt, h.0, h.1)
+valued nan a c h = elim h [ ]
+valued (inf _) a c h = elim h [ ]
 
 plain : (x : Float) → T (positive x) → signed x ≡ false
 plain (fin false m e) p = refl
+plain nan p = elim p [ ]
+plain (inf _) p = elim p [ ]
+plain (fin true m e) p = elim p [ ]
 
 module _ (y z : Float) (k : ℕ) (v : T (fits binary64 z)) (py : T (positive y)) (pz : T (positive z)) (times : num z * den y ≡ k * (num y * den z)) where
   rem-rem : (x : Float) → T (fits binary64 x) → T (positive x) → rem binary64 (rem binary64 x z) y ≡ rem binary64 x y

@@ -3,7 +3,7 @@ use mathlib.Core.Path.{refl, ◌∙◌}
 use lib.Ieee.{Float}
 use Rattle.polyblep.specs.Polyblep.{pulse_of, blep_of}
 use Rattle.high_notes.proofs.Remaking.{duty_low}
-use Rattle.high_notes.proofs.Edges.{nearer-is, no_blep}
+use Rattle.high_notes.proofs.Edges.{nearer_is, no_blep}
 use Rattle.high_notes.proofs.pulse_apart.Goals as goal
 
 pub fract-requires : goal.fract-requires

@@ -3,7 +3,7 @@ use mathlib.Core.Path.{refl, sym, ◌∙◌}
 use lib.Ieee.{Float}
 use Rattle.polyblep.specs.Polyblep.{square_of, blep_of}
 use Rattle.high_notes.proofs.Remaking.{half-low}
-use Rattle.high_notes.proofs.Edges.{nearer-is, no_blep}
+use Rattle.high_notes.proofs.Edges.{nearer_is, no_blep}
 use Rattle.high_notes.proofs.square_apart.Goals as goal
 
 pub fract-requires : goal.fract-requires
