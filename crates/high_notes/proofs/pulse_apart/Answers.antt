@@ -12,6 +12,6 @@ fract-requires c = duty_low c.args.u c.requires.0 c.args.duty c.requires.1.0
 pub returns : goal.returns
 unfolding pulse_of
 returns c = let u = c.args.u in let dt = c.args.dt in let (first, other) = c.requires.1.1 u c.requires.0 in
-    nearer-is c.naive_pulse.result (λ (t : Float). blep_of t dt) _ u c.fract.result _ _ _ _ c.select.ensures c.blep-c.ensures c.select-2.ensures c.select-3.ensures (λ e. no_blep u dt (first e))
+    nearer_is c.naive_pulse.result (λ (t : Float). blep_of t dt) _ u c.fract.result _ _ _ _ c.select.ensures c.blep-c.ensures c.select-2.ensures c.select-3.ensures (λ e. no_blep u dt (first e))
     (λ e. rw c.fract.ensures (no_blep _ dt (other e)))
     ∙ rw (c.naive_pulse.ensures, c.fract.ensures) refl
