@@ -1,5 +1,5 @@
 -- `filling::fill_in` meets its contract. Assumes nothing.
-use mathlib.Core.List.{◌∷◌}
+use mathlib.Core.List.{[], ◌∷◌}
 use types.Run.{miss}
 use lib.Ieee.{Float}
 use Rattle.filling.proofs.Lent.{filled_as, table_read, table_unread}

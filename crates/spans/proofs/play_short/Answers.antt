@@ -1,4 +1,5 @@
 -- `spans::play_short` meets its contract. Assumes nothing.
+use mathlib.Core.List.{[]}
 use mathlib.Core.Path.{sym}
 use native.Mathlib.Omega.{arith}
 use Rattle.filling.proofs.Lent.{table_unread}
