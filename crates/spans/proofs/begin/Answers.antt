@@ -14,7 +14,7 @@ loop-settings-init c = (c.requires, refl)
 
 pub overflow_add-next : goal.overflow_add-next
 overflow_add-next c = let a = c.args in let h = is-there a.score.now _ _ (due_so a.score.now a.position a.offset c.loop-settings.at _ _ c.loop-settings.invariant.0 c.is_due-in-loop-settings.ensures c.loop-settings-test.true) in
-    let good = c.well-formed.1.0 in omega (arith, h)
+    omega (arith, h)
 
 pub loop-settings-smaller : goal.loop-settings-smaller
 loop-settings-smaller c = let a = c.args in let h = is-there a.score.now _ _ (due_so a.score.now a.position a.offset c.loop-settings.at _ _ c.loop-settings.invariant.0 c.is_due-in-loop-settings.ensures c.loop-settings-test.true) in

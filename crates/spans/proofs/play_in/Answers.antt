@@ -12,9 +12,6 @@ loop-i-init c = (begins _ _ _ _ _, c.walker_at-at.ensures.sees)
 pub begin-begun-requires : goal.begin-begun-requires
 begin-begun-requires c = c.loop-i.invariant.1
 
-pub offset_bounds-part-i : goal.offset_bounds-part-i
-offset_bounds-part-i c = let good = c.well-formed in search rules
-
 pub slice_bounds-play_span-count : goal.slice_bounds-play_span-count
 slice_bounds-play_span-count c = omega (arith, c.span_end-end.ensures.after)
 

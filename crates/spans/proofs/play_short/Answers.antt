@@ -6,4 +6,4 @@ use Rattle.filling.proofs.Lent.{table_unread}
 use Rattle.spans.proofs.play_short.Goals as goal
 
 pub play_in-requires : goal.play_in-requires
-play_in-requires c = sym (table_unread [] w step p (λ _ l. omega arith))
+play_in-requires c w step p = sym (table_unread [] w step p (λ _ l. omega arith))
