@@ -7,7 +7,7 @@ use Rattle.rerender.proofs.Renewing.{recount-first, recount-last, within, recoun
 use Rattle.rerender.proofs.recount.Goals as goal
 
 pub loop-k-init : goal.loop-k-init
-loop-k-init c = let pre = c.requires in recount-first _ pre.sorted _ _ _ pre.behind.0
+loop-k-init c = let pre = c.requires in recount-first _ pre.sorted _ _ _ pre.behind
 
 pub slice_bounds-recount-end : goal.slice_bounds-recount-end
 slice_bounds-recount-end c = let pre = c.requires in within _ pre.sorted _ _ _ _ _ c.loop-k.invariant c.loop-k-test.true

@@ -8,7 +8,13 @@ pub returns-in-Refused : goal.returns-in-Refused
 returns-in-Refused c = checks_refuse _ _ _ _ _ (sym (rw (c.judged_new.ensures, c.sizes_fit-room.ensures) at c.judged-checked.ensures) ∙ c.in-Refused.is)
 
 pub rerender_from-requires : goal.rerender_from-requires
-rerender_from-requires c = let k = answer-checked _ _ _ _ _ (sym (rw (c.judged_new.ensures, c.sizes_fit-room.ensures) at c.judged-checked.ensures) ∙ c.in_default.is) in record { in_order = ((record { sorted = accepted-sorted _ _ k.old_accepted; records = accepted-length _ _ k.old_accepted }, (record { sorted = accepted-sorted _ _ k.new-accepted; records = accepted-length _ _ k.new-accepted }, (k.fits, plan_there _ _ _ _ (sym c.planned-plan.ensures ∙ c.in-From.is))))).0; in_order_2 = ((record { sorted = accepted-sorted _ _ k.old_accepted; records = accepted-length _ _ k.old_accepted }, (record { sorted = accepted-sorted _ _ k.new-accepted; records = accepted-length _ _ k.new-accepted }, (k.fits, plan_there _ _ _ _ (sym c.planned-plan.ensures ∙ c.in-From.is))))).1; numbers_value = ((record { sorted = accepted-sorted _ _ k.old_accepted; records = accepted-length _ _ k.old_accepted }, (record { sorted = accepted-sorted _ _ k.new-accepted; records = accepted-length _ _ k.new-accepted }, (k.fits, plan_there _ _ _ _ (sym c.planned-plan.ensures ∙ c.in-From.is))))).2; section_bound = ((record { sorted = accepted-sorted _ _ k.old_accepted; records = accepted-length _ _ k.old_accepted }, (record { sorted = accepted-sorted _ _ k.new-accepted; records = accepted-length _ _ k.new-accepted }, (k.fits, plan_there _ _ _ _ (sym c.planned-plan.ensures ∙ c.in-From.is))))).3 }
+rerender_from-requires c = let k = answer-checked _ _ _ _ _ (sym (rw (c.judged_new.ensures, c.sizes_fit-room.ensures) at c.judged-checked.ensures) ∙ c.in_default.is) in
+    record {
+      in_order = record { sorted = accepted-sorted _ _ k.old_accepted; records = accepted-length _ _ k.old_accepted };
+      in_order_2 = record { sorted = accepted-sorted _ _ k.new-accepted; records = accepted-length _ _ k.new-accepted };
+      numbers_value = k.fits;
+      section_bound = plan_there _ _ _ _ (sym c.planned-plan.ensures ∙ c.in-From.is);
+    }
 
 pub returns-in-Nothing : goal.returns-in-Nothing
 returns-in-Nothing c = nothing_run _ _ _ _ _ (sym (rw (c.judged_new.ensures, c.sizes_fit-room.ensures) at c.judged-checked.ensures) ∙ c.in_default.is) (sym c.planned-plan.ensures ∙ c.in-Nothing.is)
