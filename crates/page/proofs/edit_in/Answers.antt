@@ -10,7 +10,12 @@ pub slice_bounds-turn_over-end-in-Score : goal.slice_bounds-turn_over-end-in-Sco
 slice_bounds-turn_over-end-in-Score c = made-long _ _ c.requires.passed.accepted _ _ c.apply-applied.ensures _ c.in-Score.is
 
 pub turn_over-requires : goal.turn_over-requires
-turn_over-requires c = let accepted = c.requires.passed.accepted in record { passed = c.requires.passed; accepted = (made-accepted _ _ accepted _ _ c.apply-applied.ensures _ c.in-Score.is, made-fits _ _ accepted _ _ c.apply-applied.ensures _ c.in-Score.is c.args.new_score.now c.requires.new_score_value.0); in_bounds =  }
+turn_over-requires c = let accepted = c.requires.passed.accepted in
+    record {
+      passed = c.requires.passed;
+      accepted = made-accepted _ _ accepted _ _ c.apply-applied.ensures _ c.in-Score.is;
+      in_bounds = made-fits _ _ accepted _ _ c.apply-applied.ensures _ c.in-Score.is c.args.new_score.now c.requires.new_score_value;
+    }
 
 pub returns-in-Stopped : goal.returns-in-Stopped
 returns-in-Stopped c = rw c.refused.ensures (edit_in-stops _ _ c.requires.passed.accepted _ _ c.apply-applied.ensures _ _ _ _ c.in-Stopped.is)
