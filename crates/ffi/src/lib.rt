@@ -1,6 +1,6 @@
 // What C sees: the calls of the crates below, on numbers and slices, each with its answer in one word. 01 asks for the
 // check of a score and for single samples; render, re-render, page of edits, continuing call, fresh state and listing
-// go beyond 01. A slice is a pointer and a length in C; include/gavberin.h declares every function here, with the
+// go beyond 01. `ffi_c` exports every public function here under its name; include/gavberin.h declares them, with the
 // caller's duties, which no function here can test. Left out: the ported calls of phase, voice, envelope, oscillator
 // and LFO, and the end state of a render.
 #![tactic(auto)]
@@ -62,24 +62,21 @@ pub enum Choice {
 }
 
 // The version of the calls, their arguments and a state's number of words, which a host must be written for.
-#[unsafe(no_mangle)]
-pub extern "C" fn gav_version() -> u32
+pub fn gav_version() -> u32
     ensures { result ≡ version }
 {
     VERSION
 }
 
 // What a score is refused for, or 0.
-#[unsafe(no_mangle)]
-pub extern "C" fn gav_check_score(score: &[u8]) -> u64
+pub fn gav_check_score(score: &[u8]) -> u64
     ensures { result ≡ check_of score.now }
 {
     packed(score::check(score))
 }
 
 // One sample of a waveform; +0 where it is refused.
-#[unsafe(no_mangle)]
-pub extern "C" fn gav_sample(code: u32, phase: f64, dt: f64, duty: f64) -> f64
+pub fn gav_sample(code: u32, phase: f64, dt: f64, duty: f64) -> f64
     ensures { result ≡ (single_of code phase dt duty).value }
 {
     let single = single(code, phase, dt, duty);
@@ -87,8 +84,7 @@ pub extern "C" fn gav_sample(code: u32, phase: f64, dt: f64, duty: f64) -> f64
 }
 
 // The answer to `gav_sample` with these arguments.
-#[unsafe(no_mangle)]
-pub extern "C" fn gav_sample_says(code: u32, phase: f64, dt: f64, duty: f64) -> u64
+pub fn gav_sample_says(code: u32, phase: f64, dt: f64, duty: f64) -> u64
     ensures { result ≡ packed_of (single_of code phase dt duty).answer }
 {
     let single = single(code, phase, dt, duty);
@@ -97,8 +93,7 @@ pub extern "C" fn gav_sample_says(code: u32, phase: f64, dt: f64, duty: f64) -> 
 }
 
 // Every sample of the output, every entry of the shelf and every peak of the summary, from sample zero.
-#[unsafe(no_mangle)]
-pub extern "C" fn gav_render(
+pub fn gav_render(
     rate: u32,
     code: u32,
     duty: f64,
@@ -143,8 +138,7 @@ pub extern "C" fn gav_render(
 
 // The samples, the entries and the summary from the start of the section that holds the first changed position to the
 // stop, as the new score gives them; from the stop on each entry's number of records acted.
-#[unsafe(no_mangle)]
-pub extern "C" fn gav_rerender(
+pub fn gav_rerender(
     rate: u32,
     code: u32,
     duty: f64,
@@ -188,8 +182,7 @@ pub extern "C" fn gav_rerender(
 
 // The edits of a list, made one after the other on the old score, and one re-render of the old score into the new one;
 // the new score is written to the front of `new_score`.
-#[unsafe(no_mangle)]
-pub extern "C" fn gav_edit(
+pub fn gav_edit(
     rate: u32,
     code: u32,
     duty: f64,
@@ -236,8 +229,7 @@ pub extern "C" fn gav_edit(
 
 // The next part of the output, from the state in thirteen words; when done, the words are those of the state after the
 // part.
-#[unsafe(no_mangle)]
-pub extern "C" fn gav_continue(
+pub fn gav_continue(
     rate: u32,
     code: u32,
     duty: f64,
@@ -278,8 +270,7 @@ pub extern "C" fn gav_continue(
 }
 
 // The state before sample zero, in thirteen words.
-#[unsafe(no_mangle)]
-pub extern "C" fn gav_fresh(state: &mut [u64]) -> u64
+pub fn gav_fresh(state: &mut [u64]) -> u64
     ensures { fills result state.new ≡ fresh_for state.old }
 {
     if state.len() != ENTRY_WORDS {
@@ -291,8 +282,7 @@ pub extern "C" fn gav_fresh(state: &mut [u64]) -> u64
 
 // What the lister prints for a score; the count is its bytes. No listing is empty: 0 bytes mean a buffer that is too
 // short.
-#[unsafe(no_mangle)]
-pub extern "C" fn gav_list(score: &[u8], text: &mut [u8]) -> u64
+pub fn gav_list(score: &[u8], text: &mut [u8]) -> u64
     ensures { fills result text.new ≡ list_for score.now text.old }
 {
     let bytes = listing::list(score, text);

@@ -4,6 +4,8 @@
 
 ghost use Rattle.lister.specs.Within.{Within};
 
+use std::io::Read;
+
 // How reading ended: with so many bytes at the front of the buffer, or because a read failed.
 #[derive(Clone, Copy)]
 enum Reading {
@@ -11,21 +13,21 @@ enum Reading {
     Failed,
 }
 
-fn main() {
+fn main(rt: HostRuntime) {
     let mut score = [0u8; 40961];
-    match read_score(&mut score) {
-        Reading::Ended(n) => print(&score[..n]),
-        Reading::Failed => complain(b"lister: cannot read standard input\n"),
+    match read_score(&mut rt.stdin(), &mut score) {
+        Reading::Ended(n) => print(&rt, &score[..n]),
+        Reading::Failed => complain(&rt, "lister: cannot read standard input\n"),
     }
 }
 
 // Reads until the buffer is full, the input ends or a read fails.
-fn read_score(buf: &mut [u8]) -> Reading
+fn read_score(input: &mut impl Read, buf: &mut [u8]) -> Reading
     ensures { Within result buf.new }
 {
     let mut n = 0;
     while n < buf.len() {
-        match read_some(&mut buf[n..]) {
+        match read_some(input, &mut buf[n..]) {
             Reading::Ended(k) => {
                 if k == 0 {
                     return Reading::Ended(n);
@@ -39,26 +41,26 @@ fn read_score(buf: &mut [u8]) -> Reading
 }
 
 // Reads once; 0 bytes are the end of the input.
-fn read_some(rest: &mut [u8]) -> Reading
+fn read_some(input: &mut impl Read, rest: &mut [u8]) -> Reading
     ensures { Within result rest.new }
 {
-    let got = libc::read(0, rest);
-    if got < 0 {
-        return Reading::Failed;
+    match input.read(rest) {
+        Ok(k) => Reading::Ended(k),
+        Err(_) => Reading::Failed,
     }
-    Reading::Ended(io::count(got, rest))
 }
 
 // Writes the listing of the score to standard output.
-fn print(score: &[u8]) {
+fn print(rt: &(impl Print + Eprint), score: &[u8]) {
     let mut text = [0u8; 102413];
     let k = listing::list(score, &mut text);
-    let done = io::write_all(1, &text[..k]);
-    if !done {
-        complain(b"lister: cannot write to standard output\n");
+    let done = rt.write_all(&text[..k]);
+    if done.is_err() {
+        complain(rt, "lister: cannot write to standard output\n");
     }
 }
 
-fn complain(text: &[u8]) {
-    io::write_all(2, text);
+// A complaint that cannot be written is let go.
+fn complain(rt: &impl Eprint, text: &str) {
+    let _ = rt.eprint(text);
 }

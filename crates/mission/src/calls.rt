@@ -2,7 +2,7 @@
 ghost use Rattle.std.specs.Prelude.{◌≤◌};
 
 use crate::{Now, compared};
-use libc::STDOUT_FILENO;
+use std::io;
 
 // What the script chooses between: the pad, a slowly falling sawtooth with a tremolo of 5 Hz, so that every comparison
 // holds the LFO's phase too; a square with sustain 1.0, after a short decay and after a long one; and the pad joined.
@@ -27,6 +27,7 @@ struct Part {
 
 // Makes a call on the first half; on the second half where it is M, or after B; after B nothing is told.
 pub fn made(
+    rt: &impl Print,
     now: Now,
     letter: u8,
     pair: &mut [f64],
@@ -35,21 +36,22 @@ pub fn made(
     numbers: &mut [u64],
     old: &[u8],
     new: &[u8],
-) {
+) -> io::Result<()> {
     let before = &old[0..at_most(now.old, old.len())];
     let after = &new[0..at_most(now.new, new.len())];
     let said = on_half(
         pair, shelves, magnitudes, numbers, now, letter, before, after,
     );
-    if !now.beside {
-        tell_call(now, said, pair);
+    if now.beside {
+        return Ok(());
     }
+    tell_call(rt, now, said, pair)
 }
 
-fn tell_call(now: Now, said: u64, pair: &[f64]) {
+fn tell_call(rt: &impl Print, now: Now, said: u64, pair: &[f64]) -> io::Result<()> {
     let n = at_most(now.samples, pair.len() / 2);
     let half = pair.len() / 2;
-    compared::tell(said, &pair[0..n], &pair[half..half + n]);
+    compared::tell(rt, said, &pair[0..n], &pair[half..half + n])
 }
 
 // The slices of which parts are lent stand first: the search for a proof does not reach the last arguments.
@@ -282,73 +284,87 @@ fn spoil_at(float: usize, word: usize, floats: &mut [f64], words: &mut [u64]) {
 
 // Prints a word of the first shelf, a peak of the first half where it has so many, or how far the halves differ.
 pub fn looked(
+    rt: &impl Print,
     now: Now,
     letter: u8,
     pair: &[f64],
     shelves: &[u64],
     magnitudes: &[f64],
     numbers: &[u64],
-) {
+) -> io::Result<()> {
     let at = now.last as usize;
     match letter {
-        b'W' => tell_both(now, pair, shelves, magnitudes, numbers),
+        b'W' => return tell_both(rt, now, pair, shelves, magnitudes, numbers),
         b'Q' => {
             let lent_magnitudes = at_most(now.magnitudes, magnitudes.len());
             let lent_numbers = at_most(now.numbers, numbers.len());
             if at < at_most(lent_magnitudes, lent_numbers) {
-                compared::tell_peak(magnitudes[at], numbers[at]);
+                return compared::tell_peak(rt, magnitudes[at], numbers[at]);
             }
         }
         _ => {
             if at < shelves.len() {
-                io::print_hex(STDOUT_FILENO, shelves[at], 16);
+                let word = shelves[at];
+                return print!(rt; "{word:016x}");
             }
         }
     }
+    Ok(())
 }
 
 // How far samples and shelves differ between the halves, then how far the summaries do.
-fn tell_both(now: Now, pair: &[f64], shelves: &[u64], magnitudes: &[f64], numbers: &[u64]) {
+fn tell_both(
+    rt: &impl Print,
+    now: Now,
+    pair: &[f64],
+    shelves: &[u64],
+    magnitudes: &[f64],
+    numbers: &[u64],
+) -> io::Result<()> {
     tell_halves(
+        rt,
         now.samples,
         words_for(now.samples),
         pair,
         shelves,
         b" samples and ",
         b" words",
-    );
-    io::write_all(STDOUT_FILENO, b"; ");
+    )?;
+    rt.write_all(b"; ")?;
     tell_halves(
+        rt,
         now.magnitudes,
         now.numbers,
         magnitudes,
         numbers,
         b" magnitudes and ",
         b" numbers",
-    );
+    )
 }
 
 // How far halves of so many floats and words differ.
 fn tell_halves(
+    rt: &impl Print,
     n: usize,
     w: usize,
     floats: &[f64],
     words: &[u64],
     after_floats: &[u8],
     after_words: &[u8],
-) {
+) -> io::Result<()> {
     let m = at_most(n, floats.len() / 2);
     let k = at_most(w, words.len() / 2);
     let float = floats.len() / 2;
     let word = words.len() / 2;
     compared::tell_all(
+        rt,
         &floats[0..m],
         &floats[float..float + m],
         &words[0..k],
         &words[word..word + k],
         after_floats,
         after_words,
-    );
+    )
 }
 
 pub fn at_most(wanted: usize, most: usize) -> usize

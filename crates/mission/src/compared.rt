@@ -1,19 +1,19 @@
 // What is told of a call: what it said, and how many samples or words differ between the halves of a pair, by their
 // bits; and a check number of all samples and words. A summary is told the same way, its magnitudes as samples and its
 // numbers as words.
-use libc::STDOUT_FILENO;
+use std::io;
 
 // Number, place, count; then how many samples of the first half differ from those of the second.
-pub fn tell(said: u64, first: &[f64], second: &[f64]) {
-    tell_number(said % 256, b" ");
-    tell_number(said / 256 % 0x100_0000, b" ");
-    tell_number(said / 0x1_0000_0000, b", ");
-    tell_number(unlike(first, second), b" differ; ");
+pub fn tell(rt: &impl Print, said: u64, first: &[f64], second: &[f64]) -> io::Result<()> {
+    tell_number(rt, said % 256, b" ")?;
+    tell_number(rt, said / 256 % 0x100_0000, b" ")?;
+    tell_number(rt, said / 0x1_0000_0000, b", ")?;
+    tell_number(rt, unlike(first, second), b" differ; ")
 }
 
-fn tell_number(number: u64, after: &[u8]) {
-    io::print_decimal(STDOUT_FILENO, number);
-    io::write_all(STDOUT_FILENO, after);
+fn tell_number(rt: &impl Print, number: u64, after: &[u8]) -> io::Result<()> {
+    rt.print(number)?;
+    rt.write_all(after)
 }
 
 fn unlike(first: &[f64], second: &[f64]) -> u64 {
@@ -73,24 +73,24 @@ fn mixed(number: u64, bits: u64) -> u64 {
 
 // How many samples and words differ, or magnitudes and numbers of a summary, and the check number of all of them.
 pub fn tell_all(
+    rt: &impl Print,
     first: &[f64],
     second: &[f64],
     kept: &[u64],
     beside: &[u64],
     after_floats: &[u8],
     after_words: &[u8],
-) {
+) -> io::Result<()> {
     let number = mixed_words(mixed_words(0, kept), beside);
-    tell_number(unlike(first, second), after_floats);
-    tell_number(unlike_words(kept, beside), after_words);
-    io::write_all(STDOUT_FILENO, b" differ; check number ");
-    tell_number(mixed_samples(mixed_samples(number, first), second), b"");
+    tell_number(rt, unlike(first, second), after_floats)?;
+    tell_number(rt, unlike_words(kept, beside), after_words)?;
+    rt.write_all(b" differ; check number ")?;
+    tell_number(rt, mixed_samples(mixed_samples(number, first), second), b"")
 }
 
 // A peak: the bits of its magnitude, and the number of the sample where it stands.
-pub fn tell_peak(magnitude: f64, number: u64) {
-    io::write_all(STDOUT_FILENO, b" ");
-    io::print_hex(STDOUT_FILENO, words::f64_bits(magnitude), 16);
-    io::write_all(STDOUT_FILENO, b" at ");
-    tell_number(number, b";");
+pub fn tell_peak(rt: &impl Print, magnitude: f64, number: u64) -> io::Result<()> {
+    let bits = words::f64_bits(magnitude);
+    print!(rt; " {bits:016x} at ")?;
+    tell_number(rt, number, b";")
 }

@@ -5,7 +5,10 @@
 // included, is not run again.
 #![tactic(auto)]
 
-use libc::{STDIN_FILENO, STDOUT_FILENO};
+ghost use Rattle.std.specs.Prelude.{◌≤◌, IfOk, length};
+
+use std::io;
+use std::io::Read;
 
 mod calls;
 mod compared;
@@ -43,7 +46,7 @@ pub struct Now {
     pub kept: u64,
 }
 
-fn main() {
+fn main(rt: HostRuntime) -> io::Result<()> {
     let mut script = [0u8; SCRIPT];
     let mut pair = [0.0; PAIR];
     let mut shelves = [0u64; SHELVES];
@@ -51,8 +54,9 @@ fn main() {
     let mut numbers = [0u64; SECTIONS];
     let mut old = [0u8; scores::BYTES];
     let mut new = [0u8; scores::BYTES];
-    let size = io::read_full(STDIN_FILENO, &mut script);
+    let size = read_full(&mut rt.stdin(), &mut script)?;
     run(
+        &rt,
         &script[0..size],
         &mut pair,
         &mut shelves,
@@ -60,10 +64,27 @@ fn main() {
         &mut numbers,
         &mut old,
         &mut new,
-    );
+    )
+}
+
+// Reads until the buffer is full or the input ends; how many bytes were read. Nothing is known of the buffer where a
+// read fails.
+fn read_full(input: &mut impl Read, buf: &mut [u8]) -> io::Result<usize>
+    ensures { IfOk result (λ n. n ≤ length buf.new) }
+{
+    let mut n = 0;
+    while n < buf.len() {
+        let k = input.read(&mut buf[n..])?;
+        if k == 0 {
+            return Ok(n);
+        }
+        n += k;
+    }
+    Ok(n)
 }
 
 fn run(
+    rt: &impl Print,
     script: &[u8],
     pair: &mut [f64],
     shelves: &mut [u64],
@@ -71,7 +92,7 @@ fn run(
     numbers: &mut [u64],
     old: &mut [u8],
     new: &mut [u8],
-) {
+) -> io::Result<()> {
     let mut now = Now {
         until: 0,
         base: 10,
@@ -91,26 +112,28 @@ fn run(
     while i < script.len() {
         let byte = script[i];
         i += 1;
-        now = read(now, byte, pair, shelves, magnitudes, numbers, old, new);
+        now = read(rt, now, byte, pair, shelves, magnitudes, numbers, old, new)?;
     }
+    Ok(())
 }
 
 // In a text a byte is printed, in a remark it is passed over.
-fn inside(now: Now, byte: u8) -> Now {
+fn inside(rt: &impl Print, now: Now, byte: u8) -> io::Result<Now> {
     let mut next = now;
     if byte == now.until {
         next.until = 0;
     } else {
         if now.until == b'"' {
-            io::write_all(STDOUT_FILENO, &[byte]);
+            rt.write_all(&[byte])?;
         }
     }
-    next
+    Ok(next)
 }
 
 // Outside of texts and remarks, what is neither a digit nor one of these marks is a command, after which the numbers
 // are 0 again.
 fn read(
+    rt: &impl Print,
     now: Now,
     byte: u8,
     pair: &mut [f64],
@@ -119,15 +142,15 @@ fn read(
     numbers: &mut [u64],
     old: &mut [u8],
     new: &mut [u8],
-) -> Now {
+) -> io::Result<Now> {
     if now.until > 0 {
-        return inside(now, byte);
+        return inside(rt, now, byte);
     }
     let mut next = now;
     let digit = scores::digit(byte);
     if digit < now.base {
         next.last = scores::with_digit(now.last, now.base, digit);
-        return next;
+        return Ok(next);
     }
     match byte {
         b'"' => next.until = b'"',
@@ -139,12 +162,14 @@ fn read(
             next.base = 10;
         }
         b'\n' => {
-            io::write_all(STDOUT_FILENO, b"\n");
+            rt.write_all(b"\n")?;
         }
         b' ' | b'_' => {}
-        _ => next = obeyed(now, byte, pair, shelves, magnitudes, numbers, old, new),
+        _ => {
+            next = obeyed(rt, now, byte, pair, shelves, magnitudes, numbers, old, new)?;
+        }
     }
-    next
+    Ok(next)
 }
 
 // What is known after a command that makes no call and changes no buffer; after any command the numbers are 0.
@@ -172,6 +197,7 @@ fn chosen(now: Now, letter: u8) -> Now {
 }
 
 fn obeyed(
+    rt: &impl Print,
     now: Now,
     letter: u8,
     pair: &mut [f64],
@@ -180,7 +206,7 @@ fn obeyed(
     numbers: &mut [u64],
     old: &mut [u8],
     new: &mut [u8],
-) -> Now {
+) -> io::Result<Now> {
     let mut next = chosen(now, letter);
     match letter {
         b'G' | b'N' | b'L' | b'B' => {}
@@ -198,11 +224,15 @@ fn obeyed(
             calls::doctored(now.word, now.kept, shelves);
         }
         b'S' => calls::spoil(now.last as usize, pair, shelves, magnitudes, numbers),
-        b'P' | b'Q' | b'W' => calls::looked(now, letter, pair, shelves, magnitudes, numbers),
+        b'P' | b'Q' | b'W' => {
+            calls::looked(rt, now, letter, pair, shelves, magnitudes, numbers)?;
+        }
         _ => {
-            calls::made(now, letter, pair, shelves, magnitudes, numbers, old, new);
+            calls::made(
+                rt, now, letter, pair, shelves, magnitudes, numbers, old, new,
+            )?;
             next.beside = false;
         }
     }
-    next
+    Ok(next)
 }

@@ -4,8 +4,11 @@
 // ends the replay.
 #![tactic(auto)]
 
-use libc::{STDIN_FILENO, STDOUT_FILENO};
+ghost use Rattle.std.specs.Prelude.{◌≤◌, IfOk, length};
+
 use nearness::Finding;
+use std::io;
+use std::io::Read;
 
 mod block_rows;
 mod envelope_rows;
@@ -51,45 +54,50 @@ const RENDER: u64 = 0x7265_646e_6572;
 
 const LANES: u64 = 0x73_656e_616c;
 
-fn main() {
+fn main(rt: HostRuntime) -> io::Result<()> {
     let mut row = [0u8; LONGEST];
-    lend(&mut row);
+    lend(&rt, &mut rt.stdin(), &mut row)
 }
 
 // An array that is lent as an array has its length by its type: `main` would have to count the zeros.
-fn lend(row: &mut [u8; LONGEST]) {
-    replay(row);
+fn lend(rt: &impl Print, input: &mut impl Read, row: &mut [u8; LONGEST]) -> io::Result<()> {
+    replay(rt, input, row)
 }
 
 // Replays part after part, and says so where a head names none; at the end of the input it prints nothing. A proved
 // loop has to end, and nothing says that the input does: the loop counts its turns down from 2^64 - 1.
-fn replay(row: &mut [u8]) {
+fn replay(rt: &impl Print, input: &mut impl Read, row: &mut [u8]) -> io::Result<()> {
     let mut turns = u64::MAX;
     while turns > 0 {
-        let got = filled(row, 0, HEAD);
+        let got = filled(input, row, 0, HEAD)?;
         let name = words::u64_at(row, 0);
         if (got < HEAD) | (first_of(name) == 0) {
             if got > 0 {
-                io::write_all(STDOUT_FILENO, b"no part\n");
+                rt.write_all(b"no part\n")?;
             }
-            return;
+            return Ok(());
         }
-        replay_part(name, row);
+        replay_part(rt, input, name, row)?;
         turns -= 1;
     }
+    Ok(())
 }
 
 // Replays the rows of a part; its line is begun before them and ended after them.
-fn replay_part(name: u64, row: &mut [u8]) {
+fn replay_part(
+    rt: &impl Print,
+    input: &mut impl Read,
+    name: u64,
+    row: &mut [u8],
+) -> io::Result<()> {
     let rows = words::u64_at(row, 8);
-    tell_head(name, rows, row);
+    tell_head(rt, name, rows, row)?;
     let mut equal = 0;
     let mut farthest = 0.0;
     let mut left = rows;
     while left > 0 {
-        if !is_read(name, row) {
-            tell_found(name, equal, farthest);
-            return;
+        if !is_read(input, name, row)? {
+            return tell_found(rt, name, equal, farthest);
         }
         let found = compared(name, row);
         farthest = nearness::larger(found.farthest, farthest);
@@ -98,28 +106,45 @@ fn replay_part(name: u64, row: &mut [u8]) {
         }
         left -= 1;
     }
-    tell_found(name, equal, farthest);
+    tell_found(rt, name, equal, farthest)
 }
 
 // Reads a row: its first bytes, then as many words as those say, none where those are too many; whether all of the row
 // was there.
-fn is_read(name: u64, row: &mut [u8]) -> bool {
+fn is_read(input: &mut impl Read, name: u64, row: &mut [u8]) -> io::Result<bool> {
     let first = first_of(name);
-    let is_begun = filled(row, 0, first) == first;
+    let is_begun = filled(input, row, 0, first)? == first;
     let more = match name {
         BLOCKS => words::u64_at(row, block_rows::MORE),
         RENDER => words::u64_at(row, render_rows::MORE),
         _ => 0,
     };
     let size = if more <= MOST { 8 * more as usize } else { 0 };
-    is_begun & (more <= MOST) & (filled(row, first, size) == size)
+    let is_whole = filled(input, row, first, size)? == size;
+    Ok(is_begun & (more <= MOST) & is_whole)
 }
 
 // Reads `size` bytes to byte `first` of the row, or as many as fit; how many there were.
-fn filled(row: &mut [u8], first: usize, size: usize) -> usize {
+fn filled(input: &mut impl Read, row: &mut [u8], first: usize, size: usize) -> io::Result<usize> {
     let start = fields::at_most(first as u64, row.len());
     let end = start + fields::at_most(size as u64, row.len() - start);
-    io::read_full(STDIN_FILENO, &mut row[start..end])
+    read_full(input, &mut row[start..end])
+}
+
+// Reads until the buffer is full or the input ends; how many bytes were read. Nothing is known of the buffer where a
+// read fails.
+fn read_full(input: &mut impl Read, buf: &mut [u8]) -> io::Result<usize>
+    ensures { IfOk result (λ n. n ≤ length buf.new) }
+{
+    let mut n = 0;
+    while n < buf.len() {
+        let k = input.read(&mut buf[n..])?;
+        if k == 0 {
+            return Ok(n);
+        }
+        n += k;
+    }
+    Ok(n)
 }
 
 // How many first bytes a row of the part has; 0 where no part has that name.
@@ -161,7 +186,7 @@ fn compared(name: u64, row: &[u8]) -> Finding {
 }
 
 // The name is still in the row, where the head was read.
-fn tell_head(name: u64, rows: u64, row: &[u8]) {
+fn tell_head(rt: &impl Print, name: u64, rows: u64, row: &[u8]) -> io::Result<()> {
     let letters = match name {
         SINE => 4,
         PHASE | PITCH | VOICE | LANES => 5,
@@ -169,26 +194,17 @@ fn tell_head(name: u64, rows: u64, row: &[u8]) {
         _ => 8,
     };
     let end = fields::at_most(letters, row.len());
-    io::write_all(STDOUT_FILENO, &row[0..end]);
-    io::write_all(STDOUT_FILENO, b": ");
-    io::print_decimal(STDOUT_FILENO, rows);
-    io::write_all(STDOUT_FILENO, b" rows, ");
+    rt.write_all(&row[0..end])?;
+    print!(rt; ": {rows} rows, ")
 }
 
-fn tell_found(name: u64, equal: u64, farthest: f64) {
-    io::print_decimal(STDOUT_FILENO, equal);
+fn tell_found(rt: &impl Print, name: u64, equal: u64, farthest: f64) -> io::Result<()> {
+    rt.print(equal)?;
     match name {
-        SINE => {
-            io::write_all(STDOUT_FILENO, b" within 0.000001, largest difference ");
-        }
-        BLOCKS | RENDER => {
-            io::write_all(STDOUT_FILENO, b" equal, largest difference of a sine ");
-        }
-        _ => {
-            io::write_all(STDOUT_FILENO, b" equal\n");
-            return;
-        }
+        SINE => rt.write_all(b" within 0.000001, largest difference ")?,
+        BLOCKS | RENDER => rt.write_all(b" equal, largest difference of a sine ")?,
+        _ => return rt.write_all(b" equal\n"),
     }
-    io::print_decimal(STDOUT_FILENO, nearness::billionths(farthest) as u64);
-    io::write_all(STDOUT_FILENO, b" billionths\n");
+    let off = nearness::billionths(farthest);
+    println!(rt; "{off} billionths")
 }

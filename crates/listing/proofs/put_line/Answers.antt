@@ -31,9 +31,9 @@ put-requires c = let g = c.args.given in let w : Widths g = widths g (search rul
 
 pub returns : goal.returns
 returns c = let g = c.args.given in let w : Widths g = widths g (search rules) (search rules) (search rules) in (
-      (
-          let upto-kind = put_both c.put_number-a.ensures c.put_kind-b.ensures in
-          let upto-gap = put_both (put_both upto-kind c.put_number-c.ensures) c.put-d.ensures in
-          put_both (put_both upto-gap c.put_number-e.ensures) c.put.ensures),
-      omega arith,
-    )
+  (
+      let upto-kind = put_both c.put_number-a.ensures c.put_kind-b.ensures in
+      let upto-gap = put_both (put_both upto-kind c.put_number-c.ensures) c.put-d.ensures in
+      put_both (put_both upto-gap c.put_number-e.ensures) c.put.ensures),
+  omega arith,
+)

@@ -15,10 +15,10 @@ put_line-at-requires c = let put = c.loop-i.invariant.2 in omega (arith, put.sam
 
 pub loop-i-preserved : goal.loop-i-preserved
 loop-i-preserved c = let line = c.put_line-at.ensures in (
-      omega arith,
-      omega (arith, line.1),
-      put_next _ c.loop-i.i _ _ _ _ _ _ _ c.record_at.ensures c.loop-i.invariant.2 line.0,
-    )
+  omega arith,
+  omega (arith, line.1),
+  put_next _ c.loop-i.i _ _ _ _ _ _ _ c.record_at.ensures c.loop-i.invariant.2 line.0,
+)
 
 pub shape_of-out : goal.shape_of-out
 shape_of-out c = c.loop-i.invariant.2.same_length

@@ -7,8 +7,8 @@ use Rattle.listing.proofs.put_number.Goals as goal
 
 pub put-requires : goal.put-requires
 put-requires c = let a = c.args in let made = c.decimal-k in let small : a.n < 18446744073709551616 = search rules in
-    rw (made.ensures.1.1 ∙ fewest_decimal a.n made.result small made.ensures.1.0) c.requires
+    rw (made.ensures.digits ∙ fewest_decimal a.n made.result small made.ensures.len) c.requires
 
 pub returns : goal.returns
 returns c = let a = c.args in let made = c.decimal-k in let small : a.n < 18446744073709551616 = search rules in
-    rw (← fewest_decimal a.n made.result small made.ensures.1.0, ← made.ensures.1.1) c.put.ensures
+    rw (← fewest_decimal a.n made.result small made.ensures.len, ← made.ensures.digits) c.put.ensures
