@@ -36,6 +36,15 @@ module _ (g : Settings) (room : Bool) (s : List ℕ) where
   render-first Setting h = six_first g room s h
   render-first Size h = seven_first g room s h.0 h.1
   render-first (Score fault) h = score-first g room s h.0 h.1 fault h.2
+  render-first (NewScore _) h = elim h [ ]
+  render-first StartEntry h = elim h [ ]
+  render-first Rattle.answers.specs.declared.Refusal.TheVariants.Argument h = elim h [ ]
+  render-first GivenState h = elim h [ ]
+  render-first (Rattle.answers.specs.declared.Refusal.TheVariants.EditFrame _) h = elim h [ ]
+  render-first (Rattle.answers.specs.declared.Refusal.TheVariants.NotThere _) h = elim h [ ]
+  render-first (Rattle.answers.specs.declared.Refusal.TheVariants.Full _) h = elim h [ ]
+  render-first Rattle.answers.specs.declared.Refusal.TheVariants.Page h = elim h [ ]
+  render-first (Rattle.answers.specs.declared.Refusal.TheVariants.Edit _) h = elim h [ ]
 
 pub render_exactly : (g : Settings) (s : List ℕ) (b : Buffers) → RenderExactly g s b
 render_exactly g s b =

@@ -254,6 +254,8 @@ module _ (g : Settings) (old es : List ℕ) (b : Buffers) (space : List ℕ) whe
   fault_early begun (Mark i) h = reached-first begun i h.0 (Edit (Mark i)) (fault_first (score_after old es i) es i (framed-right es i h.1) (Mark i) (rw h.2 refl))
   fault_early begun (Kind i) h = reached-first begun i h.0 (Edit (Kind i)) (fault_first (score_after old es i) es i (framed-right es i h.1) (Kind i) (rw (h.2, h.3) refl))
   fault_early begun (Field i) h = reached-first begun i h.0 (Edit (Field i)) (fault_first (score_after old es i) es i (framed-right es i h.1) (Field i) (rw (h.2, h.3, h.4) refl))
+  fault_early begun Rattle.answers.specs.declared.ScoreFault.TheVariants.Length h = elim h [ ]
+  fault_early begun (Rattle.answers.specs.declared.ScoreFault.TheVariants.Order _) h = elim h [ ]
 
   page_first : (why : Refusal) → PageGives why → Leads why (page_refusals g old es b space)
   unfolding first_refusals
