@@ -9,7 +9,7 @@ use lib.ListN.{length}
 use lib.Ieee.{Float}
 use Rattle.answers.specs.Order.{unless}
 use Rattle.answers.specs.declared.Refusal.{Refusal}
-use Rattle.answers.specs.declared.Refusal.TheVariants.{Score, NewScore, Setting, Size, StartEntry, GivenState}
+use Rattle.answers.specs.declared.Refusal.TheVariants.{Score, NewScore, Setting, Size, StartEntry, GivenState, Argument, Edit, EditFrame, Full, NotThere, Page}
 use Rattle.answers.proofs.Order.{passed, none_both, Leads, leads_append, leads_after, leads_parts, leads_unless}
 use Rattle.sections.specs.Outcome.{Buffers, samples_in, room_in}
 use Rattle.judging.specs.Judging.{refusals_of, Passed, new_refusals_of, part_fits}
@@ -38,13 +38,13 @@ module _ (g : Settings) (room : Bool) (s : List ℕ) where
   render-first (Score fault) h = score-first g room s h.0 h.1 fault h.2
   render-first (NewScore _) h = elim h [ ]
   render-first StartEntry h = elim h [ ]
-  render-first Rattle.answers.specs.declared.Refusal.TheVariants.Argument h = elim h [ ]
+  render-first Argument h = elim h [ ]
   render-first GivenState h = elim h [ ]
-  render-first (Rattle.answers.specs.declared.Refusal.TheVariants.EditFrame _) h = elim h [ ]
-  render-first (Rattle.answers.specs.declared.Refusal.TheVariants.NotThere _) h = elim h [ ]
-  render-first (Rattle.answers.specs.declared.Refusal.TheVariants.Full _) h = elim h [ ]
-  render-first Rattle.answers.specs.declared.Refusal.TheVariants.Page h = elim h [ ]
-  render-first (Rattle.answers.specs.declared.Refusal.TheVariants.Edit _) h = elim h [ ]
+  render-first (EditFrame _) h = elim h [ ]
+  render-first (NotThere _) h = elim h [ ]
+  render-first (Full _) h = elim h [ ]
+  render-first Page h = elim h [ ]
+  render-first (Edit _) h = elim h [ ]
 
 pub render_exactly : (g : Settings) (s : List ℕ) (b : Buffers) → RenderExactly g s b
 render_exactly g s b =
@@ -78,6 +78,14 @@ module _ (g : Settings) (room : Bool) (s : List ℕ) (given : Bool) where
   continue_first Setting h = leads_append Setting judged tenth (render-first g room s Setting h)
   continue_first Size h = leads_append Size judged tenth (render-first g room s Size h)
   continue_first (Score fault) h = leads_append (Score fault) judged tenth (render-first g room s (Score fault) h)
+  continue_first (NewScore _) h = elim h [ ]
+  continue_first StartEntry h = elim h [ ]
+  continue_first Argument h = elim h [ ]
+  continue_first (EditFrame _) h = elim h [ ]
+  continue_first (NotThere _) h = elim h [ ]
+  continue_first (Full _) h = elim h [ ]
+  continue_first Page h = elim h [ ]
+  continue_first (Edit _) h = elim h [ ]
 
 pub continue_exactly : (g : Settings) (s : List ℕ) (v : State) (p : ℕ) (part : List Float) → ContinueExactly g s v p part
 continue_exactly g s v p part =
@@ -144,6 +152,13 @@ module _ (g : Settings) (old new : List ℕ) (b : Buffers) where
   rerender-first Setting h = early Setting h
   rerender-first Size h = early Size h
   rerender-first (Score fault) h = early (Score fault) h
+  rerender-first Argument h = elim h [ ]
+  rerender-first GivenState h = elim h [ ]
+  rerender-first (EditFrame _) h = elim h [ ]
+  rerender-first (NotThere _) h = elim h [ ]
+  rerender-first (Full _) h = elim h [ ]
+  rerender-first Page h = elim h [ ]
+  rerender-first (Edit _) h = elim h [ ]
 
   -- no entry is read, or a re-render can start from it
   pub starts : eighth ≡ [] → (m : ℕ) → plan_of old new n ≡ From m → is_start new m shelf ≡ true

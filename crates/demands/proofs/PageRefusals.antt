@@ -12,9 +12,9 @@ use lib.ListN.{length}
 use borrow.Author.Tests.{le-ltb, ltb-false, eq-eqb, eqb-true}
 use Rattle.answers.specs.Order.{unless}
 use Rattle.answers.specs.declared.Refusal.{Refusal}
-use Rattle.answers.specs.declared.Refusal.TheVariants.{Score, Setting, Size, StartEntry, EditFrame, NotThere, Full, Page, Edit}
+use Rattle.answers.specs.declared.Refusal.TheVariants.{Score, Setting, Size, StartEntry, EditFrame, NotThere, Full, Page, Edit, Argument, GivenState, NewScore}
 use Rattle.answers.specs.declared.ScoreFault.{ScoreFault}
-use Rattle.answers.specs.declared.ScoreFault.TheVariants.{Mark, Kind, Field}
+use Rattle.answers.specs.declared.ScoreFault.TheVariants.{Mark, Kind, Field, Length, Order}
 use Rattle.answers.proofs.Order.{passed, none_both, none-map, Leads, leads_append, leads_after, leads_parts, leads_unless, leads_map, map_leads}
 use Rattle.sections.specs.Outcome.{Buffers, samples_in, room_in}
 use Rattle.judging.specs.Judging.{refusals_of}
@@ -254,8 +254,8 @@ module _ (g : Settings) (old es : List ℕ) (b : Buffers) (space : List ℕ) whe
   fault_early begun (Mark i) h = reached-first begun i h.0 (Edit (Mark i)) (fault_first (score_after old es i) es i (framed-right es i h.1) (Mark i) (rw h.2 refl))
   fault_early begun (Kind i) h = reached-first begun i h.0 (Edit (Kind i)) (fault_first (score_after old es i) es i (framed-right es i h.1) (Kind i) (rw (h.2, h.3) refl))
   fault_early begun (Field i) h = reached-first begun i h.0 (Edit (Field i)) (fault_first (score_after old es i) es i (framed-right es i h.1) (Field i) (rw (h.2, h.3, h.4) refl))
-  fault_early begun Rattle.answers.specs.declared.ScoreFault.TheVariants.Length h = elim h [ ]
-  fault_early begun (Rattle.answers.specs.declared.ScoreFault.TheVariants.Order _) h = elim h [ ]
+  fault_early begun Length h = elim h [ ]
+  fault_early begun (Order _) h = elim h [ ]
 
   page_first : (why : Refusal) → PageGives why → Leads why (page_refusals g old es b space)
   unfolding first_refusals
@@ -268,6 +268,9 @@ module _ (g : Settings) (old es : List ℕ) (b : Buffers) (space : List ℕ) whe
   page_first (NotThere i) h = held_early h.0 i h.1 (NotThere i) (absent_first (score_after old es i) es i (two es i h.2) h.3)
   page_first (Full i) h = held_early h.0 i h.1 (Full i) (full-first (score_after old es i) es i (eq-eqb _ _ h.2) h.3)
   page_first StartEntry h = leads_after StartEntry (first ++ edits) eighth (none_before-eighth h.0 h.1) (rw (h.2.1, h.2.2) refl)
+  page_first (NewScore _) h = elim h [ ]
+  page_first Argument h = elim h [ ]
+  page_first GivenState h = elim h [ ]
 
   pub page_exactly : PageExactly g old es b space
   page_exactly =
