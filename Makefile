@@ -8,7 +8,6 @@ PACKAGES = $(shell command -v python3 >/dev/null || echo python3) \
            $(shell command -v c++ >/dev/null || echo g++) \
            $(shell command -v pkg-config >/dev/null || echo pkg-config) \
            $(shell command -v groff >/dev/null || echo groff-base) \
-           $(shell test "$$(uname -m)" = x86_64 || command -v x86_64-linux-gnu-gcc >/dev/null || echo gcc-x86-64-linux-gnu libc6-dev-amd64-cross) \
            $(shell command -v sox >/dev/null || echo sox) \
            $(shell command -v sndfile-info >/dev/null || echo sndfile-programs)
 
@@ -37,12 +36,12 @@ INSTALLED = $(DESTDIR)$(PREFIX)
 .PHONY: always help check test ci judges judges-deps fmt lib desk man install demo fuzz bench deps vectors clean
 
 help:
-	@echo 'make check   prove every crate and run each program (rt check)'
-	@echo 'make test    run the host tests (tests/run); some read what rt ci left in target/'
+	@echo 'make check   prove every crate, over what earlier checks kept (rt all check)'
+	@echo 'make test    run the host tests (tests/run); some run programs that rt ci left in crates/NAME/out'
 	@echo 'make ci      run the gate: rt ci, then the host tests'
 	@echo 'make judges  run what no gate does: ffmpeg, aplay, JACK and ten minutes of libFuzzer beside the desk and the library'
-	@echo 'make fmt     lay out every .rt and .antt file (rt fmt)'
-	@echo 'make lib     prove what C sees and build it for this processor: build/libgavberin.a and build/libgavberin.so'
+	@echo 'make fmt     lay out every .rt and .antt file (rt fmt in each crate)'
+	@echo 'make lib     prove what C sees and build it (rt lib): build/libgavberin.a and build/libgavberin.so'
 	@echo 'make desk    build the desk, build/desk, and the library that it needs'
 	@echo 'make man     write the man page of the desk, build/desk.1, from what its verbs say of themselves'
 	@echo 'make install put header, libraries, gavberin.pc, desk and its man page under PREFIX=$(PREFIX), below DESTDIR'
@@ -52,10 +51,10 @@ help:
 	@echo 'make bench   measure the library beside the original and C, on one core: BENCH="--seed 7", bench/run --help'
 	@echo 'make deps    install what the host tests need and is missing here, with apt-get'
 	@echo 'make vectors write the committed rows of the replay anew, from the original (oracle/)'
-	@echo 'make clean   remove target/ and build/'
+	@echo 'make clean   remove build/ and the out/ of each crate'
 
 check:
-	@rt check
+	@rt all check --jobs "$$(nproc)"
 
 test:
 	@tests/run
@@ -70,13 +69,13 @@ judges-deps:
 	@$(MAKE) --no-print-directory deps PACKAGES='ffmpeg alsa-utils jackd2 jack-capture libjack-jackd2-dev clang libclang-rt-dev'
 
 fmt:
-	@rt fmt
+	@for crate in crates/*/; do (cd "$$crate" && rt fmt) || exit 1; done
 
 lib: build/libgavberin.a build/libgavberin.so
 
 # Made again where the code of a crate has changed since; `make lib` always asks rt, which proves what has changed.
-build/proved.a: $(shell find crates -name '*.rt') tools/native-lib $(if $(filter lib,$(MAKECMDGOALS)),always)
-	@tools/native-lib ffi $@
+build/proved.a: $(wildcard crates/*/src/*.rt) tools/native-lib $(if $(filter lib,$(MAKECMDGOALS)),always)
+	@tools/native-lib ffi_c $@
 
 build/libgavberin.a: build/proved.a build/words.o
 	@cp build/proved.a $@
@@ -164,4 +163,4 @@ vectors:
 	@oracle/vectors
 
 clean:
-	@rm -rf target build
+	@rm -rf build crates/*/out

@@ -18,16 +18,15 @@ import shutil
 import subprocess
 import tempfile
 import threading
-import time
 from concurrent.futures import ThreadPoolExecutor
 from pathlib import Path
 from typing import NamedTuple
 
-from complaints import said
+from complaints import could_not_tell, is_name, said
 
 ROOT = Path(__file__).resolve().parent.parent
-AT_A_TIME = 2  # a check takes up to 2 GB
-SECONDS = 900  # and none takes so long
+AT_A_TIME = 3  # a check takes up to 2 GB
+SECONDS = 1800  # and none takes so long
 FORM = re.compile(
     r"says: (?P<says>\S.*)\nof: (?P<of>[\w:]+(?:, [\w:]+)*)\n(?:gate: (?P<gate>yes|listed)\n)?"
     r"(?:file: \S+\n(?:(?:old: .+\n)+(?:new:(?: .*)?\n)+)+)+"
@@ -36,7 +35,8 @@ EDIT = re.compile(r"^(file|old|new):(?: (.*))?$", re.M)
 # What begins a function, of a type or not, or another item of a file.
 ITEM = re.compile(r"^(?:impl (?P<type>\w+)|(?P<inner> +)?(?:pub )?(?:extern \"C\" )?fn (?P<fn>\w+)|(?:pub )?(?:const|struct|enum) )", re.M)
 COPY = "_again"  # in the name of a function's copy, before its number
-PLACE = re.compile(r"(?:(src/\S+\.rt):(\d+):|proofs/(\S+)/Proof\.antt:)")
+AS_IT_IS = 1  # the number of the copy that has no edit
+PLACE = re.compile(r"(?:(src/\S+\.rt):(\d+):|proofs/(\S+)/(?:Answers|Invariants|Proof)\.antt:)")
 
 
 class Program(NamedTuple):
@@ -52,7 +52,6 @@ class Tried(NamedTuple):
     program: Program
     fault: str  # empty where a fact refused it
     complaint: str  # the first
-    seeded: bool
 
 
 def files(folder):
@@ -131,10 +130,8 @@ def function_of(program):
 
 
 def batches(programs):
-    """The programs in batches, by the function that each makes wrong: one check tries all of a crate that change the
-    body of one function, since a function's proof knows the others by their contracts alone, which no such program
-    changes. Where several change the same function, each but the first makes a copy of it wrong, under a name of its
-    own."""
+    """The programs in batches: all of a crate that change the body of one function each are tried by one check, each in
+    a copy of its function under a name of its own, which nothing calls; every other program alone."""
     together, alone = {}, []
     for program in programs:
         function = function_of(program)
@@ -142,8 +139,8 @@ def batches(programs):
             alone.append({None: program})
             continue
         of_crate = together.setdefault(program.crate, {})
-        names = (function, *(f"{function}{COPY}{i}" for i in range(2, len(programs) + 2)))
-        of_crate[next(name for name in names if name not in of_crate)] = program
+        number = AS_IT_IS + 1 + sum(name.rpartition(COPY)[0] == function for name in of_crate)
+        of_crate[f"{function}{COPY}{number}"] = program
     return [*together.values(), *alone]
 
 
@@ -163,34 +160,34 @@ def span_of(name, text, function):
 def with_copy(texts, plain, name, function, copy, body):
     """Texts with a copy of a function of a plain crate added, under its own name and with this body, and of its proof."""
     old, new = (path.split("/")[-1] for path in (function, copy))
-    body = re.sub(rf"(?:pub )?(?:extern \"C\" )?fn {old}\b", f"fn {new}", body, count=1)
+    body = re.sub(rf"((?:pub )?)(?:extern \"C\" )?fn {old}\b", rf"\1fn {new}", body, count=1)
     _, end = span_of(name, texts[name], function)
     texts = texts | {name: texts[name][:end] + "\n" + body + texts[name][end:]}
     for file, text in plain.items():
         if file.startswith(f"proofs/{function}/"):
             text = text.replace(f"proofs.{function.replace('/', '.')}.", f"proofs.{copy.replace('/', '.')}.")
-            text = re.sub(rf"(?<![\w-]){old.replace('_', '-')}-spec\b", f"{new.replace('_', '-')}-spec", text)
             texts[f"proofs/{copy}/{file.removeprefix(f'proofs/{function}/')}"] = text
     return texts
 
 
-def made_together(batch, are_wrong=True):
-    """The files of a crate with all programs of a batch in it, or only with the copies that they need, as they are.
-    ValueError where two do not fit together."""
+def made_together(batch):
+    """The files of a crate with a copy of a function for each program of a batch, which it makes wrong, and with one of
+    each of these functions as it is."""
     plain = texts_of(ROOT / "crates" / crate_of(batch))
     texts = plain
-    for name, program in batch.items():
-        function, is_copy, _ = (name or "").partition(COPY)
-        if is_copy:
-            file = program.edits[0]["file"]
-            start, end = span_of(file, plain[file], function)
-            body = plain[file][start:end]
-            if are_wrong:
-                body = made(program, plain | {file: body})[file]
-            texts = with_copy(texts, plain, file, function, name, body)
-        elif are_wrong:
-            texts = made(program, texts)
+    for copy, program in [*as_they_are(batch).items(), *batch.items()]:
+        file, (function, _, number) = program.edits[0]["file"], copy.rpartition(COPY)
+        start, end = span_of(file, plain[file], function)
+        body = plain[file][start:end]
+        if int(number) != AS_IT_IS:
+            body = made(program, plain | {file: body})[file]
+        texts = with_copy(texts, plain, file, function, copy, body)
     return texts
+
+
+def as_they_are(batch):
+    """The copies without an edit, each with a program of its function."""
+    return {f"{copy.rpartition(COPY)[0]}{COPY}{AS_IT_IS}": program for copy, program in batch.items()}
 
 
 def is_of(function, texts):
@@ -206,49 +203,78 @@ def is_of(function, texts):
     return test
 
 
-class Checker:
-    """Checks copies of crates in a folder outside the repository, over what target/ has of the crates below them.
+def in_rattle(crate, function):
+    """A function's name as a check prints it."""
+    return f"{crate}::{function.replace('/', '::')}"
 
-    A check of one function's edit need not prove the others again: it may start from the modules of the crate that were
-    checked when target/rlib/CRATE.rlib was made, its seed, which rattle takes from a folder of its own in the one that
-    --incremental names. What a program is refused for is judged by the complaint; whatever a fact does not refuse over
-    the seed is checked again from nothing, and that counts. Programs of different functions, and of copies of one, are
-    tried by one check, and each is judged by the complaints of its own function.
+
+def names_in(folder):
+    """The goals of a function, and what the code's steps are called that its proof cites, in the order of the code."""
+    goals = re.findall(r"^pub (\S+) : goal\.", (folder / "AnswersOffered.antt").read_text("utf-8"), re.M)
+    return goals, re.findall(r"^ +pub ([^\s:]+) :", (folder / "Lts.antt").read_text("utf-8"), re.M)
+
+
+def renamed(text, names):
+    """A proof file with the names of goals and steps that the edited code has in the place of those that it had."""
+    return re.sub(r"[^\s(){}.;,]+", lambda word: names.get(word[0], word[0]), text)
+
+
+def linked(folder, to):
+    """Copies what a check kept; what it proved by links, since a check replaces such a file and writes into none."""
+
+    def copy(one, other):
+        try:
+            os.link(one, other) if one.endswith(".oantt") else shutil.copy2(one, other)
+        except OSError:
+            shutil.copy2(one, other)
+
+    shutil.copytree(folder, to, symlinks=True, copy_function=copy)
+
+
+class Checker:
+    """Checks copies of crates in a folder outside the repository, over the libraries below and over what the last check
+    of the crate proved, as `rt check` left them in out/: so only what an edit changes is checked again.
+
+    The programs of a batch are tried by one check, and each is judged by the complaints of its own copy of its function.
+    The copies without an edit must be proved in that check. Where a proof names a goal or a step of the code that the
+    edit gives another name, as `size-ge4` for `size-ge5`, no fact is tried: then the copy's proof gets the new names,
+    and is checked again.
     """
 
     def __init__(self, room):
-        self.room, self.lock, self.made, self.env = Path(room), threading.Lock(), 0, os.environ | {"TMPDIR": str(room)}
-        guide = subprocess.run(["rt", "doc"], capture_output=True, text=True, check=True).stdout.strip()
-        self.kit = Path(guide).parent.parent
-        self.own = self.kit / "on" / os.uname().machine
+        self.room, self.lock, self.made = Path(room), threading.Lock(), 0
+        self.kit = Path(subprocess.run(["rt", "doc"], capture_output=True, text=True, check=True).stdout.strip()).parent
         lines = [line.split("#")[0] for line in (ROOT / "crates.txt").read_text("utf-8").splitlines()]
-        self.needs = {line.split(":")[0].strip(): line.split(":")[1].split() for line in lines if ":" in line}
-        self.seeds = ""
+        self.needs = {line.split(":")[0].split()[0]: line.split(":")[1].split() for line in lines if ":" in line}
+
+    def below(self, crate):
+        """The crates of the repository that a crate stands on."""
+        own = [name for name in self.needs[crate] if name in self.needs]
+        return {*own}.union(*(self.below(name) for name in own))
 
     def words(self, crate, home):
         """What rt says to rattle."""
-        file = home / "src" / ("main.rt" if (home / "src/main.rt").is_file() else "lib.rt")
-        words = [self.own / "bin/rattle", "check", "--crate-name", crate, file, "--extern", f"std={self.own}/rlib/std.rlib"]
-        for name in self.needs[crate]:
-            place = ROOT / "target" if (ROOT / "crates" / name).is_dir() else self.own
-            words += ["--extern", f"{name}={place}/rlib/{name}.rlib"]
-        words += ["-L", f"dependency={ROOT}/target/rlib", "-L", f"dependency={self.own}/rlib"]
-        return words + ["--antt-project", self.kit / "logic/antt-project.json", "--logic-built", self.own / "logic-built"]
+        file = "src/main.rt" if (home / "src/main.rt").is_file() else "src/lib.rt"
+        words = [self.kit / "bin/rattle", "check", "--crate-name", crate, file]
+        for name in ["std", *self.needs[crate]]:
+            place = ROOT / "crates" / name / "out/rlib" if name in self.needs else self.kit / "rlibs"
+            words += ["--extern", f"{name}={place}/{name}.rlib"]
+        for place in [self.kit / "rlibs", *(ROOT / "crates" / name / "out/rlib" for name in sorted(self.below(crate)))]:
+            words += ["-L", f"dependency={place}"]
+        words += ["--antt-project", self.kit / "rattle/logic/antt-project.json", "--logic-built", self.kit / "logic_built"]
+        return words + ["--jobs", "1", "--links", f"{crate}="]
 
-    def seed_of(self, crate):
-        return ROOT / f"target/rlib/{crate}.rlib/toolchain/checked"
-
-    def learn_seeds(self, batch):
-        """Checks a crate as it is, with the copies of functions that a batch needs, which must be proved, and sees where
-        rattle keeps what it checked."""
-        crate = crate_of(batch)
-        home = self.folder(made_together(batch, are_wrong=False))
-        status, log = self.run([*self.words(crate, home), "--incremental", home / "kept"])
-        if status != 0:
-            raise ValueError(f"{crate} itself, or a copy of a function of it, is not proved:\n{log}")
-        kept = [f.name for f in (home / "kept").iterdir() if any(f.glob("*.oantt"))] if (home / "kept").is_dir() else []
-        self.seeds = kept[0] if len(kept) == 1 else ""
-        shutil.rmtree(home)
+    def current(self, crates):
+        """Has rt prove what has changed of these crates and of those below since it left out/. ValueError where it cannot."""
+        crates = [name for name in self.needs if name in crates]
+        tops = [name for name in crates if not any(name in self.below(other) for other in crates)]
+        rest = [name for name in crates if name not in tops]
+        for name in [*tops, *rest]:  # a check of the first makes the others as libraries
+            if name in rest and (ROOT / "crates" / name / "out/incremental").is_dir():
+                continue
+            ran = subprocess.run(["rt", "check"], cwd=ROOT / "crates" / name, capture_output=True, text=True, errors="replace")
+            if ran.returncode != 0:
+                raise ValueError(f"{name} is not proved as it is:\n{ran.stdout}{ran.stderr}")
 
     def folder(self, texts):
         with self.lock:
@@ -259,28 +285,25 @@ class Checker:
             (home / name).write_bytes(text.encode("utf-8"))
         return home
 
-    def run(self, words):
-        """The exit status and all that was said; no status where it took too long."""
+    def check(self, crate, texts, *flags, keep=True):
+        """The exit status and all that was said of a crate with these texts; no status where it took too long."""
+        home = self.folder(texts)
+        kept = ROOT / "crates" / crate / "out/incremental"
+        words = [*self.words(crate, home), *flags]
+        if keep and kept.is_dir():
+            linked(kept, home / "kept")
+            words += ["--incremental", home / "kept"]
         try:
-            ran = subprocess.run(words, capture_output=True, stdin=subprocess.DEVNULL, timeout=SECONDS, env=self.env)
+            ran = subprocess.run(words, cwd=home, capture_output=True, stdin=subprocess.DEVNULL, timeout=SECONDS)
+            return ran.returncode, (ran.stdout + ran.stderr).decode("utf-8", "replace")
         except subprocess.TimeoutExpired:
             return None, ""
-        return ran.returncode, (ran.stdout + ran.stderr).decode("utf-8", "replace")
+        finally:
+            shutil.rmtree(home)
 
-    def check(self, crate, texts, seeded):
-        """The exit status, the log, the folder that was checked, and whether the seed was taken."""
-        home = self.folder(texts)
-        words = self.words(crate, home)
-        if seeded:
-            shutil.copytree(self.seed_of(crate), home / "kept" / self.seeds)
-            words += ["--incremental", home / "kept"]
-        status, log = self.run(words)
-        shutil.rmtree(home)
-        return status, log, str(home).strip("/"), re.search(f"^crate {crate}: modules loaded=[1-9]", log, re.M) is not None
-
-    def judged(self, status, log, home, is_meant=lambda place: True):
+    def judged(self, status, log, is_meant=lambda place: True):
         """Why no fact refuses what was checked, empty where one does; and the first complaint that is meant."""
-        complaint, no_fact = said(log, home, is_meant)
+        complaint, no_fact = said(log, is_meant)
         if status == 0:
             return "it is proved: no statement rules it out", ""
         if status is None:
@@ -289,84 +312,75 @@ class Checker:
             return f"it did not reach the prover, or the prover could not tell (exit {status})", complaint or log[-300:]
         return no_fact or "", complaint
 
+    def judged_copy(self, status, log, texts, crate, copy):
+        """The same of a copy of a function, of which the check must also say that it is not proved."""
+        fault, complaint = self.judged(status, log, is_of(copy, texts))
+        line = re.search(rf"^fn {re.escape(in_rattle(crate, copy))}: (.*)", log, re.M)
+        if status == 1 and (line is None or line[1].startswith(("proved", "no proof: it calls"))):
+            return "it is proved: no statement rules it out" if line and line[1] == "proved" else "it was not tried", ""
+        if could_not_tell(line and line[1]):
+            return "the prover could not tell", complaint
+        return fault, complaint
+
     def alone(self, program):
-        """What becomes of one program: over the seed, and from nothing where no fact refuses it so."""
-        texts = made(program)
-        if self.seeds and self.seed_of(program.crate).is_dir():
-            status, log, home, taken = self.check(program.crate, texts, True)
-            fault, complaint = self.judged(status, log, home)
-            if not fault and taken:
-                return Tried(program, "", complaint, True)
-        status, log, home, _ = self.check(program.crate, texts, False)
-        return Tried(program, *self.judged(status, log, home), False)
+        """What becomes of one program, made in the crate itself."""
+        return Tried(program, *self.judged(*self.check(program.crate, made(program))))
 
     def tried(self, batch):
-        """What becomes of a batch's programs: all in one check, then each alone that no fact of its own refuses."""
-        programs, crate = list(batch.values()), crate_of(batch)
-        if len(programs) == 1 or not (self.seeds and self.seed_of(crate).is_dir()):
-            return [self.alone(program) for program in programs]
+        """What becomes of a batch's programs."""
+        crate = crate_of(batch)
+        if None in batch:
+            return [self.alone(program) for program in batch.values()]
         try:
             texts = made_together(batch)
-        except ValueError:  # where one's new text is another's old one, each is tried alone
-            return [self.alone(program) for program in programs]
-        status, log, home, taken = self.check(crate, texts, True)
-        all_of_it = []
-        for function, program in batch.items():
-            fault, complaint = self.judged(status, log, home, is_of(function, texts))
-            refused = taken and not fault
-            all_of_it.append(Tried(program, "", complaint, True) if refused else self.alone(program))
-        return all_of_it
+        except ValueError as wrong:
+            return [Tried(program, str(wrong), "") for program in batch.values()]
+        status, log = self.check(crate, texts)
+        for copy in as_they_are(batch):
+            if not re.search(rf"^fn {re.escape(in_rattle(crate, copy))}: proved$", log, re.M):
+                # what a copy shows is nothing then: by the first complaint, a program that cannot be compiled, say
+                return [self.alone(program) for program in batch.values()]
+        judged = {copy: self.judged_copy(status, log, texts, crate, copy) for copy in batch}
+        unfit = {copy: batch[copy] for copy, (fault, _) in judged.items() if is_name(fault)}
+        if unfit:
+            texts = self.fitted(crate, texts, unfit)
+            judged |= {copy: self.judged_copy(*again, crate, copy) for again in [(*self.check(crate, texts), texts)] for copy in unfit}
+        return [Tried(program, *judged[copy]) for copy, program in batch.items()]
 
-
-def current(crates):
-    """Has rt prove what has changed of the crates since target/ was made. ValueError where it cannot."""
-    ran = subprocess.run(["rt", "check", *crates], cwd=ROOT, capture_output=True, text=True)
-    if ran.returncode != 0:
-        raise ValueError(ran.stdout + ran.stderr)
-
-
-def await_proof(crate):
-    """Beside a gate (RT_CI_ENDED names its file): waits until rt ci has proved the crate, else ValueError."""
-    ended = Path(os.environ["RT_CI_ENDED"])
-    while not (ROOT / "target/stamp" / crate).is_file():
-        if ended.exists() and not (ROOT / "target/stamp" / crate).is_file():
-            raise ValueError(f"rt ci did not prove {crate}")
-        time.sleep(1)
-
-
-def in_memory():
-    """A folder for files that a check writes and removes by the thousand: in memory, where there are 4 GB to be had."""
-    place = "/dev/shm"
-    if "TMPDIR" in os.environ or not os.access(place, os.W_OK) or shutil.disk_usage(place).free < 4e9:
-        return None
-    return place
+    def fitted(self, crate, texts, unfit):
+        """The files with the proofs of these copies renamed: rattle writes the names of the goals and steps of each
+        function as it is and of each copy, in the order of the code."""
+        with tempfile.TemporaryDirectory(dir=self.room) as place:
+            of = {copy: f"{copy.rpartition(COPY)[0]}{COPY}{AS_IT_IS}" for copy in unfit}
+            starts = [word for name in {*of, *of.values()} for word in ("--start", in_rattle(crate, name))]
+            self.check(crate, texts, "--generated", place, *starts)
+            home, texts = Path(place, f"Rattle-{crate}-proofs"), dict(texts)
+            for copy, plain in of.items():
+                if not (home / copy / "Lts.antt").is_file() or not (home / plain / "Lts.antt").is_file():
+                    continue
+                pairs = list(zip(names_in(home / plain), names_in(home / copy)))
+                if any(len(old) != len(new) for old, new in pairs):
+                    continue  # the edit is of the code's shape
+                names = {a: b for old, new in pairs for a, b in zip(old, new)}
+                for file in texts:
+                    if file.startswith(f"proofs/{copy}/"):
+                        texts[file] = renamed(texts[file], names)
+        return texts
 
 
 def try_all(programs):
-    """Tries the programs, two checks at a time; what became of each. Beside a gate each crate's as soon as rt ci has
-    proved the crate, from the lowest on; else those of crates with many crates below first, as they take longest."""
+    """Tries the programs, some checks at a time, and gives what became of each, those of crates with many crates below
+    first, as they take longest."""
     if not programs:
         return
-    beside = "RT_CI_ENDED" in os.environ
     crates = {program.crate for program in programs}
-    with tempfile.TemporaryDirectory(prefix="wrong-", dir=in_memory()) as room, ThreadPoolExecutor(AT_A_TIME) as pool:
+    with tempfile.TemporaryDirectory(prefix="wrong-") as room, ThreadPoolExecutor(AT_A_TIME) as pool:
         checker = Checker(room)
-        lowest_first = sorted(crates, key=list(checker.needs).index)
-        if beside:
-            await_proof(lowest_first[0])
-        else:
-            current(lowest_first)
-        rank = {crate: i for i, crate in enumerate(lowest_first if beside else lowest_first[::-1])}
-        in_turn = sorted(batches(programs), key=lambda batch: rank[crate_of(batch)])
-        checker.learn_seeds(next(batch for batch in in_turn if crate_of(batch) == lowest_first[0]))
-
-        def tried(batch):
-            if beside:
-                await_proof(crate_of(batch))
-            return checker.tried(batch)
-
+        checker.current(crates)
+        rank = {crate: i for i, crate in enumerate(reversed(checker.needs))}
+        in_turn = sorted(batches(programs), key=lambda batch: (None in batch, rank[crate_of(batch)]))
         try:
-            for all_of_it in pool.map(tried, in_turn):
+            for all_of_it in pool.map(checker.tried, in_turn):
                 yield from all_of_it
         finally:
             pool.shutdown(cancel_futures=True)
