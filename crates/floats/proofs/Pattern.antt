@@ -7,7 +7,7 @@ use native.Mathlib.Nat as nat
 use native.Mathlib.Omega.{arith}
 use lib.Dec.{T, leb, eqb}
 use lib.Pow.{pow-add, pow_pos, pow_mono}
-use lib.Ieee.{Float, nan, inf, Format, binary32, binary64, prec, emax, low, hid, ones, top}
+use lib.Ieee.{Float, nan, inf, Format, prec, emax, low, hid, ones, top}
 use lib.Ieee.{odd, fits, of_fields, of_bits, to_bits}
 use lib.Ieee.Bits.{of_bits-to_bits}
 use lib.Ieee.Exact.{HasValue, odd_sign}

@@ -7,7 +7,7 @@ use native.Mathlib.Nat as nat
 use native.Mathlib.Omega.{arith}
 use lib.Dec.{T, lit≤}
 use lib.Pow.{pow_pos}
-use lib.Ieee.{Float, nan, inf, fin, Format, binary32, binary64, prec, emax, low, hid, ones}
+use lib.Ieee.{Float, nan, inf, fin, Format, prec, emax, low, hid, ones}
 use lib.Ieee.{round, neg, ne, fits, is_nan, of_bits, to_bits}
 use lib.Ieee.Compare.{differs_from_itself, nan_differs}
 use lib.Ieee.Exact.{HasValue}

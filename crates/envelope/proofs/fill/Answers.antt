@@ -19,11 +19,11 @@ loop-i-init c = (refl, omega arith, refl, refl)
 pub loop-i-preserved : goal.loop-i-preserved
 unfolding run listed envelope_from levels_from
 loop-i-preserved c = let a = c.args in let i = c.loop-i.i in let h : i < length c.loop-i.out = c.loop-i-test.true in let next : c.step-after.result ≡ envelope_from a.adsr a.sample_time a.e (suc i) = c.step-after.ensures ∙ ap (step_of a.adsr a.sample_time) c.loop-i.invariant.2 in (
-      simp length-set c.loop-i.invariant.0,
-      simp length-set (omega arith),
-      rw (add-one i) next,
-      rw (add-one i, take-suc-set, c.loop-i.invariant.3, ap (λ (e : Envelope). e.level) next) refl,
-    )
+  simp length-set c.loop-i.invariant.0,
+  simp length-set (omega arith),
+  rw (add-one i) next,
+  rw (add-one i, take-suc-set, c.loop-i.invariant.3, ap (λ (e : Envelope). e.level) next) refl,
+)
 
 pub shape_of-out : goal.shape_of-out
 shape_of-out c = c.loop-i.invariant.0

@@ -2,10 +2,8 @@
 use borrow.Author.Rules.{rules}
 use mathlib.Core.Path.{◌∙◌}
 use mathlib.Core.Bool.{true, false}
-use Prim.Native.Nat.{◌^◌, ◌≤◌}
 use native.Mathlib.Omega.{arith}
-use lib.Dec.{T}
-use lib.Ieee.{binary64, fits}
+use lib.Ieee.{binary64}
 use Rattle.floats.proofs.Floors.{from-whole, from-whole-neg, casts}
 use Rattle.floats.proofs.Tests.{no_nan, floor_nan, returns_large, returns_zero, returns_small, returns_middle, plus_zero-is, minus_one_is}
 use Rattle.floats.proofs.floor_by_bits.Goals as goal

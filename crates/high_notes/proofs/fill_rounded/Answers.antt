@@ -10,9 +10,9 @@ loop-i-init c = remade_none _ _
 
 pub rounded_value-requires : goal.rounded_value-requires
 rounded_value-requires c = (
-      rw c.in_cycles-u.ensures (still_fraction _ _ c.loop-i.out c.loop-i.i c.requires c.loop-i-test.true c.loop-i.invariant),
-      c.is_half_apart-apart.ensures,
-    )
+  rw c.in_cycles-u.ensures (still_fraction _ _ c.loop-i.out c.loop-i.i c.requires c.loop-i-test.true c.loop-i.invariant),
+  c.is_half_apart-apart.ensures,
+)
 
 pub loop-i-preserved : goal.loop-i-preserved
 loop-i-preserved c = remade_more _ _ c.loop-i.out _ c.loop-i.i c.loop-i-test.true (rw (c.rounded_value.ensures, c.in_cycles-u.ensures) refl) c.loop-i.invariant

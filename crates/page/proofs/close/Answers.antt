@@ -12,11 +12,11 @@ loop-i-init c = (omega arith, omega arith, refl, closed_none c.args.bytes.now c.
 
 pub loop-i-preserved : goal.loop-i-preserved
 loop-i-preserved c = let a = c.args in (
-      omega arith,
-      omega arith,
-      simp length-set c.loop-i.invariant.2,
-      closed_more a.bytes.now a.at c.loop-i.bytes c.loop-i.i (omega arith) (omega arith) c.loop-i.invariant.3,
-    )
+  omega arith,
+  omega arith,
+  simp length-set c.loop-i.invariant.2,
+  closed_more a.bytes.now a.at c.loop-i.bytes c.loop-i.i (omega arith) (omega arith) c.loop-i.invariant.3,
+)
 
 pub returns : goal.returns
 returns c = let e : c.loop-i.i + 10 ≡ c.args.len = omega arith in

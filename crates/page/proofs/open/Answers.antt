@@ -12,11 +12,11 @@ loop-i-init c = (omega arith, omega arith, refl, opened_none c.args.bytes.now c.
 
 pub loop-i-preserved : goal.loop-i-preserved
 loop-i-preserved c = let a = c.args in (
-      omega arith,
-      omega arith,
-      simp length-set c.loop-i.invariant.2,
-      opened_more a.bytes.now a.len (omega arith) c.loop-i.bytes c.loop-i.i (omega arith) (omega arith) c.loop-i.invariant.3,
-    )
+  omega arith,
+  omega arith,
+  simp length-set c.loop-i.invariant.2,
+  opened_more a.bytes.now a.len (omega arith) c.loop-i.bytes c.loop-i.i (omega arith) (omega arith) c.loop-i.invariant.3,
+)
 
 pub returns : goal.returns
 returns c = let e : c.loop-i.i ≡ c.args.at = omega arith in

@@ -12,10 +12,10 @@ loop-i-init c = let a = c.args in (omega arith, refl, paste-zero a.to.now a.at a
 
 pub loop-i-preserved : goal.loop-i-preserved
 loop-i-preserved c = let a = c.args in let i = c.loop-i.i in (
-      omega arith,
-      simp length-set c.loop-i.invariant.1,
-      rw (c.loop-i.invariant.2, add-one i) (paste-suc a.to.now a.at a.from.now i 0 (omega arith) (omega arith)),
-    )
+  omega arith,
+  simp length-set c.loop-i.invariant.1,
+  rw (c.loop-i.invariant.2, add-one i) (paste-suc a.to.now a.at a.from.now i 0 (omega arith) (omega arith)),
+)
 
 pub returns : goal.returns
 returns c = let a = c.args in put_all a.to.now a.at a.from.now c.loop-i.to c.loop-i.i (omega arith) c.loop-i.invariant.2

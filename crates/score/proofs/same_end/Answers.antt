@@ -16,10 +16,10 @@ returns-then-not-same_record c = let back = back_record _ _ _ _ c.loop-k.k c.cou
 
 pub loop-k-preserved : goal.loop-k-preserved
 loop-k-preserved c = (
-      omega arith,
-      let back = back_record _ _ _ _ c.loop-k.k c.count-m.ensures c.count-n.ensures in
-          c.loop-k.invariant.1 ∙ passing_on _ _ c.loop-k.k (omega arith) (ap not (sym (c.same_record.ensures ∙ back)) ∙ c.if-not-same_record.false-raw),
-    )
+  omega arith,
+  let back = back_record _ _ _ _ c.loop-k.k c.count-m.ensures c.count-n.ensures in
+      c.loop-k.invariant.1 ∙ passing_on _ _ c.loop-k.k (omega arith) (ap not (sym (c.same_record.ensures ∙ back)) ∙ c.if-not-same_record.false-raw),
+)
 
 pub returns : goal.returns
 returns c = sym (c.loop-k.invariant.1 ∙ passing_end _ _ c.loop-k.k (omega arith) ∙ omega arith)

@@ -18,11 +18,11 @@ loop-i-init c = (c.if-words-ne-ENTRY_WORDS.false, ap length c.encode-entry.ensur
 
 pub loop-i-preserved : goal.loop-i-preserved
 loop-i-preserved c = let i = c.loop-i.i in let entry = c.encode-entry.result in let h : i < length c.loop-i.words = c.loop-i-test.true in let l : i < length entry = omega (arith, c.loop-i.invariant.0, c.loop-i.invariant.1) in (
-      simp length-set c.loop-i.invariant.0,
-      c.loop-i.invariant.1,
-      omega (arith, c.loop-i.invariant.0),
-      rw (add-one i, take-suc-set c.loop-i.words i (get_or entry i 0) h, take-suc entry i 0 l, c.loop-i.invariant.3) refl,
-    )
+  simp length-set c.loop-i.invariant.0,
+  c.loop-i.invariant.1,
+  omega (arith, c.loop-i.invariant.0),
+  rw (add-one i, take-suc-set c.loop-i.words i (get_or entry i 0) h, take-suc entry i 0 l, c.loop-i.invariant.3) refl,
+)
 
 pub shape_of-words : goal.shape_of-words
 shape_of-words c = c.loop-i.invariant.0 ∙ sym c.if-words-ne-ENTRY_WORDS.false

@@ -23,11 +23,11 @@ loop-settings-smaller c = let a = c.args in let h = is-there a.score.now _ _ (du
 
 pub loop-settings-preserved : goal.loop-settings-preserved
 loop-settings-preserved c = let a = c.args in (
-      c.walker_at-at.ensures.sees,
-      c.loop-settings.invariant.1 ∙ act_on a.settings a.score.now (a.position + a.offset) c.loop-settings.at.next c.loop-settings.at.state (place_in c.walker_at-at.result)
-          (due_so a.score.now a.position a.offset c.loop-settings.at _ _ c.loop-settings.invariant.0 c.is_due-in-loop-settings.ensures c.loop-settings-test.true)
-          (c.walker_at-at.ensures.place ∙ rw (c.act-state.ensures, c.event_of-event.ensures, c.record_at.ensures) refl),
-    )
+  c.walker_at-at.ensures.sees,
+  c.loop-settings.invariant.1 ∙ act_on a.settings a.score.now (a.position + a.offset) c.loop-settings.at.next c.loop-settings.at.state (place_in c.walker_at-at.result)
+      (due_so a.score.now a.position a.offset c.loop-settings.at _ _ c.loop-settings.invariant.0 c.is_due-in-loop-settings.ensures c.loop-settings-test.true)
+      (c.walker_at-at.ensures.place ∙ rw (c.act-state.ensures, c.event_of-event.ensures, c.record_at.ensures) refl),
+)
 
 pub returns : goal.returns
 returns c = let a = c.args in let f = due_so a.score.now a.position a.offset c.loop-settings.at _ _ c.loop-settings.invariant.0 c.is_due-in-loop-settings.ensures c.loop-settings-test.false in

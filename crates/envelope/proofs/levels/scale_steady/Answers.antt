@@ -17,10 +17,10 @@ loop-i-init c = (refl, omega arith, λ k d f e xs b. let z : c.args.at.count - c
 pub loop-i-preserved : goal.loop-i-preserved
 unfolding envelope_from run
 loop-i-preserved c = let i = c.loop-i.i in let i₀ = c.args.at.count in let m : i₀ ≤ i = c.loop-i.invariant.1 in let one_more : i + 1 - i₀ ≡ suc (i - i₀) = omega arith in (
-      simp length-set c.loop-i.invariant.0,
-      omega arith,
-      λ k d f e xs b. reached_more k _ e _ xs c.loop-i.part _ _ _ i c.loop-i-test.true (rw one_more refl) (rw one_more (f (i - i₀))) (c.loop-i.invariant.2 k d f e xs b),
-    )
+  simp length-set c.loop-i.invariant.0,
+  omega arith,
+  λ k d f e xs b. reached_more k _ e _ xs c.loop-i.part _ _ _ i c.loop-i-test.true (rw one_more refl) (rw one_more (f (i - i₀))) (c.loop-i.invariant.2 k d f e xs b),
+)
 
 pub shape_of-part : goal.shape_of-part
 shape_of-part c = c.loop-i.invariant.0

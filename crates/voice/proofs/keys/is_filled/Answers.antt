@@ -15,17 +15,19 @@ loop-i-init c = (omega arith, rw (sub-zero c.args.count) refl)
 pub returns-then-limit-bytes : goal.returns-then-limit-bytes
 returns-then-limit-bytes c = let a = c.args in let i = c.loop-i.i in let n : length a.bytes ≡ 16 = search rules in
     let l : c.if-i-count.limit ≡ limit_of (a.count - i) =
-      elim c.if-i-count.branch [
-        then-i-count w ↦ w.limit-is ∙ limit_held a.count i w.if-i-count.true
-        | else-i-count w ↦ w.limit-is ∙ limit_unused a.count i w.if-i-count.false ] in
+    elim c.if-i-count.branch [
+      | then-i-count w ↦ w.limit-is ∙ limit_held a.count i w.if-i-count.true
+      | else-i-count w ↦ w.limit-is ∙ limit_unused a.count i w.if-i-count.false
+    ] in
     sym (c.loop-i.invariant.1 ∙ filled-stops a.bytes a.count i (omega arith) (omega arith))
 
 pub loop-i-preserved : goal.loop-i-preserved
 loop-i-preserved c = let a = c.args in let i = c.loop-i.i in let n : length a.bytes ≡ 16 = search rules in
     let l : c.if-i-count.limit ≡ limit_of (a.count - i) =
-      elim c.if-i-count.branch [
-        then-i-count w ↦ w.limit-is ∙ limit_held a.count i w.if-i-count.true
-        | else-i-count w ↦ w.limit-is ∙ limit_unused a.count i w.if-i-count.false ] in
+    elim c.if-i-count.branch [
+      | then-i-count w ↦ w.limit-is ∙ limit_held a.count i w.if-i-count.true
+      | else-i-count w ↦ w.limit-is ∙ limit_unused a.count i w.if-i-count.false
+    ] in
     (omega arith, c.loop-i.invariant.1 ∙ filled-goes_on a.bytes a.count i (omega arith) (omega arith))
 
 pub returns : goal.returns

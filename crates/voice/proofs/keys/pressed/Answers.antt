@@ -20,9 +20,10 @@ keys_of-requires c =
     let f = first-few k.notes k.velocities n v k.count in
     let p = c.if-count-lt16 in
     let stored : (p.count ≤ 16) × (pairs (take p.count p.notes) (take p.count p.velocities) ≡ pushed (held_of k) (record { note = a.note; velocity = a.velocity })) =
-      elim p.branch [
-        then-count-lt16 w ↦ (omega arith, rw (w.count-is, w.notes-is, w.velocities-is, e) (pushed_grows k.notes k.velocities n v k.count a.note a.velocity (omega arith)))
-        | else-count-lt16 w ↦ (omega arith, rw (w.count-is, w.notes-is, w.velocities-is, e) (pushed-stays k.notes k.velocities n v k.count a.note a.velocity (omega arith))) ] in
+    elim p.branch [
+      | then-count-lt16 w ↦ (omega arith, rw (w.count-is, w.notes-is, w.velocities-is, e) (pushed_grows k.notes k.velocities n v k.count a.note a.velocity (omega arith)))
+      | else-count-lt16 w ↦ (omega arith, rw (w.count-is, w.notes-is, w.velocities-is, e) (pushed-stays k.notes k.velocities n v k.count a.note a.velocity (omega arith)))
+    ] in
     stored.0
 
 pub returns : goal.returns
@@ -36,7 +37,8 @@ returns c =
     let f = first-few k.notes k.velocities n v k.count in
     let p = c.if-count-lt16 in
     let stored : (p.count ≤ 16) × (pairs (take p.count p.notes) (take p.count p.velocities) ≡ pushed (held_of k) (record { note = a.note; velocity = a.velocity })) =
-      elim p.branch [
-        then-count-lt16 w ↦ (omega arith, rw (w.count-is, w.notes-is, w.velocities-is, e) (pushed_grows k.notes k.velocities n v k.count a.note a.velocity (omega arith)))
-        | else-count-lt16 w ↦ (omega arith, rw (w.count-is, w.notes-is, w.velocities-is, e) (pushed-stays k.notes k.velocities n v k.count a.note a.velocity (omega arith))) ] in
+    elim p.branch [
+      | then-count-lt16 w ↦ (omega arith, rw (w.count-is, w.notes-is, w.velocities-is, e) (pushed_grows k.notes k.velocities n v k.count a.note a.velocity (omega arith)))
+      | else-count-lt16 w ↦ (omega arith, rw (w.count-is, w.notes-is, w.velocities-is, e) (pushed-stays k.notes k.velocities n v k.count a.note a.velocity (omega arith)))
+    ] in
     rw (c.keys_of.ensures, stored.1) refl

@@ -19,8 +19,9 @@ pub loop-i-preserved : goal.loop-i-preserved
 loop-i-preserved c = let l = c.loop-i in let k = c.args in let n : length k.keys.notes ≡ 16 = search rules in
     let v : length k.keys.velocities ≡ 16 = search rules in
     let count = c.held_count-count.result in elim c.if-notes-i.branch [
-      then-notes-i w ↦ rw (w.notes-is, w.velocities-is, w.kept-is) (walk_keeps k.note k.keys.notes k.keys.velocities n v count l.notes l.velocities l.kept l.i l.invariant (omega arith) w.if-notes-i.true)
-      | else-notes-i w ↦ rw (w.notes-is, w.velocities-is, w.kept-is) (walk_drops k.note k.keys.notes k.keys.velocities n v count l.notes l.velocities l.kept l.i l.invariant (omega arith) w.if-notes-i.false) ]
+      | then-notes-i w ↦ rw (w.notes-is, w.velocities-is, w.kept-is) (walk_keeps k.note k.keys.notes k.keys.velocities n v count l.notes l.velocities l.kept l.i l.invariant (omega arith) w.if-notes-i.true)
+      | else-notes-i w ↦ rw (w.notes-is, w.velocities-is, w.kept-is) (walk_drops k.note k.keys.notes k.keys.velocities n v count l.notes l.velocities l.kept l.i l.invariant (omega arith) w.if-notes-i.false)
+    ]
 
 pub keys_of-requires : goal.keys_of-requires
 keys_of-requires c = let w = c.loop-i.invariant in omega (arith, w.behind, w.inside, w.few)
