@@ -6,7 +6,7 @@
 -- The actions are defined on the list of the held pairs, for any keys: the first `count` pairs are held, all 16 if
 -- `count` is above 16. What an action gives has its unused pairs 0, whatever they were before.
 -- 02, R-2: lifting a key says what became of the sound, one of three. Definitions only.
-use Rattle.std.specs.Prelude.{Bool, true, false, not, cond, ◌&&◌, List, [], ◌∷◌, ◌++◌, map, ℕ, ◌+◌, ◌-◌, ltb, leb, eqb, length, take, drop, replicate}
+use Rattle.std.specs.Prelude.{Bool, true, false, not, cond, ◌&&◌, List, [], ◌∷◌, ◌++◌, map, ℕ, ◌-◌, ltb, leb, eqb, length, take, drop, replicate}
 use Rattle.voice.specs.declared.keys.ActiveNote.{ActiveNote}
 use Rattle.voice.specs.declared.keys.ActiveNote.TheVariants.{Silent, Note}
 use Rattle.voice.specs.declared.keys.NoteOff.TheVariants.{Released, FellBack, NoChange}

@@ -2,7 +2,6 @@
 -- they came. Assumes nothing.
 use mathlib.Core.Path.{refl}
 use native.Mathlib.Omega.{arith}
-use Rattle.sine.specs.Whole.{whole_reading}
 use Rattle.high_notes.proofs.Remaking.{remade_none, remade_more, remade_all}
 use Rattle.filling.proofs.read_wave.Goals as goal
 

@@ -2,8 +2,6 @@
 use borrow.Author.Rules.{rules}
 use borrow.Author.Tests.{not-false}
 use mathlib.Core.Path.{sym, ap, ◌∙◌}
-use lib.Dec.{T}
-use lib.Ieee.{binary64, fits}
 use Rattle.waveform.specs.declared.Radians.{Radians}
 use Rattle.high_notes.proofs.Remaking.{combined}
 use Rattle.high_notes.proofs.Wraps.{rising-below, rising_fractions}

@@ -1,8 +1,6 @@
 -- `high_notes::fill_remainders` meets its contract. Assumes nothing.
 use borrow.Author.Rules.{rules}
 use mathlib.Core.Path.{sym, ap, ◌∙◌}
-use lib.Dec.{T}
-use lib.Ieee.{binary64, fits}
 use Rattle.waveform.specs.declared.Radians.{Radians}
 use Rattle.high_notes.proofs.Remaking.{remainders_are}
 use Rattle.high_notes.proofs.Wraps.{rising-below}

@@ -1,8 +1,7 @@
 -- `low_notes::guess_from` meets its contract. Assumes nothing.
 use borrow.Author.Rules.{rules}
 use mathlib.Core.Path.{sym, ◌∙◌}
-use lib.Dec.{T}
-use lib.Ieee.{binary64, lt, fits}
+use lib.Ieee.{lt}
 use lib.Ieee.Bits.{is_true}
 use Rattle.polyblep.proofs.Clear.{and_true}
 use Rattle.waveform.specs.Waveform.{tau}

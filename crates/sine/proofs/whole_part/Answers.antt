@@ -3,8 +3,7 @@ use borrow.Author.Rules.{rules}
 use mathlib.Core.Path.{sym}
 use native.Mathlib.Nat.{lt_of_le_of_lt}
 use native.Mathlib.Omega.{arith}
-use lib.Dec.{T, lit<, lit≤}
-use lib.Ieee.{binary64, fits}
+use lib.Dec.{lit<, lit≤}
 use Rattle.sine.proofs.Parts.{not-nan, below_none, field_ge, field_le, whole_is, bits-at_most}
 use Rattle.sine.proofs.whole_part.Goals as goal
 

@@ -1,6 +1,5 @@
 -- `spans::play_in` meets its contract. The loop's invariant: `Upto` of proofs/Loops.antt, and what was read of the next
 -- record agrees with the score. Assumes nothing.
-use borrow.Author.Rules.{rules}
 use native.Mathlib.Omega.{arith}
 use borrow.Rule.Slice.PartMut.{mid_len}
 use Rattle.spans.proofs.Loops.{begins, goes_on, ends}

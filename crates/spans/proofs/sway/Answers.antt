@@ -1,7 +1,5 @@
 -- `spans::sway` meets its contract. Assumes nothing.
 use borrow.Author.Rules.{rules}
-use lib.Dec.{T}
-use lib.Ieee.{binary64, fits}
 use mathlib.Core.Path.{◌∙◌, sym}
 use Rattle.spans.proofs.Swaying.{flat_sways}
 use Rattle.spans.proofs.sway.Goals as goal

@@ -2,8 +2,6 @@
 use borrow.Author.Rules.{rules}
 use native.Mathlib.Nat.{mod-eq_of_lt}
 use native.Mathlib.Omega.{arith}
-use lib.Dec.{T}
-use lib.Ieee.{binary64, fits}
 use Rattle.waveform.proofs.Remainders.{not-nan, field_least, field_most, shifted, units_are}
 use Rattle.waveform.proofs.in_fixed_point.Goals as goal
 
