@@ -5,7 +5,7 @@ use Prim.Native.Nat.{ℕ, ◌%◌}
 use native.Mathlib.Omega.{arith}
 use lib.IntN.{pos}
 use lib.Dec.{T, le→leb}
-use lib.Ieee.{binary64, in_float, fits}
+use lib.Ieee.{binary64, in_float}
 use Rattle.waveform.specs.Waveform.{radians}
 use Rattle.waveform.proofs.Remainders.{below-tau, from-tau, next_cycle, remainder_is}
 use Rattle.waveform.proofs.remainder.Goals as goal
