@@ -3,13 +3,15 @@
 // Left out, as 01 says: noise and the simd paths. The rounded triangle is ours.
 #![tactic(auto)]
 
-ghost use Rattle.std.specs.Prelude.{◌≡◌, ◌*◌, ◌^◌, T};
+ghost use Rattle.std.specs.Prelude.{ℕ, ◌≡◌, ◌*◌, ◌%◌, ◌^◌, T};
 ghost use Rattle.std.specs.Float.{binary64};
 ghost use Rattle.std.specs.Float.Ieee.{of_bits, lt, le};
+ghost use Rattle.std.specs.Float.Ieee.Scale.{finite};
 ghost use Rattle.std.specs.Float.Ieee.Positive.{num, den};
 ghost use Rattle.waveform.specs.Waveform.{is_waveform, value_of, sample_of, remainder_of, normal_of, reduce_of, increment_of, radians, tau, inv_tau};
 ghost use Rattle.waveform.specs.Filled.{value_at};
 ghost use Rattle.floats.specs.Double.{◌⊗◌};
+ghost use Rattle.floats.specs.Range.{nonneg};
 
 use answers::{Refusal, Value};
 
@@ -112,9 +114,9 @@ pub fn reduced(phase: Radians) -> Radians
     rest
 }
 
-// phase % TAU, to the bit, without a call of C's `fmod` for a phase from 0 up to 16,384: below TAU it is the phase,
-// below 2 TAU the phase less TAU, and from there phase and TAU are whole multiples of 2^-50, so that integers give the
-// remainder. Nothing is rounded.
+// phase % TAU, to the bit, fast for a phase from 0 up to 16,384: below TAU it is the phase, below 2 TAU the phase
+// less TAU, and from there phase and TAU are whole multiples of 2^-50, so that integers give the remainder. Nothing is
+// rounded.
 pub fn remainder(phase: Radians) -> Radians
     ensures { result ≡ radians (remainder_of phase.0) }
 {
@@ -128,7 +130,47 @@ pub fn remainder(phase: Radians) -> Radians
         }
         return Radians((in_fixed_point(x) % TAU_IN_FIXED_POINT) as f64 / 1125899906842624.0);
     }
-    Radians(x % TAU)
+    Radians(far_remainder(x))
+}
+
+// x % TAU without `%` of floats. That is a call of C's `fmod`, and a program that is linked against a newer C library
+// than that of the machine does not start there.
+fn far_remainder(x: f64) -> f64
+    ensures { result ≡ remainder_of x }
+{
+    if !floats::is_finite_f64(x) {
+        return x - x;
+    }
+    if x < 0.0 {
+        return -size_remainder(-x);
+    }
+    size_remainder(x)
+}
+
+// x % TAU of a finite x that is not negative.
+fn size_remainder(x: f64) -> f64
+    requires { T (nonneg x) }
+    ensures { result ≡ remainder_of x }
+{
+    if x < TAU {
+        return x;
+    }
+    units_left(x) as f64 / 1125899906842624.0
+}
+
+// The remainder of x * 2^50, a whole number, by TAU * 2^50: the digits of x are doubled as often as its exponent says.
+fn units_left(x: f64) -> u64
+    requires { T (le tau x) × T (finite x) }
+    ensures { (n : ℕ) × (num x * 2 ^ 50 ≡ n * den x) × (result ≡ n % 0x19_21fb_5444_2d18) }
+{
+    let bits = f64::to_bits(x);
+    let field = bits / 0x10_0000_0000_0000;
+    let digits = 0x10_0000_0000_0000 + bits % 0x10_0000_0000_0000;
+    let mut left = digits % TAU_IN_FIXED_POINT;
+    for doubled in 1025..field {
+        left = left * 2 % TAU_IN_FIXED_POINT;
+    }
+    left
 }
 
 // x * 2^50, from the bits of x: from 4 on, the lowest bit of an f64 is worth 2^-50 or more, so the product is whole.
