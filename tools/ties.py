@@ -483,9 +483,9 @@ docs/PROMISES.md, written by hand, says what the statements mean, what is truste
 sentence of 01.
 
 Under the name of each public function are its kind; its contract, for every input, in which `x.new` is what is left in
-x, with a number that changes with the text of any definition that the contract rests on; the theorem that two outcomes that meet the contract are equal; and wrong programs that the contract rules out. Of
-these `must-fail` and `gate` are tried at every gate, and `listed` by `tools/mutants --listed`. docs/PROMISES.md says
-what the kinds are.
+x, with a number that changes with the text of any definition that the contract rests on; the theorem that two outcomes
+that meet the contract are equal; and wrong programs that the contract rules out. Of these `must-fail` and `gate` are
+tried at every gate, and `listed` by `tools/mutants --listed`. docs/PROMISES.md says what the kinds are.
 """
 
 
