@@ -485,7 +485,7 @@ def voice_answer(op, *given):
 
 def quarter_wave():
     text = (Path(__file__).parent.parent / "crates/sine/src/table.rt").read_text()
-    return [float(entry) for entry in re.findall(r"^    (\d+),$", text, re.M)]
+    return [float(entry) for entry in re.findall(r"\d+", text.partition("[u32; 1025] = [")[2].partition("]")[0])]
 
 
 WAVE = quarter_wave()

@@ -1,15 +1,18 @@
 """What ties the promises together: contracts, theorems that two outcomes are equal, the calls, and wrong programs.
 
 A public function of a library crate has one `ensures` and no `requires`. Its theorem is the one in its crate's
-proofs/Unique.antt that has its name (`set-phase-unique` for `set_phase`), or the one that SHARED names. The theorem has
+proofs/Unique.antt that has its name (`set_phase_unique` for `set_phase`), or the one that SHARED names. The theorem has
 two hypotheses. Each is the contract's formula with other names: every variable of the theorem stands for one and the
 same piece of the formula in both hypotheses, but for the variables of the outcome (the result, and what is left in each
 lent buffer): there are two of each, and the conclusion says that each two are equal. Two variables stand for two
 pieces, and everything that the function takes is in the formula: of a lent buffer, what it held or what is left in it.
 
 The table under "The calls" in docs/PROMISES.md is written by hand. A row has a function, its kind, what its contract
-must say behind `≡`, with x for `now (x .entry)`, and the file of the definition that this begins with. A public
+must say behind `≡`, with x for `x.now` and `x.old`, and the file of the definition that this begins with. A public
 function that has no row is a helper.
+
+A static library exports functions of another crate under their names: each must have that one's parameters, result and
+contract, word for word, and call it.
 """
 import hashlib
 import re
@@ -27,16 +30,16 @@ HELPER = "helper"
 
 # Two widths that share a theorem; every other function has its own.
 SHARED = {
-    "floats::floor_f32": "floor-unique",
-    "floats::floor_f64": "floor-unique",
-    "words::u32_at": "word-at-unique",
-    "words::u64_at": "word-at-unique",
-    "words::f32_of": "of-bits-unique",
-    "words::f64_of": "of-bits-unique",
-    "words::f32_bits": "to-bits-unique",
-    "words::f64_bits": "to-bits-unique",
-    "pitch::frequency_of_f64": "frequency-of-unique",
-    "voice::velocity_of_f64": "velocity-of-unique",
+    "floats::floor_f32": "floor_unique",
+    "floats::floor_f64": "floor_unique",
+    "words::u32_at": "word_at_unique",
+    "words::u64_at": "word_at_unique",
+    "words::f32_of": "of_bits_unique",
+    "words::f64_of": "of_bits_unique",
+    "words::f32_bits": "to_bits_unique",
+    "words::f64_bits": "to_bits_unique",
+    "pitch::frequency_of_f64": "frequency_of_unique",
+    "voice::velocity_of_f64": "velocity_of_unique",
 }
 
 # Comments and texts are skipped, so that a brace or a word in them is no code.
@@ -47,23 +50,32 @@ TOKEN = re.compile(
     re.S,
 )
 COMMENT = re.compile(r"//[^\n]*|/\*.*?\*/", re.S)
+BODY = re.compile(r"\n\{\n(.*?)\n\}\n", re.S)
 ARROW = re.compile(r"\s*->.*?(?=\s*(?:\b(?:ensures|requires)\b|\{))", re.S)
-CLAUSE = re.compile(r"\s*(?P<key>\w+)\s*\{")
-FORMULA = re.compile(r"λ (\w+)\. ⌜ (.*) ⌝", re.S)
+CLAUSE = re.compile(r"\s*(?P<key>\w+)(?: \w+)?\s*\{")
 USE = re.compile(r"^(?:ghost )?use ([^\s{};]+?)(?:\.\{([^}]*)\}| as (\S+?))?;?$", re.M)
 SIGNATURE = r"(?:(?:pub|abbrev|unfoldable) )+(?:(?:record|data) )?(?:pub )?"
 DECLARATION = re.compile(rf"^{SIGNATURE}(\S+) ?(?=[:({{])", re.M)
-THEOREM = re.compile(r"^pub (\S+-unique) :(.*?)^\1(?= |$)", re.S | re.M)
+THEOREM = re.compile(r"^pub (\S+_unique) :(.*?)^\1(?= |$)", re.S | re.M)
 OPEN, CLOSE = "({", ")}"
 RESULT = "the result"  # no parameter has such a name
-PLAIN = {"×", "→", "now"}  # words of the logic itself
+PLAIN = {"×", "→"}  # words of the logic itself
+# Where the logic declares what std passes on under names of its own; the theorems name it there.
+PRELUDE = {
+    "◌≡◌": "mathlib.Core.Path",
+    **dict.fromkeys(("true", "false", "cond", "not", "◌&&◌"), "mathlib.Core.Bool"),
+    **dict.fromkeys(("List", "◌∷◌", "◌++◌", "map"), "mathlib.Core.List"),
+    **dict.fromkeys(("length", "take", "drop"), "lib.ListN"),
+    **dict.fromkeys(("ℕ", "◌+◌", "◌-◌", "◌*◌", "◌<◌", "◌≤◌", "◌^◌"), "Prim.Native.Nat"),
+}
 
 
 class Function(NamedTuple):
     name: str  # crate::Type::function, or crate::module::function
     file: str
     takes: list  # the names of what it takes
-    lent: list  # those that it may change
+    seen: list  # those that are references
+    lent: list  # those of these that it may change
     answers: bool  # whether it has a result
     clauses: list  # key and text
 
@@ -78,9 +90,13 @@ def texts_of(root=ROOT):
 
 def crates(texts):
     """The library crates, in the order of crates.txt."""
+    return [name for name, kind in listed(texts) if not kind and f"crates/{name}/src/lib.rt" in texts]
+
+
+def listed(texts):
+    """The name and the kind of each crate of crates.txt: `staticlib`, or nothing."""
     lines = [line.split("#")[0] for line in texts["crates.txt"].splitlines()]
-    named = [line.split(":")[0].strip() for line in lines if ":" in line]
-    return [name for name in named if f"crates/{name}/src/lib.rt" in texts]
+    return [(*line.split(":")[0].split(), "")[:2] for line in lines if ":" in line]
 
 
 def paths(texts, crate, folder):
@@ -133,13 +149,14 @@ def closing(text, start):
 def signature(name, path, text):
     """What a function takes and promises; text begins after its name."""
     end = closing(text, text.index("("))
-    takes, lent, depth, piece = [], [], 0, ""
+    takes, seen, lent, depth, piece = [], [], [], 0, ""
     for sign in text[text.index("(") + 1 : end] + ",":
         depth += (sign in "([<") - (sign in ")]>")
         if sign == "," and depth == 0:
             given, _, kind = piece.strip().partition(":")
             if given:
                 takes.append(given.removeprefix("mut ").strip())
+                seen += [takes[-1]] if kind.strip().startswith("&") else []
                 lent += [takes[-1]] if kind.strip().startswith("&mut") else []
             piece = ""
         else:
@@ -151,21 +168,18 @@ def signature(name, path, text):
         end = closing(text, clause.end() - 1)
         clauses.append((clause["key"], " ".join(text[clause.end() : end].split())))
         at = end + 1
-    return Function(name, path, takes, lent, answers, clauses)
+    return Function(name, path, takes, seen, lent, answers, clauses)
 
 
 def formula(function):
-    """The name of the result and the text of the one contract. ValueError where there is none, or more."""
+    """The text of the one contract. ValueError where there is none, or more."""
     keys = [key for key, _ in function.clauses]
     for key in keys:
         if key != "ensures":
             raise ValueError(f"it has a `{key}`")
     if len(keys) != 1:
         raise ValueError(f"it has {len(keys)} `ensures`, and not one")
-    found = FORMULA.fullmatch(function.clauses[0][1])
-    if not found:
-        raise ValueError("its `ensures` is not of the form λ r. ⌜ .. ⌝")
-    return found[1], found[2]
+    return function.clauses[0][1]
 
 
 # ---- names
@@ -173,13 +187,18 @@ def formula(function):
 
 def module(path):
     """The file of a module of the project, `declared` for the types of the code, or the logic's own name."""
-    found = re.fullmatch(r"Rattle·(\w+?)(?:·specs)?\.(.*)", path)
-    if not found:
-        return f"logic {path}"
+    found = re.fullmatch(r"Rattle\.(\w+)\.(.*)", path)
+    if not found or found[1] == "std":
+        return f"logic {re.sub(r'^Rattle.std.specs.Float(.Ieee)?(?=[.]|$)', 'lib.Ieee', path)}"
     crate, rest = found.groups()
     if rest.startswith("specs.declared."):
         return f"declared {crate}.{rest.removeprefix('specs.declared.')}"
     return f"crates/{crate}/{rest.replace('.', '/')}.antt"
+
+
+def place_of(path, name):
+    """The module of a name that a file imports."""
+    return module(PRELUDE.get(name, path) if path in ("Rattle.std.specs.Prelude", "Rattle.std.proofs.Common") else path)
 
 
 class Names:
@@ -189,21 +208,22 @@ class Names:
         self.known, self.aliases = {name: (None, name) for name in own}, {}
         for path, several, alias in USE.findall(text):
             for name in filter(None, (n.strip() for n in several.split(","))):
-                self.known[name] = (module(path), name)
+                self.known[name] = (place_of(path, name), name)
             if alias:
                 self.aliases[alias] = path
 
     def of(self, word):
         """Where a word is declared, and its name there, or None."""
-        for name in (word, f"_{word}_"):
+        for name in (word, f"◌{word}◌"):
             if name in self.known:
                 return self.known[name]
         path, _, name = word.rpartition(".")
         if path in self.aliases:
             return module(self.aliases[path]), name
-        if path.startswith("Rattle·"):
+        if path.startswith("Rattle."):
             return module(path), name
-        return None
+        # a field of what a definition gives
+        return self.known.get(word.partition(".")[0])
 
 
 def declarations(text):
@@ -274,16 +294,21 @@ def tree(text):
 
 def contract(function, names):
     """The formula of a function as a tree of what its words stand for, and the definitions that it cites, in order."""
-    result, text = formula(function)
     cited = []
 
     def stand(word):
         if isinstance(word, list):
-            return shaped(word)
-        if word == result and word != "_":
-            return ("outcome", RESULT)
-        if word in function.takes:
-            return ("taken", word)
+            found = [stand(inner) for inner in word]
+            return found if len(found) != 1 else found[0]
+        name, *fields = word.split(".")
+        if name == "result":
+            return with_fields(("outcome", RESULT), fields)
+        if name in function.seen and fields[:1] == ["new"]:
+            return with_fields(("outcome", name), fields[1:])
+        if name in function.seen and fields[:1] in (["old"], ["now"]):
+            return with_fields(("taken", name), fields[1:])
+        if name in function.takes:
+            return with_fields(("taken", name), fields)
         if word.startswith(".") or re.fullmatch(r"\d\w*", word) or word in PLAIN:
             return word
         known = names.of(word)
@@ -292,25 +317,17 @@ def contract(function, names):
         cited.append(known)
         return known
 
-    def shaped(words):
-        found, i = [], 0
-        while i < len(words):
-            lent = words[i + 1] if words[i] == "now" and i + 1 < len(words) else None
-            if isinstance(lent, list) and len(lent) == 2 and lent[1] in (".entry", ".exit") and lent[0] in function.takes:
-                found.append(("taken" if lent[1] == ".entry" else "outcome", lent[0]))
-                i += 2
-            else:
-                found.append(stand(words[i]))
-                i += 1
-        return found if len(found) != 1 else found[0]
+    return stand(tree(formula(function))), cited
 
-    return shaped(tree(text)), cited
+
+def with_fields(base, fields):
+    return [base, *(f".{field}" for field in fields)] if fields else base
 
 
 def outcome_of(text):
-    """What a formula says behind `≡`, with x for `now (x .entry)`."""
+    """What a formula says behind `≡`, with x for `x.now` and `x.old`."""
     text = text.partition(" ≡ ")[2].replace("«", "").replace("»", "")
-    return re.sub(r"now \((\w+) \.entry\)", r"\1", re.sub(r"\(now \((\w+) \.entry\)\)", r"\1", text))
+    return re.sub(r"(?<![\w.])(\w+)\.(?:now|old)\b", r"\1", text)
 
 
 def parted(words, sign):
@@ -338,8 +355,9 @@ def theorem(text, names):
         if isinstance(word, list):
             found = [stand(inner) for inner in word]
             return found if len(found) != 1 else found[0]
-        if word in variables:
-            return ("variable", word)
+        name, *fields = word.split(".")
+        if name in variables:
+            return with_fields(("variable", name), fields)
         known = names.of(word)
         return known if known else word
 
@@ -398,14 +416,14 @@ def equated(concluded):
     parts = parted(concluded, "×") if "×" in concluded else [[concluded]]
     for part in parts:
         whole = part[0] if len(part) == 1 else part
-        if isinstance(whole, list) and len(whole) == 3 and whole[1] == ("logic mathlib.Core.Path", "_≡_"):
+        if isinstance(whole, list) and len(whole) == 3 and whole[1] == ("logic mathlib.Core.Path", "◌≡◌"):
             yield whole[0][1], whole[2][1]
         else:
             yield ("", "")
 
 
 def theorem_of(name):
-    return SHARED.get(name) or name.split("::")[-1].replace("_", "-") + "-unique"
+    return SHARED.get(name) or name.split("::")[-1] + "_unique"
 
 
 def unique_of(texts, crate):
@@ -464,11 +482,10 @@ HEAD = """# Index
 docs/PROMISES.md, written by hand, says what the statements mean, what is trusted, and which definition states each
 sentence of 01.
 
-Under the name of each public function are its kind; its contract, for every input, in which `r` is the result and
-`now (x .exit)` what is left in x, with a number that changes with the text of any definition that the contract rests
-on; the theorem that two outcomes that meet the contract are equal; and wrong programs that the contract rules out. Of
-these `must-fail` and `gate` are tried at every gate, and `listed` by `tools/mutants --listed`. docs/PROMISES.md says
-what the kinds are.
+Under the name of each public function are its kind; its contract, for every input, in which `x.new` is what is left in
+x, with a number that changes with the text of any definition that the contract rests on; the theorem that two outcomes
+that meet the contract are equal; and wrong programs that the contract rules out. Of these `must-fail` and `gate` are
+tried at every gate, and `listed` by `tools/mutants --listed`. docs/PROMISES.md says what the kinds are.
 """
 
 
@@ -479,7 +496,7 @@ def entry(texts, specs, rows, function, wrong):
     yield f"- {kind_of(rows, function.name)}"
     try:
         cited = contract(function, Names(texts[function.file]))[1]
-        yield f"- `{formula(function)[1]}` ({specs.print_of(cited)})"
+        yield f"- `{formula(function)}` ({specs.print_of(cited)})"
     except ValueError as why:
         yield f"- {why}"
     yield f"- `{theorem_of(function.name)}` in crates/{crate}/proofs/Unique.antt"
@@ -524,6 +541,9 @@ def faults(texts):
         for name in sorted(set(unique_of(texts, crate)) - set(serving)):
             yield f"crates/{crate}/proofs/Unique.antt: `{name}` is of no public function"
         yield from wrong_faults(texts, crate)
+    for crate, kind in listed(texts):
+        if kind:
+            yield from export_faults(texts, crate)
     for name, times in seen.items():
         if times > 1:
             yield f"{name}: {times} public functions have this name"
@@ -554,12 +574,12 @@ def function_faults(texts, specs, rows, crate, function):
     if missed:
         yield f"its contract says nothing of {', '.join(missed)}"
     if function.name in rows:
-        yield from call_faults(rows[function.name][0], formula(function)[1], names)
+        yield from call_faults(rows[function.name][0], formula(function), names)
 
 
 def theorem_faults(texts, crate, function, shape):
     name, held = theorem_of(function.name), unique_of(texts, crate)
-    own = function.name.split("::")[-1].replace("_", "-") + "-unique"
+    own = function.name.split("::")[-1] + "_unique"
     types = held.get(name, [])
     if len(types) != 1:
         yield f"proofs/Unique.antt has {len(types)} theorems `{name}`, and not one"
@@ -569,6 +589,39 @@ def theorem_faults(texts, crate, function, shape):
     for type_ in types:
         if why := told_apart(function, shape, type_, names):
             yield f"`{name}` does not say that its contract decides the outcome: {why}"
+
+
+def export_faults(texts, crate):
+    """Each function of a static library is another's of its name, and each such function of that crate is exported."""
+    exported, of = {}, set()
+    for name, is_exported, path, start in functions(texts, crate):
+        if is_exported:
+            text = COMMENT.sub("", texts[path][start:])
+            exported[name.split("::")[-1]] = signature(name, path, text), text
+    for name, (function, text) in exported.items():
+        body = BODY.search(text)
+        called = re.fullmatch(r"(\w+)::(\w+)\(([^()]*)\)", " ".join(body[1].split())) if body else None
+        if not called or called[2] != name or [w.strip() for w in called[3].split(",") if w.strip()] != function.takes:
+            yield f"{crate}: {name} does more than call the function of its name with its arguments"
+            continue
+        of.add(called[1])
+        meant = {f.name: f for f in public(texts, called[1])}.get(f"{called[1]}::{name}")
+        if meant is None or head_of(texts, meant) != head_of(texts, function) or meant.clauses != function.clauses:
+            yield f"{crate}: {name} has not the parameters, the result and the contract of {called[1]}::{name}"
+    for other in of:
+        for function in public(texts, other):
+            if "::".join(function.name.split("::")[1:]) not in exported:
+                yield f"{function.name}: {crate} does not export it"
+    if not exported:
+        yield f"{crate} exports nothing"
+
+
+def head_of(texts, function):
+    """What a function takes and gives, as its text has it."""
+    name = function.name.split("::")[-1]
+    text = COMMENT.sub("", texts[function.file])
+    head = re.search(rf"\bfn {name}(\(.*?)(?=\s*\b(?:ensures|requires)\b)", text, re.S)
+    return head and " ".join(head[1].split())
 
 
 def call_faults(row, text, names):

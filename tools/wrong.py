@@ -241,8 +241,8 @@ class Checker:
     and is checked again.
     """
 
-    def __init__(self, room):
-        self.room, self.lock, self.made = Path(room), threading.Lock(), 0
+    def __init__(self, room, seconds=SECONDS):
+        self.room, self.lock, self.made, self.seconds = Path(room), threading.Lock(), 0, seconds
         self.kit = Path(subprocess.run(["rt", "doc"], capture_output=True, text=True, check=True).stdout.strip()).parent
         lines = [line.split("#")[0] for line in (ROOT / "crates.txt").read_text("utf-8").splitlines()]
         self.needs = {line.split(":")[0].split()[0]: line.split(":")[1].split() for line in lines if ":" in line}
@@ -294,7 +294,7 @@ class Checker:
             linked(kept, home / "kept")
             words += ["--incremental", home / "kept"]
         try:
-            ran = subprocess.run(words, cwd=home, capture_output=True, stdin=subprocess.DEVNULL, timeout=SECONDS)
+            ran = subprocess.run(words, cwd=home, capture_output=True, stdin=subprocess.DEVNULL, timeout=self.seconds)
             return ran.returncode, (ran.stdout + ran.stderr).decode("utf-8", "replace")
         except subprocess.TimeoutExpired:
             return None, ""
@@ -307,7 +307,7 @@ class Checker:
         if status == 0:
             return "it is proved: no statement rules it out", ""
         if status is None:
-            return f"no verdict in {SECONDS} s", ""
+            return f"no verdict in {self.seconds} s", ""
         if status != 1 or not re.search("^logic=not-proved", log, re.M):
             return f"it did not reach the prover, or the prover could not tell (exit {status})", complaint or log[-300:]
         return no_fact or "", complaint
