@@ -6,7 +6,7 @@
 -- The samples are a walk (crate `spans`) from a place at the first sample of any section. A caller says from which
 -- section on the walk may stop; a render says a section that there is not. If shelf or summary do not have the size
 -- that the output needs, or the samples are too many, nothing is written. Definitions only.
-use Rattle.std.specs.Prelude.{Bool, true, false, ◌&&◌, List, ◌++◌, ℕ, suc, ◌+◌, ◌-◌, ◌*◌, min, leb, Float, take, drop}
+use Rattle.std.specs.Prelude.{Bool, true, false, ◌&&◌, List, ◌++◌, ℕ, suc, ◌-◌, ◌*◌, min, leb, Float, take, drop}
 use Rattle.runs.specs.Runs.{listed, first_passing}
 use Rattle.shelf.specs.Shelf.{section_size, entry_words, entries_for, shelf_of, entry_at, meets}
 use Rattle.spans.specs.declared.Place.{Place}
