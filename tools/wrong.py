@@ -223,6 +223,13 @@ def matched(old, new):
     return [pair for tag, a, b, c, d in blocks if tag == "replace" and b - a == d - c for pair in zip(old[a:b], new[c:d])]
 
 
+def cases_of(old, new):
+    """The names of the two cases of a branch, and of the types that are called by it."""
+    if old.startswith("if-") and new.startswith("if-"):
+        return [(f"{word}-{old[3:]}", f"{word}-{new[3:]}") for word in ("then", "else", "Then", "Else", "Joined")]
+    return []
+
+
 def renamed(text, names):
     """A proof file with the names of goals and steps that the edited code has in the place of those that it had."""
     return re.sub(r"[^\s(){}.;,]+", lambda word: names.get(word[0], word[0]), text)
@@ -367,7 +374,8 @@ class Checker:
             for copy, plain in of.items():
                 if not (home / copy / "Lts.antt").is_file() or not (home / plain / "Lts.antt").is_file():
                     continue
-                names = {a: b for old, new in zip(names_in(home / plain), names_in(home / copy)) for a, b in matched(old, new)}
+                pairs = [pair for old, new in zip(names_in(home / plain), names_in(home / copy)) for pair in matched(old, new)]
+                names = dict(pairs + [pair for old, new in pairs for pair in cases_of(old, new)])
                 for file in texts:
                     if file.startswith(f"proofs/{copy}/"):
                         texts[file] = renamed(texts[file], names)
