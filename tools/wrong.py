@@ -19,6 +19,7 @@ import subprocess
 import tempfile
 import threading
 from concurrent.futures import ThreadPoolExecutor
+from difflib import SequenceMatcher
 from pathlib import Path
 from typing import NamedTuple
 
@@ -211,7 +212,22 @@ def in_rattle(crate, function):
 def names_in(folder):
     """The goals of a function, and what the code's steps are called that its proof cites, in the order of the code."""
     goals = re.findall(r"^pub (\S+) : goal\.", (folder / "AnswersOffered.antt").read_text("utf-8"), re.M)
-    return goals, re.findall(r"^ +pub ([^\s:]+) :", (folder / "Lts.antt").read_text("utf-8"), re.M)
+    return goals, re.findall(r"^ +pub ([^\s:]+) : (?:Own|Step)-", (folder / "Lts.antt").read_text("utf-8"), re.M)
+
+
+def matched(old, new):
+    """Which name stands for which: by their places, or, where the edit adds or takes away some, by what stands about."""
+    if len(old) == len(new):
+        return list(zip(old, new))
+    blocks = SequenceMatcher(None, old, new, autojunk=False).get_opcodes()
+    return [pair for tag, a, b, c, d in blocks if tag == "replace" and b - a == d - c for pair in zip(old[a:b], new[c:d])]
+
+
+def cases_of(old, new):
+    """The names of the two cases of a branch, and of the types that are called by it."""
+    if old.startswith("if-") and new.startswith("if-"):
+        return [(f"{word}-{old[3:]}", f"{word}-{new[3:]}") for word in ("then", "else", "Then", "Else", "Joined")]
+    return []
 
 
 def renamed(text, names):
@@ -358,10 +374,8 @@ class Checker:
             for copy, plain in of.items():
                 if not (home / copy / "Lts.antt").is_file() or not (home / plain / "Lts.antt").is_file():
                     continue
-                pairs = list(zip(names_in(home / plain), names_in(home / copy)))
-                if any(len(old) != len(new) for old, new in pairs):
-                    continue  # the edit is of the code's shape
-                names = {a: b for old, new in pairs for a, b in zip(old, new)}
+                pairs = [pair for old, new in zip(names_in(home / plain), names_in(home / copy)) for pair in matched(old, new)]
+                names = dict(pairs + [pair for old, new in pairs for pair in cases_of(old, new)])
                 for file in texts:
                     if file.startswith(f"proofs/{copy}/"):
                         texts[file] = renamed(texts[file], names)

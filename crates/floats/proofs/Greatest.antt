@@ -1,5 +1,5 @@
--- `floor_of` is the floor: of a finite x, the greatest whole number not above x, with the sign of x (`IsFloor`), and the
--- only such float. A number without a fraction is its own floor. For either format. Assumes nothing.
+-- `floor_of` is the floor: of a finite x, the greatest whole number not above x, with the sign of x (`IsFloor`), and
+-- the only such float. A number without a fraction is its own floor. For either format. Assumes nothing.
 use mathlib.Core.Path.{◌≡◌, refl, sym, ap, ◌∙◌, subst}
 use mathlib.Core.Bool.{Bool, true, false}
 use Prim.Native.Nat.{ℕ, suc, ◌+◌, ◌-◌, ◌*◌, ◌/◌, ◌%◌, ◌^◌, ◌≤◌, ◌<◌}

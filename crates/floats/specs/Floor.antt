@@ -2,8 +2,9 @@
 -- bits".
 --
 -- The floor of a finite x is the greatest whole number not above x, with the sign of x, so floor(-0) is -0. An infinity
--- or a NaN is its own floor. `floor_of` computes the floor from the fraction that x is; proofs/Greatest.antt proves that
--- `floor_of` meets `IsFloor`, that no other float does, and that a whole number is its own floor. Definitions only.
+-- or a NaN is its own floor. `floor_of` computes the floor from the fraction that x is; proofs/Greatest.antt proves
+-- that `floor_of` meets `IsFloor`, that no other float does, and that a whole number is its own floor. Definitions
+-- only.
 use Rattle.std.specs.Prelude.{Bool, true, false, ◌≡◌, ℕ, ◌+◌, ◌-◌, ◌*◌, ◌/◌, ◌%◌, T, Float}
 use Rattle.std.specs.Float.{nan, inf, fin, Format}
 use Rattle.std.specs.Float.Ieee.{up, down, round, le}

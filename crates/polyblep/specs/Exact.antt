@@ -80,9 +80,9 @@ exact_after dt x = after_in added taken timed exact_third dt x
 abbrev pub exact_before : Fraction → Fraction → Fraction
 exact_before dt x = before_in added taken timed exact_third dt x
 
--- ---- the claim. What a value is the same as stands in plain numbers: not with `exact_third`, since with another number
--- in its place both ends would still be 0, and the corner still that number times dt; nor with `timed`, which might be
--- 0 everywhere
+-- ---- the claim. What a value is the same as stands in plain numbers: not with `exact_third`, since with another
+-- number in its place both ends would still be 0, and the corner still that number times dt; nor with `timed`, which
+-- might be 0 everywhere
 
 -- n/m of a third of dt
 abbrev pub part_of : ℕ → ℕ → Fraction → Fraction

@@ -1,9 +1,9 @@
 -- A phase is never negative where it is reduced, so that 01's branch for a negative remainder is never taken: not from
 -- the fresh state, not from an accepted entry, not from an accepted continuing state, at any position. The limit of
 -- 1,000 has no part in it: a phase may pass it before the next multiple of 64.
--- The range facts: both phases are at least 0 in `is_radians`; a frequency is above 0 in `is_pitch`, an LFO's at least 0
--- in `is_lfo`, and a rate at least 8,000 in `is_rate`, so that no step is negative (`pace_nonneg`); a sum of two numbers
--- that are not negative is not (`add-ge0`); and a remainder has the sign of its phase (`rem-ge0`).
+-- The range facts: both phases are at least 0 in `is_radians`; a frequency is above 0 in `is_pitch`, an LFO's at least
+-- 0 in `is_lfo`, and a rate at least 8,000 in `is_rate`, so that no step is negative (`pace_nonneg`); a sum of two
+-- numbers that are not negative is not (`add-ge0`); and a remainder has the sign of its phase (`rem-ge0`).
 -- The sustain setting is taken to be a value of an f64, as every f64 of a program is. Assumes nothing.
 use mathlib.Core.Path.{◌≡◌, refl, ap, ◌∙◌}
 use mathlib.Core.Bool.{true}

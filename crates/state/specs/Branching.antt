@@ -1,7 +1,7 @@
 -- The steps with 01's own reduction. 01, "Steps": "phase is reduced by TAU: r = phase % TAU, and r + TAU if r is below
 -- 0". 02, R-13: "show that this branch is never taken there and take it out".
--- The voice's reduction, `reduced_of` of State.antt, is the remainder alone. Here the branch is kept, and all else is as
--- in Heart.antt, so that what both make can be compared, in the claim `NeverNegative` of the crate `demands`. No
+-- The voice's reduction, `reduced_of` of State.antt, is the remainder alone. Here the branch is kept, and all else is
+-- as in Heart.antt, so that what both make can be compared, in the claim `NeverNegative` of the crate `demands`. No
 -- function's contract cites these definitions. Definitions only.
 use Rattle.std.specs.Prelude.{cond, List, ℕ, ◌*◌, Float}
 use Rattle.runs.specs.Runs.{run, listed, seen}

@@ -50,9 +50,9 @@ abbrev pub fresh_of : ℕ → State
 fresh_of acted = record { phase = radians zero64; envelope = envelope.fresh_of; frequency = concert; velocity = zero64; keys = fresh_keys; acted = acted; lfo = radians zero64 }
 
 -- ---- the state with some fields changed. Who adds a field to `State` adds it to these definitions, to `fresh_of`, to
--- `with_acted` of ButActed.antt, to `with_lfo_phase` of ButLfo.antt, to `with_keys` and `always_triggered` of Joined.antt,
--- and to `state_of` of the crate `shelf`, which name all fields; and, where it has limits and words, to `in_limits` of
--- Limits.antt and to shelf's `entry_of` and `entry_words`
+-- `with_acted` of ButActed.antt, to `with_lfo_phase` of ButLfo.antt, to `with_keys` and `always_triggered` of
+-- Joined.antt, and to `state_of` of the crate `shelf`, which name all fields; and, where it has limits and words, to
+-- `in_limits` of Limits.antt and to shelf's `entry_of` and `entry_words`
 
 -- the phases of the oscillator and of the LFO
 abbrev pub with_phases : State → Float → Float → State
