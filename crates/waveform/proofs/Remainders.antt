@@ -1,5 +1,5 @@
--- phase % TAU without a remainder of floats: below TAU it is the phase, below 2 TAU the phase less TAU, and from TAU up a
--- remainder of integers, as TAU and the phase, read from its bits, are whole multiples of 2^-50; a negative phase has
+-- phase % TAU without a remainder of floats: below TAU it is the phase, below 2 TAU the phase less TAU, and from TAU up
+-- a remainder of integers, as TAU and the phase, read from its bits, are whole multiples of 2^-50; a negative phase has
 -- the remainder of its size, with its sign. Assumes nothing.
 use mathlib.Core.Path.{◌≡◌, refl, sym, subst, ap, ◌∙◌}
 use mathlib.Core.Bool.{Bool, true, false, not, ◌&&◌, true≢false}
