@@ -1,0 +1,3 @@
+-- What the lister's proofs rest on.
+-- what is known once reading has ended
+pub mod Ends
