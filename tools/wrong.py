@@ -230,9 +230,28 @@ def cases_of(old, new):
     return []
 
 
-def renamed(text, names):
+def raw_facts(folder):
+    """Of each step of a function: those of its facts that are also there as the code's test has them, as `not x` is."""
+    found, record = {}, ""
+    for line in (folder / "Lts.antt").read_text("utf-8").splitlines():
+        if head := re.match(r" +pub record (\S+)", line):
+            record = head[1]
+        elif field := re.match(r" +pub (true|false)-raw :", line):
+            found.setdefault(record, set()).add(field[1])
+        elif step := re.match(r" +pub ([^\s:]+) : (Own-\S+)", line):
+            found.setdefault(step[1], set()).update(found.get(step[2], ()))
+    return found
+
+
+def renamed(text, names, raw):
     """A proof file with the names of goals and steps that the edited code has in the place of those that it had."""
-    return re.sub(r"[^\s(){}.;,]+", lambda word: names.get(word[0], word[0]), text)
+    text = re.sub(r"[^\s(){}.;,]+", lambda word: names.get(word[0], word[0]), text)
+
+    def fact(found):
+        step, side = found.groups()
+        return found[0] if side in raw.get(step, (side,)) else f"{step}.{side}"
+
+    return re.sub(r"([^\s(){}.;,]+)\.(true|false)-raw", fact, text)
 
 
 def linked(folder, to):
@@ -365,7 +384,8 @@ class Checker:
 
     def fitted(self, crate, texts, unfit):
         """The files with the proofs of these copies renamed: rattle writes the names of the goals and steps of each
-        function as it is and of each copy, in the order of the code."""
+        function as it is and of each copy, in the order of the code. A fact that is there in one spelling alone is named
+        by that one."""
         with tempfile.TemporaryDirectory(dir=self.room) as place:
             of = {copy: f"{copy.rpartition(COPY)[0]}{COPY}{AS_IT_IS}" for copy in unfit}
             starts = [word for name in {*of, *of.values()} for word in ("--start", in_rattle(crate, name))]
@@ -378,7 +398,7 @@ class Checker:
                 names = dict(pairs + [pair for old, new in pairs for pair in cases_of(old, new)])
                 for file in texts:
                     if file.startswith(f"proofs/{copy}/"):
-                        texts[file] = renamed(texts[file], names)
+                        texts[file] = renamed(texts[file], names, raw_facts(home / copy))
         return texts
 
 
