@@ -74,7 +74,7 @@ fmt:
 lib: build/libgavberin.a build/libgavberin.so
 
 # Made again where the code of a crate has changed since; `make lib` always asks rt, which proves what has changed.
-build/proved.a: $(wildcard crates/*/src/*.rt) tools/native-lib $(if $(filter lib,$(MAKECMDGOALS)),always)
+build/proved.a: $(shell find crates/*/src -name '*.rt') tools/native-lib $(if $(filter lib,$(MAKECMDGOALS)),always)
 	@tools/native-lib ffi_c $@
 
 build/libgavberin.a: build/proved.a build/words.o
