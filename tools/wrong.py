@@ -281,6 +281,7 @@ class Checker:
         self.kit = Path(subprocess.run(["rt", "doc"], capture_output=True, text=True, check=True).stdout.strip()).parent
         lines = [line.split("#")[0] for line in (ROOT / "crates.txt").read_text("utf-8").splitlines()]
         self.needs = {line.split(":")[0].split()[0]: line.split(":")[1].split() for line in lines if ":" in line}
+        self.static = {line.split()[0] for line in lines if line.split(":")[0].split()[1:] == ["staticlib"]}
 
     def below(self, crate):
         """The crates of the repository that a crate stands on."""
@@ -297,7 +298,7 @@ class Checker:
         for place in [self.kit / "rlibs", *(ROOT / "crates" / name / "out/rlib" for name in sorted(self.below(crate)))]:
             words += ["-L", f"dependency={place}"]
         words += ["--antt-project", self.kit / "rattle/logic/antt-project.json", "--logic-built", self.kit / "logic_built"]
-        return words + ["--jobs", "1", "--links", f"{crate}="]
+        return words + ["--jobs", "1", "--links", f"{crate}=", *(("--crate-type", "staticlib") if crate in self.static else ())]
 
     def current(self, crates):
         """Has rt prove what has changed of these crates and of those below since it left out/. ValueError where it cannot."""
