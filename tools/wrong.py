@@ -225,8 +225,9 @@ def matched(old, new):
 
 def cases_of(old, new):
     """The names of the two cases of a branch, and of the types that are called by it; and of a case of a match."""
-    if old.startswith("in-") and old.endswith("-own") and new.startswith("in-") and new.endswith("-own"):
-        return [(old.removesuffix("-own"), new.removesuffix("-own"))]
+    ends = [re.fullmatch(r"(in-.+)-(1|own)", name) for name in (old, new)]
+    if all(ends) and ends[0][2] == ends[1][2]:
+        return [(ends[0][1], ends[1][1])]
     if old.startswith("if-") and new.startswith("if-"):
         return [(f"{word}-{old[3:]}", f"{word}-{new[3:]}") for word in ("then", "else", "Then", "Else", "Joined")]
     return []
