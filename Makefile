@@ -85,11 +85,11 @@ build/words.o: library/words.c include/gavberin.h
 	@mkdir -p build
 	@$(CC) $(C_FLAGS) -O2 -fPIC -c -o $@ library/words.c
 
-# Nothing but the calls of the header can be seen from outside.
+# Nothing but the calls of the header can be seen from outside. A copy, as `rt ci` refuses a link in the checkout.
 build/libgavberin.so: build/libgavberin.a library/exports
 	@$(CC) -shared -nostartfiles -Wl,-soname,$(SHARED) -Wl,--version-script=library/exports -Wl,--no-undefined \
 		-o build/$(SHARED) -Wl,--whole-archive build/libgavberin.a -Wl,--no-whole-archive -lm
-	@ln -sf $(SHARED) $@
+	@cp build/$(SHARED) $@
 
 desk: build/desk
 
