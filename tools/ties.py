@@ -30,8 +30,6 @@ HELPER = "helper"
 
 # Two widths that share a theorem; every other function has its own.
 SHARED = {
-    "floats::floor_f32": "floor_unique",
-    "floats::floor_f64": "floor_unique",
     "words::u32_at": "word_at_unique",
     "words::u64_at": "word_at_unique",
     "words::f32_of": "of_bits_unique",
@@ -45,18 +43,22 @@ SHARED = {
 # Comments and texts are skipped, so that a brace or a word in them is no code.
 TOKEN = re.compile(
     r"//[^\n]*|/\*.*?\*/|\"(?:\\.|[^\"\\])*\"|'(?:\\[^']+|[^'\\])'"
-    r"|\bimpl\b\s*(?:<[^>]*>)?\s*(?P<type>\w+)|\bmod\s+(?P<mod>\w+)(?=\s*\{)"
+    r"|\bimpl\b\s*(?:<[^>]*>)?\s*(?:(?P<trait>\w+)(?:<[^{}]*?>)?\s+for\s+)?(?P<type>\w+)|\bmod\s+(?P<mod>\w+)(?=\s*\{)"
     r"|(?P<pub>\bpub\s+(?:(?:const|unsafe)\s+)*)?(?P<extern>\bextern\s+\"C\"\s+)?\bfn\s+(?P<fn>\w+)|(?P<brace>[{}])",
     re.S,
 )
 COMMENT = re.compile(r"//[^\n]*|/\*.*?\*/", re.S)
 BODY = re.compile(r"\n\{\n(.*?)\n\}\n", re.S)
+TYPES = re.compile(r"(?:<(?:[^<>]|->|<[^<>]*>)*>)?")
 ARROW = re.compile(r"\s*->.*?(?=\s*(?:\b(?:ensures|requires)\b|\{))", re.S)
 CLAUSE = re.compile(r"\s*(?P<key>\w+)(?: \w+)?\s*\{")
 USE = re.compile(r"^(?:ghost )?use ([^\s{};]+?)(?:\.\{([^}]*)\}| as (\S+?))?;?$", re.M)
 SIGNATURE = r"(?:(?:pub|abbrev|unfoldable) )+(?:(?:record|data) )?(?:pub )?"
 DECLARATION = re.compile(rf"^{SIGNATURE}(\S+) ?(?=[:({{])", re.M)
 THEOREM = re.compile(r"^pub (\S+_unique) :(.*?)^\1(?= |$)", re.S | re.M)
+# Traits of std whose function is a conversion, and the ghost member that says what it gives, just above the function.
+CONVERSIONS = ("From", "TryFrom")
+GIVES = re.compile(r"ghost (?:try_)?from_gives = \{ λ (?P<taken>\w+) (?P<given>\w+)\. (?P<says>[^{}]*) \};\s*fn \w+\Z", re.S)
 OPEN, CLOSE = "({", ")}"
 RESULT = "the result"  # no parameter has such a name
 PLAIN = {"×", "→"}  # words of the logic itself
@@ -70,9 +72,14 @@ PRELUDE = {
 }
 
 
+# What a clause may say without a `ghost use`, as code without a `use`.
+ALWAYS = {name: ("logic Rattle.std.specs.Prelude", name) for name in ("Ok", "Err", "Some", "None")}
+
+
 class Function(NamedTuple):
     name: str  # crate::Type::function, or crate::module::function
     file: str
+    types: list  # its type parameters, whose bounds have ghost members
     takes: list  # the names of what it takes
     seen: list  # those that are references
     lent: list  # those of these that it may change
@@ -124,13 +131,24 @@ def functions(texts, crate):
                 kind = [s["type"] for s in scopes if s and s["type"]]
                 inner = [s["mod"] for s in scopes if s and s["mod"]]
                 name = "::".join([crate, *(kind or modules + inner), token["fn"]])
-                yield name, bool(token["pub"] or token["extern"]), path, token.end()
+                converts = any(s["trait"] in CONVERSIONS for s in scopes if s and s["type"])
+                yield name, bool(token["pub"] or token["extern"] or converts), path, token.end()
 
 
 def public(texts, crate):
     for name, is_public, path, start in functions(texts, crate):
         if is_public:
-            yield signature(name, path, COMMENT.sub("", texts[path][start:]))
+            function = signature(name, path, COMMENT.sub("", texts[path][start:]))
+            yield function if function.clauses else function._replace(clauses=conversion(function, texts[path][:start]))
+
+
+def conversion(function, before):
+    """The contract of a conversion: the ghost member above it, at what it takes and its result."""
+    held = GIVES.search(before)
+    if not held or len(function.takes) != 1:
+        return []
+    meant = {held["taken"]: function.takes[0], held["given"]: "result"}
+    return [("ensures", re.sub(r"(?<![\w.])\w+", lambda word: meant.get(word[0], word[0]), " ".join(held["says"].split())))]
 
 
 def closing(text, start):
@@ -148,12 +166,16 @@ def closing(text, start):
 
 def signature(name, path, text):
     """What a function takes and promises; text begins after its name."""
+    types = re.findall(r"(\w+):", TYPES.match(text)[0])
+    text = text[TYPES.match(text).end() :]
     end = closing(text, text.index("("))
     takes, seen, lent, depth, piece = [], [], [], 0, ""
     for sign in text[text.index("(") + 1 : end] + ",":
         depth += (sign in "([<") - (sign in ")]>")
         if sign == "," and depth == 0:
             given, _, kind = piece.strip().partition(":")
+            if given in ("&self", "&mut self"):
+                given, kind = "self", given
             if given:
                 takes.append(given.removeprefix("mut ").strip())
                 seen += [takes[-1]] if kind.strip().startswith("&") else []
@@ -168,7 +190,7 @@ def signature(name, path, text):
         end = closing(text, clause.end() - 1)
         clauses.append((clause["key"], " ".join(text[clause.end() : end].split())))
         at = end + 1
-    return Function(name, path, takes, seen, lent, answers, clauses)
+    return Function(name, path, types, takes, seen, lent, answers, clauses)
 
 
 def formula(function):
@@ -205,7 +227,7 @@ class Names:
     """What the words of a file stand for."""
 
     def __init__(self, text, own=()):
-        self.known, self.aliases = {name: (None, name) for name in own}, {}
+        self.known, self.aliases = {**ALWAYS, **{name: (None, name) for name in own}}, {}
         for path, several, alias in USE.findall(text):
             for name in filter(None, (n.strip() for n in several.split(","))):
                 self.known[name] = (place_of(path, name), name)
@@ -309,6 +331,8 @@ def contract(function, names):
             return with_fields(("taken", name), fields[1:])
         if name in function.takes:
             return with_fields(("taken", name), fields)
+        if name in function.types and fields:
+            return ("taken", word)
         if word.startswith(".") or re.fullmatch(r"\d\w*", word) or word in PLAIN:
             return word
         known = names.of(word)
@@ -347,7 +371,8 @@ def theorem(text, names):
     for part in parted(tree(text), "→"):
         if all(isinstance(word, list) and ":" in word for word in part):
             for word in part:
-                variables += word[: word.index(":")]
+                # a type for which the theorem holds is no variable of it
+                variables += word[: word.index(":")] if word[word.index(":") + 1 :] != ["Type", "0"] else []
         else:
             rest.append(part)
 

@@ -33,8 +33,12 @@ FORM = re.compile(
     r"(?:file: \S+\n(?:(?:old: .+\n)+(?:new:(?: .*)?\n)+)+)+"
 )
 EDIT = re.compile(r"^(file|old|new):(?: (.*))?$", re.M)
-# What begins a function, of a type or not, or another item of a file.
-ITEM = re.compile(r"^(?:impl (?P<type>\w+)|(?P<inner> +)?(?:pub )?(?:extern \"C\" )?fn (?P<fn>\w+)|(?:pub )?(?:const|struct|enum) )", re.M)
+# What begins a function, of a type or not, or another item of a file: its attributes are part of it.
+ITEM = re.compile(
+    r"^(?: *#\[.+\]\n)*(?:impl(?:<[^{}]*?>)? (?P<trait>\w+(?:<[^{}]*?>)? for )?(?P<type>\w+)|(?P<inner> +)?(?:pub )?(?:extern \"C\" )?fn (?P<fn>\w+)"
+    r"|(?:pub )?(?:const|struct|enum|type|trait) )",
+    re.M,
+)
 COPY = "_again"  # in the name of a function's copy, before its number
 AS_IT_IS = 1  # the number of the copy that has no edit
 PLACE = re.compile(r"(?:(src/\S+\.rt):(\d+):|proofs/(\S+)/(?:Answers|Invariants|Proof)\.antt:)")
@@ -109,11 +113,15 @@ def made(program, texts=None):
 
 
 def function_at(name, text, place):
-    """The function of a file in which a place of its text lies, as the folder of its proof; None where none does."""
+    """The function of a file in which a place of its text lies, as the folder of its proof; None where none does, and for
+    a trait's function, beside which its `impl` can hold no copy."""
     items = [item for item in ITEM.finditer(text) if item.start() <= place]
     if not items or not items[-1]["fn"]:
         return None
-    types = [item["type"] for item in items if item["type"]] if items[-1]["inner"] else []
+    impls = [item for item in items if item["type"]] if items[-1]["inner"] else []
+    if impls and impls[-1]["trait"]:
+        return None
+    types = [impl["type"] for impl in impls]
     modules = [] if name in ("src/lib.rt", "src/main.rt") else [Path(name).stem]
     return "/".join([*modules, *types[-1:], items[-1]["fn"]])
 

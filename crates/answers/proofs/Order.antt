@@ -1,6 +1,7 @@
 -- Laws of a list of refusals. A refusal counts only where none before it is in the list; a call that is done has an
 -- empty list; and a refusal is given exactly when its test fails and no refusal before it is in the list.
 -- Assumes nothing.
+use Rattle.std.specs.Prelude.{Err, Ok}
 use mathlib.Core.Path.{◌≡◌, refl, ap, ◌∙◌}
 use mathlib.Core.Bool.{Bool, true, false}
 use mathlib.Core.List.{List, [], ◌∷◌, ◌++◌, map}
@@ -9,8 +10,7 @@ use Prim.Native.Nat.{ℕ}
 use native.Mathlib.Omega.{arith}
 use lib.Dec.{T}
 use Rattle.answers.specs.Order.{unless, first_of}
-use Rattle.answers.specs.declared.Answer.{Answer}
-use Rattle.answers.specs.declared.Answer.TheVariants.{Done, Refused}
+use Rattle.answers.specs.Answer.{Answer}
 use Rattle.answers.specs.declared.Refusal.{Refusal}
 
 clash : ◌≡◌ {A = ℕ} 0 1 → ⊥
@@ -80,38 +80,38 @@ pub first_keeps : {A R : Type 0} (xs : List A) (f : A → R) (d : R) (P : R → 
 first_keeps xs f d P h k = first_holds P xs f d (λ why l. h why) k
 
 -- the outcome's answer is done: the list is empty
-pub none-refused : {R : Type 0} (xs : List Refusal) (f : Refusal → R) (d : R) (answer : R → Answer) (n : ℕ) → ((why : Refusal) → answer (f why) ≡ Refused why) → answer (first_of xs f d) ≡ Done n → xs ≡ []
+pub none-refused : {R : Type 0} (xs : List Refusal) (f : Refusal → R) (d : R) (answer : R → Answer) (n : ℕ) → ((why : Refusal) → answer (f why) ≡ Err why) → answer (first_of xs f d) ≡ Ok n → xs ≡ []
 none-refused [] f d answer n h e = refl
 none-refused (why ∷ later) f d answer n h e = absurd (clash (cc (h why)))
 
 -- ---- the answer of a call: refused, or done with a count
 module _ (xs : List Refusal) (n : ℕ) where
-  pub done_none : (m : ℕ) → first_of xs Refused (Done n) ≡ Done m → xs ≡ []
+  pub done_none : (m : ℕ) → first_of xs Err (Ok n) ≡ Ok m → xs ≡ []
   done_none m e = go xs e
     where
-      go : (xs : List Refusal) → first_of xs Refused (Done n) ≡ Done m → xs ≡ []
+      go : (xs : List Refusal) → first_of xs Err (Ok n) ≡ Ok m → xs ≡ []
       go [] e = refl
       go (x ∷ xs) e = absurd (clash (cc))
 
-  pub refused_leads : (why : Refusal) → first_of xs Refused (Done n) ≡ Refused why → Leads why xs
+  pub refused_leads : (why : Refusal) → first_of xs Err (Ok n) ≡ Err why → Leads why xs
   refused_leads why e = go xs e
     where
-      go : (xs : List Refusal) → first_of xs Refused (Done n) ≡ Refused why → Leads why xs
+      go : (xs : List Refusal) → first_of xs Err (Ok n) ≡ Err why → Leads why xs
       go [] e = absurd (clash (cc))
       go (x ∷ xs) e = cc
 
 -- ---- a call: its list decides its answer, and its answer decides what it leaves, each in both directions
 pub record Decided {R : Type 0} (says : R → Answer) (refusals : List Refusal) (kept : Refusal → R) (made : R) (n : ℕ) (o : R) : Type 0 where
-  pub refused : (why : Refusal) → says o ≡ Refused why → Leads why refusals
-  pub is-refused : (why : Refusal) → Leads why refusals → says o ≡ Refused why
-  pub keeps : (why : Refusal) → says o ≡ Refused why → o ≡ kept why
-  pub done : (m : ℕ) → says o ≡ Done m → refusals ≡ []
-  pub is-done : refusals ≡ [] → says o ≡ Done n
-  pub makes : (m : ℕ) → says o ≡ Done m → o ≡ made
-  pub counts : (m : ℕ) → says o ≡ Done m → n ≡ m
+  pub refused : (why : Refusal) → says o ≡ Err why → Leads why refusals
+  pub is-refused : (why : Refusal) → Leads why refusals → says o ≡ Err why
+  pub keeps : (why : Refusal) → says o ≡ Err why → o ≡ kept why
+  pub done : (m : ℕ) → says o ≡ Ok m → refusals ≡ []
+  pub is-done : refusals ≡ [] → says o ≡ Ok n
+  pub makes : (m : ℕ) → says o ≡ Ok m → o ≡ made
+  pub counts : (m : ℕ) → says o ≡ Ok m → n ≡ m
 
 -- the outcome is `kept` of the first refusal, or else `made`, whose answer is done with the count n: it is `Decided`
-pub decided : {R : Type 0} (says : R → Answer) (refusals : List Refusal) (kept : Refusal → R) (made : R) (n : ℕ) → ((why : Refusal) → says (kept why) ≡ Refused why) → says made ≡ Done n
+pub decided : {R : Type 0} (says : R → Answer) (refusals : List Refusal) (kept : Refusal → R) (made : R) (n : ℕ) → ((why : Refusal) → says (kept why) ≡ Err why) → says made ≡ Ok n
     → Decided says refusals kept made n (first_of refusals kept made)
 decided says refusals kept made n a b = go refusals
   where
@@ -130,7 +130,7 @@ decided says refusals kept made n a b = go refusals
         let said = a x in
         record {
           refused = λ why e. cc;
-          is-refused = λ why h. said ∙ ap Refused h;
+          is-refused = λ why h. said ∙ ap Err h;
           keeps = λ why e. (let same : x ≡ why = cc in ap kept same);
           done = λ m e. absurd (clash (cc));
           is-done = λ e. absurd (clash (cc));

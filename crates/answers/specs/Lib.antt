@@ -1,3 +1,5 @@
+pub mod Answer
+pub mod Changed
 pub mod Numbers
 pub mod Order
 pub mod Outcome

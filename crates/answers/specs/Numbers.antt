@@ -6,9 +6,8 @@
 --
 -- Every contract of a call that can refuse speaks of an `Answer`, and only this file gives the cases of `Answer` their
 -- numbers. A later request adds a number as a case of `Refusal`, with a row in each definition here. Definitions only.
-use Rattle.std.specs.Prelude.{ℕ, ◌+◌}
-use Rattle.answers.specs.declared.Answer.{Answer}
-use Rattle.answers.specs.declared.Answer.TheVariants.{Done, Refused}
+use Rattle.std.specs.Prelude.{ℕ, ◌+◌, Err, Ok}
+use Rattle.answers.specs.Answer.{Answer}
 use Rattle.answers.specs.declared.Refusal.{Refusal}
 use Rattle.answers.specs.declared.Refusal.TheVariants.{Score, NewScore, Setting, Size, StartEntry, Argument, GivenState, EditFrame, NotThere, Full, Page, Edit}
 use Rattle.answers.specs.declared.ScoreFault.{ScoreFault}
@@ -69,5 +68,5 @@ refusal_count r = 0
 -- done has number 0, place 0, and as its count the samples written; what C sees of a page of edits that is done has the
 -- bytes of its score there (specs/Packed.antt of `ffi`)
 abbrev pub numbers_of : Answer → Numbers
-numbers_of (Done n) = record { number = 0; place = 0; count = n }
-numbers_of (Refused r) = record { number = refusal_number r; place = refusal_place r; count = refusal_count r }
+numbers_of (Ok n) = record { number = 0; place = 0; count = n }
+numbers_of (Err r) = record { number = refusal_number r; place = refusal_place r; count = refusal_count r }

@@ -1,11 +1,12 @@
-// What a call says: the rows of 01's table ("What a call says") as enums, and the number, place and count of each. What
-// a call returns beside its answer, a number or a state, is a field of a struct of the call's own crate; `Value` is the
-// one such struct that several crates share.
+// What a call says: the rows of 01's table ("What a call says") as enums, and the number, place and count of each. A
+// call that hands out a single number gives it in place of the count; one that hands back a state, on a refusal too,
+// leaves both in a `Changed`, or in a struct of its own crate if it hands out more.
 #![tactic(auto)]
 
 ghost use Rattle.std.specs.Prelude.{◌≡◌, ◌≤◌};
 ghost use Rattle.answers.specs.Order.{unless};
 ghost use Rattle.answers.specs.Value.{value_or};
+ghost use Rattle.answers.specs.Changed.{changed_or};
 ghost use Rattle.answers.specs.Numbers.{numbers_of, refusal_number, refusal_place, fault_number, fault_place};
 
 // What is wrong with a score: its length, or a record, whose index the case carries.
@@ -36,11 +37,14 @@ pub enum Refusal {
     Edit(ScoreFault),
 }
 
-// Done, with the number of samples written, or refused.
+// What a call says: `Ok`, done, with the number of samples written; or `Err`, refused.
+pub type Answer = Result<usize, Refusal>;
+
+// What a call that changes a state leaves: the answer, and the state after the call.
 #[derive(Clone, Copy)]
-pub enum Answer {
-    Done(usize),
-    Refused(Refusal),
+pub struct Changed<S> {
+    pub answer: Answer,
+    pub state: S,
 }
 
 // An answer as three numbers, for a host that has no enums.
@@ -51,104 +55,101 @@ pub struct Numbers {
     pub count: usize,
 }
 
-// A call's answer and its single number, which is +0 where the call was refused.
-#[derive(Clone, Copy)]
-pub struct Value {
-    pub answer: Answer,
-    pub value: f64,
-}
+impl From<Answer> for Numbers {
+    ghost from_gives = { λ answer numbers. numbers ≡ numbers_of answer };
 
-pub fn in_numbers(answer: Answer) -> Numbers
-    ensures { result ≡ numbers_of answer }
-{
-    match answer {
-        Answer::Done(count) => Numbers {
-            number: 0,
-            place: 0,
-            count,
-        },
-        Answer::Refused(refusal) => Numbers {
-            number: refusal_number(refusal),
-            place: refusal_place(refusal),
-            count: 0,
-        },
+    fn from(answer: Answer) -> Numbers {
+        match answer {
+            Ok(count) => Numbers {
+                number: 0,
+                place: 0,
+                count,
+            },
+            Err(refusal) => Numbers {
+                number: refusal.number(),
+                place: refusal.place(),
+                count: 0,
+            },
+        }
     }
 }
 
-// Done, with the value, where ok is true; else the refusal, with +0.
-pub fn value_if(ok: bool, refusal: Refusal, value: f64) -> Value
+// The value where ok is true, else the refusal.
+pub fn value_if<T: Copy>(ok: bool, refusal: Refusal, value: T) -> Result<T, Refusal>
     ensures { result ≡ value_or (unless ok refusal) value }
 {
+    if ok { Ok(value) } else { Err(refusal) }
+}
+
+// Done, with the state after, where ok is true; else a refusal, with the state as it came.
+pub fn changed_if<S: Copy>(ok: bool, refusal: Refusal, before: S, after: S) -> Changed<S>
+    ensures { result ≡ changed_or (unless ok refusal) before after }
+{
     if ok {
-        return Value {
-            answer: Answer::Done(0),
-            value,
-        };
-    }
-    Value {
-        answer: Answer::Refused(refusal),
-        value: 0.0,
-    }
-}
-
-fn refusal_number(refusal: Refusal) -> u8
-    ensures { result ≡ refusal_number refusal }
-{
-    match refusal {
-        Refusal::Score(fault) => fault_number(fault),
-        Refusal::NewScore(fault) => fault_number(fault) + 16,
-        Refusal::Setting => 6,
-        Refusal::Size => 7,
-        Refusal::StartEntry => 8,
-        Refusal::Argument => 9,
-        Refusal::GivenState => 10,
-        Refusal::EditFrame(_) => 33,
-        Refusal::NotThere(_) => 34,
-        Refusal::Full(_) => 35,
-        Refusal::Page => 36,
-        Refusal::Edit(fault) => fault_number(fault) + 48,
+        Changed {
+            answer: Ok(0),
+            state: after,
+        }
+    } else {
+        Changed {
+            answer: Err(refusal),
+            state: before,
+        }
     }
 }
 
-fn refusal_place(refusal: Refusal) -> usize
-    ensures { result ≡ refusal_place refusal }
-{
-    match refusal {
-        Refusal::Score(fault) => fault_place(fault),
-        Refusal::NewScore(fault) => fault_place(fault),
-        Refusal::Setting => 0,
-        Refusal::Size => 0,
-        Refusal::StartEntry => 0,
-        Refusal::Argument => 0,
-        Refusal::GivenState => 0,
-        Refusal::EditFrame(edit) => edit,
-        Refusal::NotThere(edit) => edit,
-        Refusal::Full(edit) => edit,
-        Refusal::Page => 0,
-        Refusal::Edit(fault) => fault_place(fault),
+impl Refusal {
+    fn number(self) -> u8
+        ensures { result ≡ refusal_number self }
+    {
+        match self {
+            Refusal::Score(fault) => fault.number(),
+            Refusal::NewScore(fault) => fault.number() + 16,
+            Refusal::Setting => 6,
+            Refusal::Size => 7,
+            Refusal::StartEntry => 8,
+            Refusal::Argument => 9,
+            Refusal::GivenState => 10,
+            Refusal::EditFrame(_) => 33,
+            Refusal::NotThere(_) => 34,
+            Refusal::Full(_) => 35,
+            Refusal::Page => 36,
+            Refusal::Edit(fault) => fault.number() + 48,
+        }
+    }
+
+    fn place(self) -> usize
+        ensures { result ≡ refusal_place self }
+    {
+        match self {
+            Refusal::Score(fault) | Refusal::NewScore(fault) | Refusal::Edit(fault) =>
+                fault.place(),
+            Refusal::EditFrame(edit) | Refusal::NotThere(edit) | Refusal::Full(edit) => edit,
+            _ => 0,
+        }
     }
 }
 
-fn fault_number(fault: ScoreFault) -> u8
-    ensures { (result ≡ fault_number fault) × (result ≤ 5) }
-{
-    match fault {
-        ScoreFault::Length => 1,
-        ScoreFault::Mark(_) => 2,
-        ScoreFault::Kind(_) => 3,
-        ScoreFault::Field(_) => 4,
-        ScoreFault::Order(_) => 5,
+impl ScoreFault {
+    fn number(self) -> u8
+        ensures { (result ≡ fault_number self) × (result ≤ 5) }
+    {
+        match self {
+            ScoreFault::Length => 1,
+            ScoreFault::Mark(_) => 2,
+            ScoreFault::Kind(_) => 3,
+            ScoreFault::Field(_) => 4,
+            ScoreFault::Order(_) => 5,
+        }
     }
-}
 
-fn fault_place(fault: ScoreFault) -> usize
-    ensures { result ≡ fault_place fault }
-{
-    match fault {
-        ScoreFault::Length => 0,
-        ScoreFault::Mark(record) => record,
-        ScoreFault::Kind(record) => record,
-        ScoreFault::Field(record) => record,
-        ScoreFault::Order(record) => record,
+    fn place(self) -> usize
+        ensures { result ≡ fault_place self }
+    {
+        match self {
+            ScoreFault::Length => 0,
+            ScoreFault::Mark(record) | ScoreFault::Kind(record) => record,
+            ScoreFault::Field(record) | ScoreFault::Order(record) => record,
+        }
     }
 }

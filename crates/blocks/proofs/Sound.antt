@@ -1,5 +1,6 @@
 -- A run that is done, for a highest frequency of at most 20,000 Hz: every sample is finite, and the phase after the run
 -- is at least 0 and below TAU. The start phase is a value of an f64, as every f64 of the code is. Assumes nothing.
+use Rattle.std.specs.Prelude.{Ok}
 use mathlib.Core.Path.{◌≡◌, refl, subst}
 use mathlib.Core.Bool.{Bool, false, ◌&&◌}
 use mathlib.Core.List.{List, [], ◌++◌}
@@ -18,7 +19,6 @@ use Rattle.floats.proofs.Literals.{zero_of-is}
 use Rattle.floats.proofs.Order.{fle_trans, lt-le, le→ge0, under, nonneg→finite}
 use Rattle.floats.proofs.Rounds.{ge0-round}
 use Rattle.domain.specs.Domain.{is_rate, highest_tone, is_frequency, is_depth, thousand, is_radians}
-use Rattle.answers.specs.declared.Answer.TheVariants.{Done}
 use Rattle.answers.specs.declared.Refusal.TheVariants.{Setting, Argument}
 use Rattle.answers.specs.Order.{unless}
 use Rattle.answers.specs.Outcome.{Outcome}
@@ -110,7 +110,7 @@ pub record Sound (xs : List Float) (p : Radians) : Type 0 where
   pub phase-below : T (lt p.0 tau)
 
 module _ (t : Tone) (top : Float) (rate : ℕ) (xs : List Float) (w : T (fits binary64 t.phase.0)) (m : T (le top highest_tone)) where
-  pub run_sound : (n : ℕ) → (run_of t top rate xs).result.answer ≡ Done n → Sound (run_of t top rate xs).lent (run_of t top rate xs).result.phase
+  pub run_sound : (n : ℕ) → (run_of t top rate xs).result.answer ≡ Ok n → Sound (run_of t top rate xs).lent (run_of t top rate xs).result.phase
   unfolding run_of
   run_sound n d =
       let step = increment_of t.frequency rate in

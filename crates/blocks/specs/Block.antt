@@ -8,8 +8,7 @@
 --
 -- Ranges are comparisons of floats: a NaN is outside, and -0 counts as 0. The highest frequency is an argument.
 -- Definitions only.
-use Rattle.std.specs.Prelude.{Bool, ◌&&◌, List, ◌++◌, ℕ, length, Float}
-use Rattle.answers.specs.declared.Answer.TheVariants.{Done, Refused}
+use Rattle.std.specs.Prelude.{Bool, ◌&&◌, List, ◌++◌, ℕ, length, Float, Err, Ok}
 use Rattle.answers.specs.declared.Refusal.{Refusal}
 use Rattle.answers.specs.declared.Refusal.TheVariants.{Setting, Argument}
 use Rattle.answers.specs.Order.{unless, first_of}
@@ -31,13 +30,17 @@ is_setting rate w = is_rate rate && is_waveform w
 unfoldable pub is_tone : Tone → Float → Bool
 is_tone t highest = is_depth t.depth && is_frequency highest t.frequency && is_radians t.phase.0
 
+-- 6, and 9 after 6
+abbrev pub refusals_of : Tone → Float → ℕ → List Refusal
+refusals_of t highest rate = unless (is_setting rate t.waveform) Setting ++ unless (is_tone t highest) Argument
+
 -- ---- what a run leaves
 abbrev pub refused_of : Refusal → Radians → Ran
-refused_of why p = record { answer = Refused why; phase = p }
+refused_of why p = record { answer = Err why; phase = p }
 
 -- the phase q and the numbers ys, unless the call is refused: then the phase p and the lent numbers xs, as they came
 abbrev pub outcome_or : List Refusal → Radians → List Float → Radians → List Float → Outcome Ran
-outcome_or refusals p xs q ys = first_of refusals (λ (why : Refusal). leaves (refused_of why p) xs) (leaves (record { answer = Done (length xs); phase = q }) ys)
+outcome_or refusals p xs q ys = first_of refusals (λ (why : Refusal). leaves (refused_of why p) xs) (leaves (record { answer = Ok (length xs); phase = q }) ys)
 
 -- the phase after n samples, reduced
 abbrev pub phase_after : Float → Radians → ℕ → Radians
@@ -48,5 +51,5 @@ unfoldable pub run_of : Tone → Float → ℕ → List Float → Outcome Ran
 run_of t highest rate xs =
     let n = length xs in
     let step = increment_of t.frequency rate in
-    outcome_or (unless (is_setting rate t.waveform) Setting ++ unless (is_tone t highest) Argument) t.phase xs (phase_after step t.phase n)
+    outcome_or (refusals_of t highest rate) t.phase xs (phase_after step t.phase n)
     (samples_from t.waveform step t.depth t.phase.0 n)

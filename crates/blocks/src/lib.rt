@@ -6,7 +6,8 @@
 
 ghost use Rattle.std.specs.Prelude.{◌≡◌};
 ghost use Rattle.answers.specs.Outcome.{leaves};
-ghost use Rattle.blocks.specs.Block.{is_tone, refused_of, run_of};
+ghost use Rattle.answers.specs.Value.{value_or};
+ghost use Rattle.blocks.specs.Block.{is_tone, refusals_of, run_of};
 
 use answers::{Answer, Refusal};
 use waveform::{Radians, Waveform};
@@ -31,20 +32,23 @@ pub struct Ran {
 pub fn run(tone: Tone, highest: f64, rate: u32, out: &mut [f64]) -> Ran
     ensures { leaves result out.new ≡ run_of tone highest rate out.old }
 {
-    let shape = tone.waveform;
-    if !(domain::is_rate(rate) & waveform::is_waveform(shape)) {
-        return refused(Refusal::Setting, tone.phase);
+    let answer = judged(tone, highest, rate, out.len());
+    let mut phase = tone.phase;
+    if answer.is_ok() {
+        let step = waveform::increment(tone.frequency, rate);
+        let last = filling::fill(out, tone.waveform, tone.phase, step, tone.depth);
+        phase = waveform::reduced(last);
     }
-    if !is_tone(tone, highest) {
-        return refused(Refusal::Argument, tone.phase);
-    }
-    let step = waveform::increment(tone.frequency, rate);
-    let last = filling::fill(out, shape, tone.phase, step, tone.depth);
-    let after = waveform::reduced(last);
-    Ran {
-        answer: Answer::Done(out.len()),
-        phase: after,
-    }
+    Ran { answer, phase }
+}
+
+// 6 before 9, or done with the count.
+fn judged(tone: Tone, highest: f64, rate: u32, count: usize) -> Answer
+    ensures { result ≡ value_or (refusals_of tone highest rate) count }
+{
+    let usable = domain::is_rate(rate) & waveform::is_waveform(tone.waveform);
+    answers::value_if(usable, Refusal::Setting, ())?;
+    answers::value_if(is_tone(tone, highest), Refusal::Argument, count)
 }
 
 // Whether the depth, the frequency (0 to highest, in Hz) and the start phase are accepted.
@@ -54,14 +58,4 @@ fn is_tone(tone: Tone, highest: f64) -> bool
     domain::is_depth(tone.depth)
         & floats::is_within(0.0, highest, tone.frequency)
         & domain::is_radians(tone.phase.0)
-}
-
-// A refusal, with the phase as it came.
-fn refused(why: Refusal, phase: Radians) -> Ran
-    ensures { result ≡ refused_of why phase }
-{
-    Ran {
-        answer: Answer::Refused(why),
-        phase,
-    }
 }

@@ -3,6 +3,7 @@
 -- from the stop on stay, too. The stop and the answer, the entries from the start section on, and samples and summary
 -- from there up to the stop depend on the settings, both scores, the number of samples, the start section and the
 -- entries from it on alone, not on the old samples, the earlier entries or the old summary. Assumes nothing.
+use Rattle.std.specs.Prelude.{Err, Ok, Option, Some}
 use mathlib.Core.Path.{◌≡◌, refl, sym, ap, ◌∙◌}
 use mathlib.Core.Bool.{true, ◌&&◌}
 use mathlib.Core.List.{List, []}
@@ -17,8 +18,7 @@ use Rattle.sections.specs.Summary.{largest, first_number, said_from}
 use Rattle.sections.proofs.Room.{room_in_lem, later_drop}
 use Rattle.sections.proofs.Summed.{said_part}
 use Rattle.answers.specs.Order.{unless, first_of}
-use Rattle.answers.specs.declared.Answer.{Answer}
-use Rattle.answers.specs.declared.Answer.TheVariants.{Done, Refused}
+use Rattle.answers.specs.Answer.{Answer}
 use Rattle.answers.specs.declared.Refusal.{Refusal}
 use Rattle.answers.specs.declared.Refusal.TheVariants.{StartEntry}
 use Rattle.answers.proofs.Order.{first-through, first_holds, passed, none_both}
@@ -33,8 +33,6 @@ use Rattle.state.specs.declared.Settings.{Settings}
 use Rattle.state.specs.declared.State.{State}
 use Rattle.state.specs.Heart.{state_from, entries_from}
 use Rattle.state.proofs.Entries.{entries-length, entry_at_lem}
-use Rattle.rerender.specs.declared.Plan.{Plan}
-use Rattle.rerender.specs.declared.Plan.TheVariants.{From}
 use Rattle.rerender.specs.Rerender.{plan_of, start_of, is_start, stop_of, recounted, made_from, outcome_of, start_refusals, rerender_refusals, kept_of, rerender_of}
 use Rattle.rerender.proofs.Cases.{plan_there, samples, words, made, words_long, stop_at, left-before, left-between, left-heard_after, left-summary-after, left-stored-onward, stop_alone, checks, Checked, all_checked}
 use Rattle.demands.specs.Peaks.{SameAfter}
@@ -45,7 +43,7 @@ unfolding state_from run
 none_yet g s m v = refl
 
 -- ---- what stays
-module _ (g : Settings) (old new : List ℕ) (b : Buffers) (m : ℕ) (planned : plan_of old new (samples_in b) ≡ From m) where
+module _ (g : Settings) (old new : List ℕ) (b : Buffers) (m : ℕ) (planned : plan_of old new (samples_in b) ≡ Some m) where
   abbrev n : ℕ
   n = samples_in b
 
@@ -92,8 +90,8 @@ module _ (g : Settings) (old new : List ℕ) (b : Buffers) (m : ℕ) (planned : 
           ∙ decode-encode (entry_at b.stored m) bytes is.0
 
 -- ---- what the outcome depends on
-module _ (g : Settings) (old new : List ℕ) (b c : Buffers) (fit : Lent b) (fit' : Lent c) (long : samples_in b ≡ samples_in c) (m : ℕ) (planned : plan_of old new (samples_in b) ≡ From m) (same : drop (m * entry_words) b.stored ≡ drop (m * entry_words) c.stored) where
-  planned' : plan_of old new (samples_in c) ≡ From m
+module _ (g : Settings) (old new : List ℕ) (b c : Buffers) (fit : Lent b) (fit' : Lent c) (long : samples_in b ≡ samples_in c) (m : ℕ) (planned : plan_of old new (samples_in b) ≡ Some m) (same : drop (m * entry_words) b.stored ≡ drop (m * entry_words) c.stored) where
+  planned' : plan_of old new (samples_in c) ≡ Some m
   planned' = rw (← long) planned
 
   same_start : entry_at b.stored m ≡ entry_at c.stored m
@@ -109,11 +107,11 @@ module _ (g : Settings) (old new : List ℕ) (b c : Buffers) (fit : Lent b) (fit
   same_stop = stop_alone g old new m b c long same
 
   -- the answer: the first refusal, or the count of samples from the start section up to the stop
-  answer-is : (d : Buffers) → plan_of old new (samples_in d) ≡ From m → (rerender_of g old new d).result ≡ first_of (rerender_refusals g old new d) Refused (Done (stop_of g old new m d - m * section_size))
+  answer-is : (d : Buffers) → plan_of old new (samples_in d) ≡ Some m → (rerender_of g old new d).result ≡ first_of (rerender_refusals g old new d) Err (Ok (stop_of g old new m d - m * section_size))
   unfolding rerender_of
   answer-is d q =
       first-through (λ (o : Outcome Answer). o.result) (rerender_refusals g old new d) (kept_of d) (outcome_of g old new (plan_of old new (samples_in d)) d)
-      ∙ ap (λ (plan : Plan). first_of (rerender_refusals g old new d) Refused (outcome_of g old new plan d).result) q
+      ∙ ap (λ (plan : Option ℕ). first_of (rerender_refusals g old new d) Err (outcome_of g old new plan d).result) q
 
   pub answer_alone : (rerender_of g old new b).result ≡ (rerender_of g old new c).result
   answer_alone = answer-is b planned ∙ rw (refusals_alone, same_stop) refl ∙ sym (answer-is c planned')

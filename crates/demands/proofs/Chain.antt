@@ -1,5 +1,6 @@
 -- The claim of specs/Chain.antt. After each call the state is that of a render of the call's score at the position
 -- reached; by induction over the calls, each of which goes on under a score that grew at its end. Assumes nothing.
+use Rattle.std.specs.Prelude.{Ok}
 use mathlib.Core.Path.{◌≡◌, refl, sym, ◌∙◌}
 use mathlib.Core.Bool.{true}
 use mathlib.Core.List.{List, [], ◌∷◌}
@@ -11,7 +12,6 @@ use lib.ListN.{length}
 use lib.Ieee.{binary64, fits}
 use borrow.Author.Tests.{le-leb}
 use Rattle.runs.specs.Runs.{run, listed}
-use Rattle.score.specs.declared.Verdict.TheVariants.{Accepted}
 use Rattle.score.specs.Record.{count_of}
 use Rattle.score.specs.Score.{verdict_of}
 use Rattle.score.specs.Below.{count_below}
@@ -57,7 +57,7 @@ joined g s t l p v n k o r c z y =
       state = rw (c, y.state, a) (sym (state_on g l p v n k));
     }
 
-ends : (g : Settings) (xs : List Step) (s : List ℕ) (m : ℕ) → verdict_of s ≡ Accepted m → (p : ℕ) (v : State) → Reached g s p v → Grows s xs → AllDone g v p xs → Ends g s (last_of s xs) p v (samples_of xs) (chain_from g v p xs)
+ends : (g : Settings) (xs : List Step) (s : List ℕ) (m : ℕ) → verdict_of s ≡ Ok m → (p : ℕ) (v : State) → Reached g s p v → Grows s xs → AllDone g v p xs → Ends g s (last_of s xs) p v (samples_of xs) (chain_from g v p xs)
 unfolding chain_from state_from samples_from run listed
 ends g [] s m a p v r w d = record { agree = record { states = λ n u k h. refl; samples = λ n u k h. refl }; heard = refl; state = refl }
 ends g (x ∷ xs) s m a p v r w d =
@@ -65,13 +65,13 @@ ends g (x ∷ xs) s m a p v r w d =
     let t = x.score in
     let e = first_done g v p x xs d in
     let q : PassedCall g t v p n = call-passed g t v p x.part n e in
-    let b : verdict_of t ≡ Accepted (count_of t) = q.accepted in
+    let b : verdict_of t ≡ Ok (count_of t) = q.accepted in
     let f : NoneBelow s t p = none_below s t m (count_of t) a b w.0 p (sym q.acted ∙ acted_is s t m (count_of t) a b w.0 p g v r) in
     joined g s t (last_of t xs) p v n (samples_of xs) (chain_from g (state_from g t p v n) (p + n) xs) (chain_from g v p (x ∷ xs)) (chain-step g v p x xs e) (agrees s t m (count_of t) a b w.0 p g f)
     (ends g xs t (count_of t) b (p + n) (state_from g t p v n) (goes_on s t m (count_of t) a b w.0 p g v r f n) w.1 (rest_done g v p x xs d))
 
 -- the empty score before the first one is accepted
-nothing_accepted : verdict_of [] ≡ Accepted 0
+nothing_accepted : verdict_of [] ≡ Ok 0
 nothing_accepted = refusals.nothing
 
 -- from the fresh state at 0: the samples and the end state are those of the last score
@@ -85,7 +85,7 @@ chain-samples g xs w d = let e = ends g xs [] 0 nothing_accepted 0 (fresh_of 0) 
 record PassedChain (g : Settings) (l : List ℕ) (n : ℕ) : Type 0 where
   settings : settings_ok g ≡ true
   in_time : n ≤ most_samples
-  accepted : verdict_of l ≡ Accepted (count_of l)
+  accepted : verdict_of l ≡ Ok (count_of l)
 
 chain-passed : (g : Settings) (x : Step) (xs : List Step) (v : State) (p : ℕ) → AllDone g v p (x ∷ xs) → PassedChain g (last_of x.score xs) (p + samples_of (x ∷ xs))
 chain-passed g x [] v p d =
@@ -114,7 +114,7 @@ chain g x xs w d b z e =
     record { done = rw r refl; heard = rw r c.0; state = rw r c.1 }
 
 -- ---- every call answers 0 exactly when no record was added below the position reached
-done_none : (g : Settings) (xs : List Step) (s : List ℕ) (m : ℕ) → verdict_of s ≡ Accepted m → (p : ℕ) (v : State) → Reached g s p v → Grows s xs → AllDone g v p xs → NoneAddedBelow s p xs
+done_none : (g : Settings) (xs : List Step) (s : List ℕ) (m : ℕ) → verdict_of s ≡ Ok m → (p : ℕ) (v : State) → Reached g s p v → Grows s xs → AllDone g v p xs → NoneAddedBelow s p xs
 done_none g [] s m a p v r w d = tt
 done_none g (x ∷ xs) s m a p v r w d =
     let t = x.score in
@@ -124,13 +124,13 @@ done_none g (x ∷ xs) s m a p v r w d =
 
 module _ (g : Settings) (ok : settings_ok g ≡ true) (sus : T (fits binary64 g.adsr.sustain)) where
   -- the state that a render has at any position is within the shelf's limits
-  reached-state : (s : List ℕ) (m : ℕ) → verdict_of s ≡ Accepted m → (p : ℕ) (v : State) → Reached g s p v → is_state v ≡ true
+  reached-state : (s : List ℕ) (m : ℕ) → verdict_of s ≡ Ok m → (p : ℕ) (v : State) → Reached g s p v → is_state v ≡ true
   unfolding is_state
   reached-state s m a p v r =
       let few : (state_from g s 0 (fresh_of 0) p).acted ≤ most_acted = omega (arith, acted_fresh g s (accepted-few s m a) p, below_all s p, accepted-few s m a) in
       rw (r, fresh_kept g ok sus s m a p, le-leb (state_from g s 0 (fresh_of 0) p).acted most_acted few) refl
 
-  none_done : (xs : List Step) (s : List ℕ) (m : ℕ) → verdict_of s ≡ Accepted m → (p : ℕ) (v : State) → Reached g s p v → Grows s xs → AllAccepted xs → p + samples_of xs ≤ most_samples → NoneAddedBelow s p xs → AllDone g v p xs
+  none_done : (xs : List Step) (s : List ℕ) (m : ℕ) → verdict_of s ≡ Ok m → (p : ℕ) (v : State) → Reached g s p v → Grows s xs → AllAccepted xs → p + samples_of xs ≤ most_samples → NoneAddedBelow s p xs → AllDone g v p xs
   unfolding chain_from
   none_done [] s m a p v r w b l f = refl
   none_done (x ∷ xs) s m a p v r w b l f =

@@ -2,6 +2,7 @@
 -- of 100 and 28 samples. `OnTime`: both calls answer 0, and what they leave is one render of the whole score.
 -- `TooLate`: with the second record at 50 the score is accepted too, but sample 50 has been made, and the second call
 -- is 10. Assumes nothing.
+use Rattle.std.specs.Prelude.{Err, Ok}
 use mathlib.Core.Path.{◌≡◌, refl, ap, ◌∙◌}
 use mathlib.Core.Bool.{true}
 use mathlib.Core.List.{List, [], ◌∷◌, ◌++◌}
@@ -14,12 +15,10 @@ use lib.Ieee.Bits.{of_bits-fits}
 use Rattle.sections.specs.Outcome.{Buffers, lends}
 use Rattle.shelf.specs.Shelf.{entry_words}
 use Rattle.floats.specs.Double.{half}
-use Rattle.answers.specs.declared.Answer.TheVariants.{Done, Refused}
 use Rattle.answers.specs.declared.Refusal.TheVariants.{GivenState}
 use Rattle.domain.specs.Domain.{is_rate}
 use Rattle.envelope.specs.Limits.{is_adsr}
 use Rattle.waveform.specs.declared.Waveform.TheVariants.{Square}
-use Rattle.score.specs.declared.Verdict.TheVariants.{Accepted}
 use Rattle.score.specs.Record.{position_at}
 use Rattle.score.specs.Score.{mark_right, kind_right, fields_right, in_order, faults_at, faults_from, faults_of, verdict_of}
 use Rattle.state.specs.declared.Settings.{Settings}
@@ -55,18 +54,18 @@ pub trembling_ok : settings_ok trembling ≡ true
 unfolding is_adsr is_rate of_bits is_nan le
 trembling_ok = refl
 
-pub begins-accepted : verdict_of begins ≡ Accepted 1
+pub begins-accepted : verdict_of begins ≡ Ok 1
 unfolding position_at mark_right kind_right fields_right in_order faults_at faults_from faults_of verdict_of
 begins-accepted = refl
 
 grows : (at : ℕ) → Grows [] (played at)
 grows at = (record { added = begins; grown = refl }, (record { added = ends_at at; grown = refl }, tt))
 
-accepted_100 : verdict_of (begins ++ ends_at 100) ≡ Accepted 2
+accepted_100 : verdict_of (begins ++ ends_at 100) ≡ Ok 2
 unfolding position_at mark_right kind_right fields_right in_order faults_at faults_from faults_of verdict_of
 accepted_100 = refl
 
-accepted_50 : verdict_of (begins ++ ends_at 50) ≡ Accepted 2
+accepted_50 : verdict_of (begins ++ ends_at 50) ≡ Ok 2
 unfolding position_at mark_right kind_right fields_right in_order faults_at faults_from faults_of verdict_of
 accepted_50 = refl
 
@@ -83,7 +82,7 @@ pub record OnTime : Type 0 where
   pub accepted : AllAccepted (played 100)
   pub growing : Grows [] (played 100)
   pub none_below : NoneAddedBelow [] 0 (played 100)
-  pub answers : (chain_from trembling (fresh_of 0) 0 (played 100)).answers ≡ Done 100 ∷ Done 28 ∷ []
+  pub answers : (chain_from trembling (fresh_of 0) 0 (played 100)).answers ≡ Ok 100 ∷ Ok 28 ∷ []
   pub one-render : OneRender trembling (played 100) room
 
 sustain_fits : T (fits binary64 trembling.adsr.sustain)
@@ -113,7 +112,7 @@ pub record TooLate : Type 0 where
   pub accepted : AllAccepted (played 50)
   pub growing : Grows [] (played 50)
   pub one_below : NoneAddedBelow [] 0 (played 50) → ⊥
-  pub answers : (chain_from trembling (fresh_of 0) 0 (played 50)).answers ≡ Done 100 ∷ Refused GivenState ∷ []
+  pub answers : (chain_from trembling (fresh_of 0) 0 (played 50)).answers ≡ Ok 100 ∷ Err GivenState ∷ []
   pub heard : (chain_from trembling (fresh_of 0) 0 (played 50)).heard ≡ samples_from trembling begins 0 (fresh_of 0) 100 ++ replicate 28 half
   pub state : (chain_from trembling (fresh_of 0) 0 (played 50)).state ≡ state_from trembling begins 0 (fresh_of 0) 100
 
@@ -127,7 +126,7 @@ second = record { score = begins ++ ends_at 50; part = replicate 28 half }
 abbrev reached : State
 reached = state_from trembling begins 0 (fresh_of 0) 100
 
-first-call : (continue_of trembling begins (fresh_of 0) 0 (replicate 100 half)).result.answer ≡ Done 100
+first-call : (continue_of trembling begins (fresh_of 0) 0 (replicate 100 half)).result.answer ≡ Ok 100
 first-call =
     let d = (chain-done trembling trembling_ok sustain_fits (first ∷ []) ((1, begins-accepted), tt) (record { added = begins; grown = refl }, tt) (omega arith)).done_if ((λ i a b. omega arith), tt) in
     first_done trembling (fresh_of 0) 0 first [] d
@@ -137,7 +136,7 @@ second_call =
     late begins (begins ++ ends_at 50) 1 2 begins-accepted accepted_50 (record { added = ends_at 50; grown = refl }) 100 trembling reached refl trembling_ok (replicate 28 half) (omega arith) 1 (omega arith) (omega arith)
     (rw (position_1 50) (omega arith))
 
-whole : chain_from trembling (fresh_of 0) 0 (played 50) ≡ record { answers = Done 100 ∷ Refused GivenState ∷ []; heard = samples_from trembling begins 0 (fresh_of 0) 100 ++ replicate 28 half; state = reached }
+whole : chain_from trembling (fresh_of 0) 0 (played 50) ≡ record { answers = Ok 100 ∷ Err GivenState ∷ []; heard = samples_from trembling begins 0 (fresh_of 0) 100 ++ replicate 28 half; state = reached }
 unfolding chain_from
 whole = chain-step trembling (fresh_of 0) 0 first (second ∷ []) first-call ∙ rw second_call refl
 

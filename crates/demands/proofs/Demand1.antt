@@ -1,5 +1,6 @@
 -- Demand 1: each refusal of render, continuing call and re-render is given exactly when its row holds and no earlier
 -- row does, and leaves all as it came. Assumes nothing.
+use Rattle.std.specs.Prelude.{None, Ok, Option, Some}
 use mathlib.Core.Path.{◌≡◌, refl, subst}
 use mathlib.Core.Bool.{Bool, true, false}
 use mathlib.Core.List.{List, [], ◌++◌}
@@ -16,11 +17,8 @@ use Rattle.judging.specs.Judging.{refusals_of, Passed, new_refusals_of, part_fit
 use Rattle.judging.proofs.Refusals.{all_passed, none-refused, new-passed, none_newly, judged-first, six_first, seven_first, score-first, newly_first, new-first}
 use Rattle.render.specs.Calls.{is_given}
 use Rattle.render.proofs.Outcomes.{render-decided, continue_decided}
-use Rattle.rerender.specs.declared.Plan.{Plan}
-use Rattle.rerender.specs.declared.Plan.TheVariants.{Nothing, From}
 use Rattle.rerender.specs.Rerender.{plan_of, is_start, start_refusals, rerender_refusals}
 use Rattle.rerender.proofs.Cases.{checks, rerender-decided}
-use Rattle.score.specs.declared.Verdict.TheVariants.{Accepted}
 use Rattle.score.specs.Record.{count_of}
 use Rattle.score.specs.Score.{verdict_of}
 use Rattle.state.specs.declared.Settings.{Settings}
@@ -112,7 +110,7 @@ module _ (g : Settings) (old new : List ℕ) (b : Buffers) where
   abbrev room : Bool
   room = room_in b
 
-  abbrev pub plan : Plan
+  abbrev pub plan : Option ℕ
   plan = plan_of old new n
 
   abbrev When : Refusal → Type 0
@@ -125,12 +123,12 @@ module _ (g : Settings) (old new : List ℕ) (b : Buffers) where
   eighth = start_refusals new plan shelf
 
   -- P holds of 8 where an entry is read and a re-render cannot start from it
-  pub start_only : (P : Refusal → Type 0) → ((m : ℕ) → plan_of old new n ≡ From m → is_start new m shelf ≡ false → P StartEntry) → (why : Refusal) → Leads why eighth → P why
+  pub start_only : (P : Refusal → Type 0) → ((m : ℕ) → plan_of old new n ≡ Some m → is_start new m shelf ≡ false → P StartEntry) → (why : Refusal) → Leads why eighth → P why
   start_only P eight why h = go plan refl h
     where
-      go : (q : Plan) → plan_of old new n ≡ q → Leads why (start_refusals new q shelf) → P why
-      go Nothing e h = absurd h
-      go (From m) e h = let u = leads_unless why (is_start new m shelf) StartEntry h in subst P u.1 (eight m e u.0)
+      go : (q : Option ℕ) → plan_of old new n ≡ q → Leads why (start_refusals new q shelf) → P why
+      go None e h = absurd h
+      go (Some m) e h = let u = leads_unless why (is_start new m shelf) StartEntry h in subst P u.1 (eight m e u.0)
 
   rerender_only : (why : Refusal) → Leads why (rerender_refusals g old new b) → When why
   rerender_only why h =
@@ -140,7 +138,7 @@ module _ (g : Settings) (old new : List ℕ) (b : Buffers) where
       (λ l. let b = none_both (refusals_of g room old) (new_refusals_of new) l.0 in start_only When (λ m e f. (all_passed g room old b.0, new-passed new b.1, (m, e, f))) why l.1)
       (leads_parts why tests eighth h)
 
-  none_tested : Passed g room old → verdict_of new ≡ Accepted (count_of new) → tests ≡ []
+  none_tested : Passed g room old → verdict_of new ≡ Ok (count_of new) → tests ≡ []
   none_tested p a = rw (render-none g room old p, none_newly new (count_of new) a) refl
 
   early : (why : Refusal) → RenderWhen g room old why → Leads why (rerender_refusals g old new b)
@@ -161,15 +159,15 @@ module _ (g : Settings) (old new : List ℕ) (b : Buffers) where
   rerender-first (Edit _) h = elim h [ ]
 
   -- no entry is read, or a re-render can start from it
-  pub starts : eighth ≡ [] → (m : ℕ) → plan_of old new n ≡ From m → is_start new m shelf ≡ true
+  pub starts : eighth ≡ [] → (m : ℕ) → plan_of old new n ≡ Some m → is_start new m shelf ≡ true
   starts e m q = let none : unless (is_start new m shelf) StartEntry ≡ [] = rw q at e in passed (is_start new m shelf) StartEntry none
 
-  pub none-eighth : ((m : ℕ) → plan_of old new n ≡ From m → is_start new m shelf ≡ true) → eighth ≡ []
+  pub none-eighth : ((m : ℕ) → plan_of old new n ≡ Some m → is_start new m shelf ≡ true) → eighth ≡ []
   none-eighth f = go plan refl
     where
-      go : (q : Plan) → plan_of old new n ≡ q → start_refusals new q shelf ≡ []
-      go Nothing e = refl
-      go (From m) e = rw (f m e) refl
+      go : (q : Option ℕ) → plan_of old new n ≡ q → start_refusals new q shelf ≡ []
+      go None e = refl
+      go (Some m) e = rw (f m e) refl
 
 pub rerender_exactly : (g : Settings) (old new : List ℕ) (b : Buffers) → RerenderExactly g old new b
 rerender_exactly g old new b =

@@ -2,6 +2,7 @@
 -- read as that state; so a re-render goes on from the state that a render of the new score has there. From the stop on
 -- both scores make the same (proofs/Stops.antt), so what the old render left there is the new one's, but for the
 -- numbers of records acted, which the call renews. Assumes nothing.
+use Rattle.std.specs.Prelude.{Err, None, Ok, Some}
 use mathlib.Core.Path.{◌≡◌, refl, sym, subst, ap, ◌∙◌}
 use mathlib.Core.Bool.{true, false, true≢false}
 use mathlib.Core.List.{List, []}
@@ -16,16 +17,14 @@ use Rattle.sections.specs.Outcome.{Summary, Buffers, samples_in, room_in, Lent, 
 use Rattle.sections.specs.Summary.{largest, first_number, said_from}
 use Rattle.sections.proofs.Room.{room_in_lem, same-buffers, later_drop}
 use Rattle.sections.proofs.Summed.{said_alike, said_part}
-use Rattle.answers.specs.declared.Answer.{Answer}
-use Rattle.answers.specs.declared.Answer.TheVariants.{Done, Refused}
+use Rattle.answers.specs.Answer.{Answer}
 use Rattle.answers.specs.declared.Refusal.TheVariants.{StartEntry}
-use Rattle.score.specs.declared.Difference.TheVariants.{At}
 use Rattle.score.specs.Below.{count_below}
 use Rattle.score.specs.Apart.{difference_of}
 use Rattle.score.proofs.Agree.{equal_exactly}
 use Rattle.score.proofs.Cuts.{lt_or_ge, accepted-few, accepted-sorted, count_cut}
 use Rattle.score.proofs.Parted.{clash}
-use Rattle.shelf.specs.declared.Entry.{Entry}
+use Rattle.shelf.proofs.There.{decoded-there}
 use Rattle.shelf.specs.Shelf.{section_size, entry_words, entries_for, entry_of, decoded_of, shelf_of, word, is_entry, entry_at}
 use Rattle.shelf.proofs.Count.{start_there, words-there}
 use Rattle.shelf.proofs.Counted.{meets-entry, with_other, with_low, with_number}
@@ -43,7 +42,6 @@ use Rattle.demands.proofs.Honest.{honest}
 use Rattle.demands.proofs.Cut.{rejoin, Sized, lent-sized, sized-lent, over_at, same-lends, cut-none, cut-front, cut_rest, cut-onward, cut-whole}
 use Rattle.demands.proofs.Whole.{sound_of, shelved_of, whole_of, whole-sized, left_is, entry-left, shelf_after, said_from_lem, between_is}
 use Rattle.demands.proofs.Stops.{stop_is, stops-over, stops_first, stops_at, one_stop, sound_same, entries_renewed}
-use Rattle.rerender.specs.declared.Plan.TheVariants.{Nothing}
 use Rattle.rerender.specs.Rerender.{plan_of, start_of, is_start, stop_of, recounted, made_from, rerender_of}
 use Rattle.rerender.proofs.Cases as cases
 use Rattle.rerender.proofs.Cases.{plan_equal, plan_late, plan_from, checks, checks_pass, made-long, made-fits, later_entry, left-long, left-words, left-before, left-between, left-heard_after, left-summary-after, left-stored-after, left-entry}
@@ -55,14 +53,14 @@ checked g old new x b z = rw (none-refused g (room_in b) old x.old_taken.records
 -- demand 3, its last sentence: where the scores are equal or the first change lies at or past the end, nothing is
 -- written and the count is 0, whatever the buffers hold
 module _ (g : Settings) (old new : List ℕ) (x : Edit g old new) (b : Buffers) (z : Lent b) where
-  pub demand_3_nothing : plan_of old new (samples_in b) ≡ Nothing → rerender_of g old new b ≡ leaves (Done 0) b
+  pub demand_3_nothing : plan_of old new (samples_in b) ≡ None → rerender_of g old new b ≡ leaves (Ok 0) b
   demand_3_nothing q = checks_pass g old new b (checked g old new x b z) ∙ rw q refl
 
-  pub nothing_equal : old ≡ new → rerender_of g old new b ≡ leaves (Done 0) b
+  pub nothing_equal : old ≡ new → rerender_of g old new b ≡ leaves (Ok 0) b
   nothing_equal e =
       demand_3_nothing (sym (plan_equal old new (samples_in b) ((equal_exactly old new x.old_taken.records x.new-taken.records x.old_taken.accepted x.new-taken.accepted).no_difference e)))
 
-  pub nothing_late : (p : ℕ) → difference_of old new ≡ At p → samples_in b ≤ p → rerender_of g old new b ≡ leaves (Done 0) b
+  pub nothing_late : (p : ℕ) → difference_of old new ≡ Some p → samples_in b ≤ p → rerender_of g old new b ≡ leaves (Ok 0) b
   nothing_late p e h = demand_3_nothing (sym (plan_late old new (samples_in b) p e h))
 
 -- so what is left before section m and made from section m on is the same for any render
@@ -70,7 +68,7 @@ pub from_section : (g : Settings) → settings_ok g ≡ true → (s : List ℕ) 
     → FromSection came (left_in g s) m left
 from_section g ok s a m came left h k = record { are_rendered = λ r. h ∙ sym (ap (onward m) (left_is g ok s a (samples_in came) r)); stay = k }
 
-module _ (g : Settings) (old new : List ℕ) (x : Edit g old new) (p : ℕ) (differs : difference_of old new ≡ At p) where
+module _ (g : Settings) (old new : List ℕ) (x : Edit g old new) (p : ℕ) (differs : difference_of old new ≡ Some p) where
   abbrev pub m : ℕ
   m = p / section_size
 
@@ -97,20 +95,20 @@ module _ (g : Settings) (old new : List ℕ) (x : Edit g old new) (p : ℕ) (dif
 
     -- ---- the start entry is what a render of the old score left
     module _ (honestly : entry_at shelf m ≡ entry_of (at_section g old m)) where
-      decoded : decoded_of (entry_at shelf m) ≡ record { valid = true; state = at_section g new m }
+      decoded : decoded_of (entry_at shelf m) ≡ Some (at_section g new m)
       decoded =
           ap decoded_of honestly ∙ honest g x.settings x.sustain_fits old x.old_taken.records x.old_taken.accepted (m * section_size)
-          ∙ ap (λ (v : State). record { valid = true; state = v }) same_section
+          ∙ ap (λ (v : State). Some v) same_section
 
       start_is : start_of shelf m ≡ at_section g new m
-      start_is = ap (λ (e : Entry). e.state) decoded
+      start_is = (decoded-there _ _ decoded).1
 
       -- an entry that a render left is never refused
       start_taken : is_start new m shelf ≡ true
       start_taken =
           let few = accepted-few new x.new-taken.records x.new-taken.accepted in
           let acted : (start_of shelf m).acted ≡ count_below new (m * section_size) = ap (λ (v : State). v.acted) start_is ∙ acted_fresh g new few (m * section_size) in
-          rw (ap (λ (e : Entry). e.valid) decoded, eq-eqb (start_of shelf m).acted (count_below new (m * section_size)) acted) refl
+          rw ((decoded-there _ _ decoded).0, eq-eqb (start_of shelf m).acted (count_below new (m * section_size)) acted) refl
 
       call-is : rerender_of g old new b ≡ made_from g old new m b
       call-is = checks_pass g old new b (checked g old new x b z) ∙ rw (← plan_from old new n p differs heard, start_taken) refl
@@ -164,14 +162,14 @@ module _ (g : Settings) (old new : List ℕ) (x : Edit g old new) (p : ℕ) (dif
             numbers = λ j h u. ap (λ (ws : List ℕ). word ws 5 / 65536) (entry j h u) ∙ with_number (entry_at shelf j) (count_below new (j * section_size)) (entry-long j u) (few-records (j * section_size));
           }
 
-      counted : (rerender_of g old new b).result ≡ Done (min (k * section_size) n - m * section_size)
-      counted = ap (λ (o : Outcome Answer). o.result) call-is ∙ ap (λ (e : ℕ). Done (e - m * section_size)) (stop_is g old new m b there)
+      counted : (rerender_of g old new b).result ≡ Ok (min (k * section_size) n - m * section_size)
+      counted = ap (λ (o : Outcome Answer). o.result) call-is ∙ ap (λ (e : ℕ). Ok (e - m * section_size)) (stop_is g old new m b there)
 
       pub remade_to : RemadeTo g new m k b (rerender_of g old new b)
       remade_to =
           record {
             counted = counted;
-            never_8 = λ is. (let c : Done (min (k * section_size) n - m * section_size) ≡ Refused StartEntry = sym counted ∙ is in absurd (clash (cc)));
+            never_8 = λ is. (let c : Ok (min (k * section_size) n - m * section_size) ≡ Err StartEntry = sym counted ∙ is in absurd (clash (cc)));
             are_rendered = λ r. rw call-is (up_to_the_stop ∙ sym (ap (λ (c : Buffers). onward m (before k c)) (left_is g x.settings new x.new-taken n r)));
             stay = rw call-is (left-before g old new m b there (room_in_lem b z));
             recounted = rw call-is renewed;
@@ -195,12 +193,12 @@ module _ (g : Settings) (old new : List ℕ) (x : Edit g old new) (p : ℕ) (dif
       left-stays = left-before g old new m b there (room_in_lem b z)
 
       -- as one equation
-      pub over-to_the_end : k ≡ entries_for n → rerender_of g old new b ≡ leaves (Done (n - m * section_size)) (over_at m b (whole_of g new n))
+      pub over-to_the_end : k ≡ entries_for n → rerender_of g old new b ≡ leaves (Ok (n - m * section_size)) (over_at m b (whole_of g new n))
       over-to_the_end e =
           let whole = whole_of g new n in
           let at : stop ≡ n = omega (arith, stop_is g old new m b there, e) in
-          call-is ∙ ap (λ (c : Buffers). leaves (Done (stop - m * section_size)) c) (cut-whole m left (over_at m b whole) (left-stays ∙ sym (cut-front n m there b whole (lent-sized b z) m (omega arith))) (to_the_end e ∙ sym (cut_rest n m there b whole (lent-sized b z))))
-          ∙ ap (λ (i : ℕ). leaves (Done (i - m * section_size)) (over_at m b whole)) at
+          call-is ∙ ap (λ (c : Buffers). leaves (Ok (stop - m * section_size)) c) (cut-whole m left (over_at m b whole) (left-stays ∙ sym (cut-front n m there b whole (lent-sized b z) m (omega arith))) (to_the_end e ∙ sym (cut_rest n m there b whole (lent-sized b z))))
+          ∙ ap (λ (i : ℕ). leaves (Ok (i - m * section_size)) (over_at m b whole)) at
 
       pub start_remade : StartRemade g old new m b (rerender_of g old new b)
       start_remade =
@@ -220,7 +218,7 @@ module _ (g : Settings) (old new : List ℕ) (x : Edit g old new) (p : ℕ) (dif
       made-to_the_end none =
           let e = to_the_end_only none in
           let at : min (k * section_size) n ≡ n = omega (arith, e) in
-          record { counted = counted ∙ ap (λ (i : ℕ). Done (i - m * section_size)) at; left = rw call-is (from_section g x.settings new x.new-taken m b left (to_the_end e) left-stays) }
+          record { counted = counted ∙ ap (λ (i : ℕ). Ok (i - m * section_size)) at; left = rw call-is (from_section g x.settings new x.new-taken m b left (to_the_end e) left-stays) }
 
     -- ---- the entries from section m on are what a render of the old score left
     module _ (same : drop (m * entry_words) shelf ≡ drop (m * entry_words) (shelved_of g old n)) where
@@ -305,18 +303,18 @@ module _ (g : Settings) (old new : List ℕ) (x : Edit g old new) (p : ℕ) (dif
           }
 
       -- demand 3, as one equation
-      pub demand_3 : rerender_of g old new b ≡ leaves (Done (stop_of g old new m b - m * section_size)) (over_at m b (whole_of g new n))
+      pub demand_3 : rerender_of g old new b ≡ leaves (Ok (stop_of g old new m b - m * section_size)) (over_at m b (whole_of g new n))
       demand_3 =
           let whole = whole_of g new n in
           call-is begins
-          ∙ ap (leaves (Done (stop_of g old new m b - m * section_size))) (cut-whole m (left begins) (over_at m b whole) (left-stays begins ∙ sym (cut-front n m there b whole (lent-sized b z) m (omega arith))) (left-onward ∙ sym (cut_rest n m there b whole (lent-sized b z))))
+          ∙ ap (leaves (Ok (stop_of g old new m b - m * section_size))) (cut-whole m (left begins) (over_at m b whole) (left-stays begins ∙ sym (cut-front n m there b whole (lent-sized b z) m (omega arith))) (left-onward ∙ sym (cut_rest n m there b whole (lent-sized b z))))
 
 -- ---- the claim
-all_remade : (g : Settings) (old new : List ℕ) (x : Edit g old new) (b : Buffers) (z : Lent b) (p : ℕ) (e : difference_of old new ≡ At p) (heard : p < samples_in b)
+all_remade : (g : Settings) (old new : List ℕ) (x : Edit g old new) (b : Buffers) (z : Lent b) (p : ℕ) (e : difference_of old new ≡ Some p) (heard : p < samples_in b)
     (r : BuffersOf (samples_in b)) → onward (p / section_size) b ≡ onward (p / section_size) (left_in g old r).left → Remade g old new (p / section_size) b (rerender_of g old new b)
 all_remade g old new x b z p e heard r same = remade g old new x p e b z heard (same ∙ ap (onward (p / section_size)) (left_is g x.settings old x.old_taken (samples_in b) r))
 
-entries_alone : (g : Settings) (old new : List ℕ) (x : Edit g old new) (b : Buffers) (z : Lent b) (p : ℕ) (e : difference_of old new ≡ At p) (heard : p < samples_in b)
+entries_alone : (g : Settings) (old new : List ℕ) (x : Edit g old new) (b : Buffers) (z : Lent b) (p : ℕ) (e : difference_of old new ≡ Some p) (heard : p < samples_in b)
     (r : BuffersOf (samples_in b)) → (onward (p / section_size) b).stored ≡ (onward (p / section_size) (left_in g old r).left).stored → EntriesRemade g old new (p / section_size) b (rerender_of g old new b)
 entries_alone g old new x b z p e heard r same =
     entries_remade g old new x p e b z heard (same ∙ ap (λ (c : Buffers). (onward (p / section_size) c).stored) (left_is g x.settings old x.old_taken (samples_in b) r))
@@ -328,19 +326,19 @@ start_honest g old new x b p heard r same =
     let m = p / section_size in
     same ∙ ap (λ (c : Buffers). entry_at c.stored m) (left_is g x.settings old x.old_taken (samples_in b) r) ∙ entry-left g old (samples_in b) m (start_there (samples_in b) p heard)
 
-start_alone : (g : Settings) (old new : List ℕ) (x : Edit g old new) (b : Buffers) (z : Lent b) (p : ℕ) (e : difference_of old new ≡ At p) (heard : p < samples_in b)
+start_alone : (g : Settings) (old new : List ℕ) (x : Edit g old new) (b : Buffers) (z : Lent b) (p : ℕ) (e : difference_of old new ≡ Some p) (heard : p < samples_in b)
     (r : BuffersOf (samples_in b)) → entry_at b.stored (p / section_size) ≡ entry_at (left_in g old r).left.stored (p / section_size) → StartRemade g old new (p / section_size) b (rerender_of g old new b)
 start_alone g old new x b z p e heard r same = start_remade g old new x p e b z heard (start_honest g old new x b p heard r same)
 
-nothing_stops : (g : Settings) (old new : List ℕ) (x : Edit g old new) (b : Buffers) (z : Lent b) (p : ℕ) (e : difference_of old new ≡ At p) (heard : p < samples_in b)
+nothing_stops : (g : Settings) (old new : List ℕ) (x : Edit g old new) (b : Buffers) (z : Lent b) (p : ℕ) (e : difference_of old new ≡ Some p) (heard : p < samples_in b)
     (r : BuffersOf (samples_in b)) → entry_at b.stored (p / section_size) ≡ entry_at (left_in g old r).left.stored (p / section_size)
     → ((j : ℕ) → p / section_size < j → j < entries_for (samples_in b) → is_entry (entry_at b.stored j) ≡ false) → MadeToTheEnd g new (p / section_size) b (rerender_of g old new b)
 nothing_stops g old new x b z p e heard r same none = made-to_the_end g old new x p e b z heard (start_honest g old new x b p heard r same) none
 
 -- the entries that a call left are those of a render of its new score, so an edit of that score may start from them
-never_8_after : (g : Settings) (old new next : List ℕ) (x : Edit g old new) → Taken next → (b : Buffers) (z : Lent b) (p : ℕ) (e : difference_of old new ≡ At p) (heard : p < samples_in b)
+never_8_after : (g : Settings) (old new next : List ℕ) (x : Edit g old new) → Taken next → (b : Buffers) (z : Lent b) (p : ℕ) (e : difference_of old new ≡ Some p) (heard : p < samples_in b)
     (r : BuffersOf (samples_in b)) → (onward (p / section_size) b).stored ≡ (onward (p / section_size) (left_in g old r).left).stored
-    → (q : ℕ) → difference_of new next ≡ At q → q < samples_in b → p / section_size ≤ q / section_size → (rerender_of g new next (rerender_of g old new b).left).result ≡ Refused StartEntry → ⊥
+    → (q : ℕ) → difference_of new next ≡ Some q → q < samples_in b → p / section_size ≤ q / section_size → (rerender_of g new next (rerender_of g old new b).left).result ≡ Err StartEntry → ⊥
 never_8_after g old new next x t b z p e heard r same q f early l =
     let m = p / section_size in
     let n = samples_in b in

@@ -2,6 +2,7 @@
 -- 6,000 samples that holds rubbish throughout, with rubbish in entry 0; entry 1 is what a render of the old score left.
 -- The re-render starts at section 1, writes 1,904 samples, and leaves everything before sample 4,096 as it came. Last
 -- an edit that stops: an off at 0 that finds no key held, in an output of 8,192 samples. Assumes nothing.
+use Rattle.std.specs.Prelude.{Ok, Some}
 use mathlib.Core.Path.{◌≡◌, refl, sym, ap, ◌∙◌}
 use mathlib.Core.List.{List, [], ◌∷◌, ◌++◌}
 use Prim.Native.Nat.{ℕ, ◌+◌, ◌-◌, ◌*◌, ◌/◌, min, ◌≤◌, ◌<◌}
@@ -12,9 +13,6 @@ use borrow.Author.Tests.{lt-ltb}
 use lib.Ieee.{binary64}
 use lib.Ieee.Bits.{of_bits-fits}
 use Rattle.floats.specs.Double.{half}
-use Rattle.answers.specs.declared.Answer.TheVariants.{Done}
-use Rattle.score.specs.declared.Difference.TheVariants.{At}
-use Rattle.score.specs.declared.Verdict.TheVariants.{Accepted}
 use Rattle.score.specs.Record.{position_at}
 use Rattle.score.specs.Score.{mark_right, kind_right, fields_right, in_order, faults_at, faults_from, faults_of, verdict_of}
 use Rattle.score.specs.Below.{below, count_below}
@@ -46,11 +44,11 @@ use Rattle.score.proofs.Parted.{at_inj}
 abbrev pub edited : List ℕ
 edited = begins ++ 0x56 ∷ 0x4E ∷ 0x88 ∷ 0x13 ∷ 0 ∷ 0 ∷ 2 ∷ 69 ∷ 0 ∷ 0 ∷ []
 
-edited-accepted : verdict_of edited ≡ Accepted 2
+edited-accepted : verdict_of edited ≡ Ok 2
 unfolding position_at mark_right kind_right fields_right in_order faults_at faults_from faults_of verdict_of
 edited-accepted = refl
 
-differs : difference_of begins edited ≡ At 5000
+differs : difference_of begins edited ≡ Some 5000
 unfolding position_at same_to first_passing
 differs = refl
 
@@ -84,7 +82,7 @@ kept : entry_at rubbish.stored 1 ≡ entry_of (at_section trembling begins 1)
 kept = take_all entry_words (entry_of (at_section trembling begins 1)) (omega (arith, entry_length (at_section trembling begins 1)))
 
 -- section 0 is rubbish still, in output, shelf and summary; section 1 is that of a render of the new score
-pub an_edit-over_rubbish : rerender_of trembling begins edited rubbish ≡ leaves (Done 1904) (over_at 1 rubbish (whole_of trembling edited 6000))
+pub an_edit-over_rubbish : rerender_of trembling begins edited rubbish ≡ leaves (Ok 1904) (over_at 1 rubbish (whole_of trembling edited 6000))
 an_edit-over_rubbish =
     let heard : 5000 < samples_in rubbish = omega (arith, long) in
     let s = stop_over trembling begins edited an_edit 5000 differs rubbish lent heard kept in
@@ -105,11 +103,11 @@ spoilt_sized = cut-sized 6000 1 (omega arith) rubbish (whole_of trembling begins
 some : (n : ℕ) → 6000 ≡ n → BuffersOf n
 some n e = record { buffers = rubbish; lent = lent; long = long ∙ e }
 
-back_again : difference_of edited begins ≡ At 5000
+back_again : difference_of edited begins ≡ Some 5000
 unfolding position_at same_to first_passing
 back_again = refl
 
-heard-from : (p q : ℕ) → At p ≡ At q → p ≡ 5000 → 1 * 4096 ≤ q
+heard-from : (p q : ℕ) → Some p ≡ Some q → p ≡ 5000 → 1 * 4096 ≤ q
 heard-from p q e f = omega (arith, at_inj e)
 
 note-taken : Taken begins
@@ -143,15 +141,15 @@ edits_over_rubbish = any_edits.over_rubbish trembling begins (edited ∷ begins 
 abbrev pub stray : List ℕ
 stray = 0x56 ∷ 0x4E ∷ 0 ∷ 0 ∷ 0 ∷ 0 ∷ 2 ∷ 69 ∷ 0 ∷ 0 ∷ []
 
-empty_accepted : verdict_of [] ≡ Accepted 0
+empty_accepted : verdict_of [] ≡ Ok 0
 unfolding faults_from faults_of verdict_of
 empty_accepted = refl
 
-stray-accepted : verdict_of stray ≡ Accepted 1
+stray-accepted : verdict_of stray ≡ Ok 1
 unfolding position_at mark_right kind_right fields_right in_order faults_at faults_from faults_of verdict_of
 stray-accepted = refl
 
-stray_differs : difference_of [] stray ≡ At 0
+stray_differs : difference_of [] stray ≡ Some 0
 unfolding position_at same_to first_passing
 stray_differs = refl
 
@@ -190,16 +188,16 @@ below-entry_1 = refl
 -- in whatever a render of the empty score left: 4,096 samples are made, entry 1 gets its number, and all is a render of
 -- the off from sample zero
 pub an_edit_that_stops : (b : Buffers) → Lent b → samples_in b ≡ 8192 → (r : BuffersOf (samples_in b)) → onward 0 b ≡ onward 0 (left_in trembling [] r).left
-    → ((rerender_of trembling [] stray b).result ≡ Done 4096) × (word (entry_at (rerender_of trembling [] stray b).left.stored 1) 5 / 65536 ≡ 1) × FromSection b (left_in trembling stray) 0 (rerender_of trembling [] stray b).left
+    → ((rerender_of trembling [] stray b).result ≡ Ok 4096) × (word (entry_at (rerender_of trembling [] stray b).left.stored 1) 5 / 65536 ≡ 1) × FromSection b (left_in trembling stray) 0 (rerender_of trembling [] stray b).left
 an_edit_that_stops b z e r same =
     let made = demand_3_holds.re_rendered trembling [] stray stray-edit b z 0 stray_differs (omega (arith, e)) r same in
     let one : made.stop_section ≡ 1 = one_stop trembling [] stray 0 (samples_in b) made.stop_section 1 made.stops (stops_at_1 (samples_in b) e) in
     let to = made.to_the_stop in
     let count : min (made.stop_section * 4096) (samples_in b) - 0 * 4096 ≡ 4096 = omega (arith, one, e) in
-    (to.counted ∙ ap Done count, to.recounted.numbers 1 (omega (arith, one)) (omega (arith, e)) ∙ below-entry_1, made.left)
+    (to.counted ∙ ap Ok count, to.recounted.numbers 1 (omega (arith, one)) (omega (arith, e)) ∙ below-entry_1, made.left)
 
 -- such buffers are there: those that the render leaves
-pub a_stop : (rerender_of trembling [] stray (whole_of trembling [] 8192)).result ≡ Done 4096
+pub a_stop : (rerender_of trembling [] stray (whole_of trembling [] 8192)).result ≡ Ok 4096
 a_stop =
     let b = whole_of trembling [] 8192 in
     let long : samples_in b ≡ 8192 = sound_length trembling [] 8192 in

@@ -1,5 +1,6 @@
 -- A score is faulty exactly as 01's rows say: by its length, or at the first record that is not right, by the first of
 -- 2, 3, 4, 5 that holds of the record. Assumes nothing.
+use Rattle.std.specs.Prelude.{Err, Ok}
 use mathlib.Core.Path.{◌≡◌, refl, subst}
 use mathlib.Core.Bool.{Bool, true, false}
 use mathlib.Core.List.{List, [], ◌++◌}
@@ -11,7 +12,6 @@ use Rattle.answers.specs.Order.{unless}
 use Rattle.answers.specs.declared.ScoreFault.{ScoreFault}
 use Rattle.answers.specs.declared.ScoreFault.TheVariants.{Length, Mark, Kind, Field, Order}
 use Rattle.answers.proofs.Order.{passed, Leads, leads_first, leads_append, leads_after, leads_parts, leads_unless}
-use Rattle.score.specs.declared.Verdict.TheVariants.{Accepted, Faulty}
 use Rattle.score.specs.Record.{count_of}
 use Rattle.score.specs.Score.{mark_right, kind_right, fields_right, all_right, in_order, faults_at, faults_from, faults_of, verdict_of}
 use Rattle.score.proofs.Parted.{clash}
@@ -68,14 +68,14 @@ module _ (s : List ℕ) where
       at_first s j (FaultWhen s) (λ e. (r, e)) (λ e p. (r, e, p)) (λ e p q. (r, e, p, q)) (λ e p q o. (r, rw (e, p, q) refl, o)))) f l.1)
       (leads_parts f (unless (is_sized s) Length) (faults_from s (count_of s) 0) h)
 
-  reached : (i : ℕ) → Reaches s i → (f : ScoreFault) → Leads f (faults_at s i) → verdict_of s ≡ Faulty f
+  reached : (i : ℕ) → Reaches s i → (f : ScoreFault) → Leads f (faults_at s i) → verdict_of s ≡ Err f
   unfolding faults_of faults_from verdict_of
   reached i r f h =
       let here : Leads f (faults_at s (0 + i)) = rw (zero-add i) h in
-      leads_first f (faults_of s) Faulty (Accepted (count_of s))
+      leads_first f (faults_of s) Err (Ok (count_of s))
       (rw r.sized (from_leads (faults_at s) (faults_from s) (λ i. refl) (λ k i. refl) f i (count_of s) 0 r.there (λ j a b. (let x = r.before j (omega arith) in right-none s j x.0 x.1)) here))
 
-  whenever : (f : ScoreFault) → FaultWhen s f → verdict_of s ≡ Faulty f
+  whenever : (f : ScoreFault) → FaultWhen s f → verdict_of s ≡ Err f
   unfolding faults_at faults_of verdict_of
   whenever Length h = rw h refl
   whenever (Mark i) h = reached i h.0 (Mark i) (rw h.1 refl)

@@ -1,5 +1,6 @@
 -- The position where two accepted scores first differ is that of the first changed record: below it they have the same
 -- records, up to and including it they do not. Assumes nothing.
+use Rattle.std.specs.Prelude.{None, Option, Some}
 use mathlib.Core.Path.{◌≡◌, refl, sym, ap, ◌∙◌}
 use mathlib.Core.Bool.{Bool, true, false, cond}
 use mathlib.Core.List.{List}
@@ -10,8 +11,6 @@ use borrow.Author.Tests.{ltb-true}
 use lib.Dec.{ltb}
 use lib.ListN.{length, get_or, take}
 use lib.Seq.{get_or-take, length-take-le}
-use Rattle.score.specs.declared.Difference.{Difference}
-use Rattle.score.specs.declared.Difference.TheVariants.{Equal, At}
 use Rattle.score.specs.Record.{count_of, byte_at, position_at}
 use Rattle.score.specs.Below.{count_below, Cut}
 use Rattle.score.specs.Apart.{first_index, difference_of}
@@ -24,7 +23,7 @@ use Rattle.demands.specs.Demand3.{Taken, records_below, FirstChange}
 in_cut : (s : List ℕ) (p d c : ℕ) → Cut s (suc p) c → d < count_of s → position_at s d ≤ p → d < c
 in_cut s p d c cut h l = ⊎_elim (λ x. x) (λ y. let high : suc p ≤ position_at s d = cut.highs d y h in absurd (clash (omega arith))) (lt_or_ge d c)
 
-module _ (s t : List ℕ) (x : Taken s) (y : Taken t) (p : ℕ) (found : difference_of s t ≡ At p) where
+module _ (s t : List ℕ) (x : Taken s) (y : Taken t) (p : ℕ) (found : difference_of s t ≡ Some p) where
   abbrev d : ℕ
   d = first_index s t
 
@@ -45,7 +44,7 @@ module _ (s t : List ℕ) (x : Taken s) (y : Taken t) (p : ℕ) (found : differe
   reaches = go (ltb d (count_of s)) refl (ltb d (count_of t)) refl found
     where
       go : (a : Bool) → ltb d (count_of s) ≡ a → (b : Bool) → ltb d (count_of t) ≡ b
-          → cond a (cond b (At (min (position_at s d) (position_at t d))) (At (position_at s d))) (cond b (At (position_at t d)) Equal) ≡ At p → (d < cs) ⊎ (d < ct)
+          → cond a (cond b (Some (min (position_at s d) (position_at t d))) (Some (position_at s d))) (cond b (Some (position_at t d)) None) ≡ Some p → (d < cs) ⊎ (d < ct)
       go true f true g e =
           let z : min (position_at s d) (position_at t d) ≡ p = at_inj e in
           ⊎_elim (λ l. inl (in_cut s p d cs cut_s (ltb-true _ _ f) (omega arith))) (λ l. inr (in_cut t p d ct cut_t (ltb-true _ _ g) (omega arith))) (lt_or_ge (position_at s d) (position_at t d))
@@ -73,9 +72,9 @@ module _ (s t : List ℕ) (x : Taken s) (y : Taken t) (p : ℕ) (found : differe
       record { same-below = b.front ∙ ap (λ (c : ℕ). take (c * 10) t) b.count; apart-at = apart }
 
 -- accepted scores that are not equal have such a position
-pub differ : (s t : List ℕ) → Taken s → Taken t → (s ≡ t → ⊥) → (p : ℕ) × (difference_of s t ≡ At p)
+pub differ : (s t : List ℕ) → Taken s → Taken t → (s ≡ t → ⊥) → (p : ℕ) × (difference_of s t ≡ Some p)
 differ s t a b other = go (difference_of s t) refl
   where
-    go : (d : Difference) → difference_of s t ≡ d → (p : ℕ) × (difference_of s t ≡ At p)
-    go Equal e = absurd (other ((equal_exactly s t a.records b.records a.accepted b.accepted).no_other e))
-    go (At p) e = (p, e)
+    go : (d : Option ℕ) → difference_of s t ≡ d → (p : ℕ) × (difference_of s t ≡ Some p)
+    go None e = absurd (other ((equal_exactly s t a.records b.records a.accepted b.accepted).no_other e))
+    go (Some p) e = (p, e)

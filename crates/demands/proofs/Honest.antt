@@ -6,6 +6,7 @@
 -- of any section) with the right number of records acted. Then the state before each later sample passes the test, has
 -- as many records acted as the score has below that sample, and its words are read as that state. So is every entry
 -- that a render leaves. The sustain is a value of an f64, as every f64 of the code is. Assumes nothing.
+use Rattle.std.specs.Prelude.{Ok, Some}
 use mathlib.Core.Path.{◌≡◌, refl, ap, sym, ◌∙◌}
 use mathlib.Core.Bool.{true}
 use mathlib.Core.List.{List}
@@ -16,8 +17,6 @@ use borrow.Author.Tests.{eq-eqb}
 use lib.Dec.{T}
 use lib.ListN.{take, drop}
 use lib.Ieee.{binary64, fits}
-use Rattle.answers.specs.declared.Answer.TheVariants.{Done}
-use Rattle.score.specs.declared.Verdict.TheVariants.{Accepted}
 use Rattle.score.specs.Record.{count_of}
 use Rattle.score.specs.Score.{verdict_of}
 use Rattle.score.specs.Below.{count_below}
@@ -34,9 +33,8 @@ use Rattle.state.proofs.Acted.{none_below-zero, acted_counts, acted_few}
 use Rattle.state.proofs.Entries.{entries-length, entry_at_lem}
 use Rattle.state.proofs.Limits.{state_in, in_state, fresh-is_state}
 use Rattle.state.proofs.Stays.{limits_kept}
-use Rattle.shelf.specs.declared.Entry.{Entry}
 use Rattle.shelf.specs.Shelf.{entry_words, section_size, entries_for, entry_of, is_entry, decoded_of, shelf_of}
-use Rattle.shelf.proofs.There.{Fitting, encode-decode}
+use Rattle.shelf.proofs.There.{Fitting, encode-decode, decoded-there}
 use Rattle.shelf.proofs.Whole.{entry_words_lem}
 use Rattle.sections.specs.Outcome.{Buffers, samples_in, room_in}
 use Rattle.judging.specs.Judging.{Passed}
@@ -59,10 +57,10 @@ fitting_kept g s n v w f k =
 -- the words ws are those of the state v and are read as v, with as many records acted as s has below n
 pub record HonestEntry (s : List ℕ) (n : ℕ) (v : State) (ws : List ℕ) : Type 0 where
   pub words_are : ws ≡ entry_of v
-  pub read_as : decoded_of ws ≡ record { valid = true; state = v }
+  pub read_as : decoded_of ws ≡ Some v
   pub acted_is : v.acted ≡ count_below s n
 
-module _ (g : Settings) (ok : settings_ok g ≡ true) (w : T (fits binary64 g.adsr.sustain)) (s : List ℕ) (m : ℕ) (a : verdict_of s ≡ Accepted m) where
+module _ (g : Settings) (ok : settings_ok g ≡ true) (w : T (fits binary64 g.adsr.sustain)) (s : List ℕ) (m : ℕ) (a : verdict_of s ≡ Ok m) where
   few : count_of s ≤ 4096
   few = accepted-few s m a
 
@@ -76,11 +74,11 @@ module _ (g : Settings) (ok : settings_ok g ≡ true) (w : T (fits binary64 g.ad
     from-is_given k = rw (from-is_state k, eq-eqb (state_from g s n v k).acted (count_below s (n + k)) (acted_counts g s few n v c k)) refl
 
     -- and the state's words are read as that state
-    pub honest-from : Fitting v → (k : ℕ) → decoded_of (entry_of (state_from g s n v k)) ≡ record { valid = true; state = state_from g s n v k }
+    pub honest-from : Fitting v → (k : ℕ) → decoded_of (entry_of (state_from g s n v k)) ≡ Some (state_from g s n v k)
     honest-from f k = encode-decode (state_from g s n v k) (fitting_kept g s n v w f k) (from-is_state k)
 
     pub from-is_entry : Fitting v → (k : ℕ) → is_entry (entry_of (state_from g s n v k)) ≡ true
-    from-is_entry f k = ap (λ (e : Entry). e.valid) (honest-from f k)
+    from-is_entry f k = (decoded-there _ _ (honest-from f k)).0
 
   -- entry j of the k entries from section b on
   pub entries-honest : (b : ℕ) (v : State) → is_state v ≡ true → v.acted ≡ count_below s (b * section_size) → Fitting v → (k j : ℕ) → j < k
@@ -104,7 +102,7 @@ module _ (g : Settings) (ok : settings_ok g ≡ true) (w : T (fits binary64 g.ad
   pub honest-is_given : (k : ℕ) → is_given s k (state_from g s 0 (fresh_of 0) k) ≡ true
   honest-is_given k = rw (zero-add k) at (from-is_given 0 refl (fresh_of 0) fresh-is_state none_acted k)
 
-  pub honest : (k : ℕ) → decoded_of (entry_of (state_from g s 0 (fresh_of 0) k)) ≡ record { valid = true; state = state_from g s 0 (fresh_of 0) k }
+  pub honest : (k : ℕ) → decoded_of (entry_of (state_from g s 0 (fresh_of 0) k)) ≡ Some (state_from g s 0 (fresh_of 0) k)
   honest k = honest-from 0 refl (fresh_of 0) fresh-is_state none_acted (fresh_fitting 0) k
 
   pub honest-is_entry : (k : ℕ) → is_entry (entry_of (state_from g s 0 (fresh_of 0) k)) ≡ true
@@ -116,11 +114,11 @@ module _ (g : Settings) (ok : settings_ok g ≡ true) (w : T (fits binary64 g.ad
 -- ---- the shelf that a render leaves
 module _ (g : Settings) (s : List ℕ) (b : Buffers) where
   -- what is true of a render that is done
-  pub render-passed : (n : ℕ) → (render_of g s b).result.answer ≡ Done n → Passed g (room_in b) s
+  pub render-passed : (n : ℕ) → (render_of g s b).result.answer ≡ Ok n → Passed g (room_in b) s
   render-passed n d = all_passed g (room_in b) s ((render-decided g s b).done n d)
 
   -- entry i, of the entries of n samples
-  pub render-honest : T (fits binary64 g.adsr.sustain) → (n : ℕ) → (render_of g s b).result.answer ≡ Done n → (i : ℕ) → i < entries_for n
+  pub render-honest : T (fits binary64 g.adsr.sustain) → (n : ℕ) → (render_of g s b).result.answer ≡ Ok n → (i : ℕ) → i < entries_for n
       → HonestEntry s (i * section_size) (state_from g s 0 (fresh_of 0) (i * section_size)) (take entry_words (drop (i * entry_words) (render_of g s b).left.stored))
   render-honest w n d i h =
       let p = render-passed n d in

@@ -1,11 +1,11 @@
 -- The claim of specs/JoinedNotes.antt: `state`'s laws of struck and joined keys, and the examples by computing them.
 -- Assumes nothing.
+use Rattle.std.specs.Prelude.{Some, None}
 use mathlib.Core.Path.{◌≡◌, refl}
 use mathlib.Core.List.{List}
 use Prim.Native.Nat.{ℕ}
 use native.Mathlib.Nat.{zero-add}
 use Rattle.voice.specs.Keys.{fresh_keys, pairs, pressed_of, others, without_of, last_of, lifted_of}
-use Rattle.voice.specs.declared.keys.ActiveNote.TheVariants.{Silent, Note}
 use Rattle.envelope.specs.Stages.{released_of}
 use Rattle.envelope.specs.declared.Envelope.{Envelope}
 use Rattle.state.specs.declared.Keying.TheVariants.{Joined}
@@ -20,7 +20,7 @@ use Rattle.demands.specs.JoinedNotes.{JoinedExamples, JoinedNotes}
 
 -- no note is active in the fresh state
 fresh-open : OpenIfActive (fresh_of 0)
-fresh-open n a = let z : Silent ≡ Note n = a in cc
+fresh-open n a = let z : None ≡ Some n = a in cc
 
 open_after : (g : Settings) (s : List ℕ) (k : ℕ) → OpenIfActive (begun g s k (state_from g s 0 (fresh_of 0) k))
 open_after g s k = rw (zero-add k) at (begun-open g s 0 (fresh_of 0) fresh-open k)

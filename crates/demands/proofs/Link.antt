@@ -1,6 +1,7 @@
 -- A link of a chain: one continuing call, what is true where it answers 0, when it answers 0 and when 10; then a score
 -- that grew at its end, at the position that a render of the score before it has reached; then a call and the rest of
 -- the chain. Assumes nothing.
+use Rattle.std.specs.Prelude.{Ok}
 use mathlib.Core.Path.{◌≡◌, refl, sym, ap, ◌∙◌}
 use mathlib.Core.Bool.{Bool, true, false, ◌&&◌}
 use mathlib.Core.List.{List, [], ◌∷◌}
@@ -11,12 +12,10 @@ use lib.Dec.{eqb}
 use lib.ListN.{length}
 use lib.Ieee.{Float}
 use borrow.Author.Tests.{le-leb, leb-true, eq-eqb, eqb-true, ne_eqb}
-use Rattle.answers.specs.declared.Answer.{Answer}
+use Rattle.answers.specs.Answer.{Answer}
 use Rattle.answers.specs.Order.{unless}
-use Rattle.answers.specs.declared.Answer.TheVariants.{Done}
 use Rattle.answers.specs.declared.Refusal.TheVariants.{GivenState}
 use Rattle.answers.proofs.Order.{passed, none_both}
-use Rattle.score.specs.declared.Verdict.TheVariants.{Accepted}
 use Rattle.score.specs.Record.{count_of, position_at}
 use Rattle.score.specs.Score.{verdict_of}
 use Rattle.score.specs.Below.{count_below}
@@ -43,7 +42,7 @@ use Rattle.demands.specs.Chain.{Step, ChainOutcome, and_then, chain_from, AllDon
 pub record PassedCall (g : Settings) (t : List ℕ) (v : State) (p n : ℕ) : Type 0 where
   pub settings : settings_ok g ≡ true
   pub in_time : p + n ≤ most_samples
-  pub accepted : verdict_of t ≡ Accepted (count_of t)
+  pub accepted : verdict_of t ≡ Ok (count_of t)
   pub acted : v.acted ≡ count_below t p
 
 module _ (g : Settings) (t : List ℕ) (v : State) (p : ℕ) (part : List Float) where
@@ -53,7 +52,7 @@ module _ (g : Settings) (t : List ℕ) (v : State) (p : ℕ) (part : List Float)
   abbrev call : PartOutcome
   call = continue_of g t v p part
 
-  pub call-passed : (m : ℕ) → call.result.answer ≡ Done m → PassedCall g t v p n
+  pub call-passed : (m : ℕ) → call.result.answer ≡ Ok m → PassedCall g t v p n
   call-passed m e =
       let b = none_both (refusals_of g (part_fits p n) t) (unless (is_given t p v) GivenState) ((continue_decided g t v p part).done m e) in
       let a = all_passed g (part_fits p n) t b.0 in
@@ -61,12 +60,12 @@ module _ (g : Settings) (t : List ℕ) (v : State) (p : ℕ) (part : List Float)
       record { settings = a.settings; in_time = leb-true (p + n) most_samples a.sized; accepted = a.accepted; acted = eqb-true v.acted (count_below t p) c.1 }
 
   -- settings in their domain, a part that is not too long and an accepted score: the given state alone decides
-  module _ (ok : settings_ok g ≡ true) (l : p + n ≤ most_samples) (m : ℕ) (a : verdict_of t ≡ Accepted m) where
+  module _ (ok : settings_ok g ≡ true) (l : p + n ≤ most_samples) (m : ℕ) (a : verdict_of t ≡ Ok m) where
     none_before : refusals_of g (part_fits p n) t ≡ []
     none_before = none-refused g (part_fits p n) t m ok (le-leb (p + n) most_samples l) a
 
     -- 0 where v is within the shelf's limits and as many records acted as are below p
-    pub call-done : is_state v ≡ true → v.acted ≡ count_below t p → call.result.answer ≡ Done n
+    pub call-done : is_state v ≡ true → v.acted ≡ count_below t p → call.result.answer ≡ Ok n
     call-done i c = (continue_decided g t v p part).is-done (rw (none_before, i, eq-eqb v.acted (count_below t p) c) refl)
 
     -- 10 where another number of records acted: all is left as it came
@@ -88,7 +87,7 @@ pub record Agrees (g : Settings) (s t : List ℕ) (q : ℕ) : Type 0 where
 abbrev pub Reached : Settings → List ℕ → ℕ → State → Type 0
 Reached g s p v = v ≡ state_from g s 0 (fresh_of 0) p
 
-module _ (s t : List ℕ) (m k : ℕ) (a : verdict_of s ≡ Accepted m) (b : verdict_of t ≡ Accepted k) (x : Grown s t) (p : ℕ) where
+module _ (s t : List ℕ) (m k : ℕ) (a : verdict_of s ≡ Ok m) (b : verdict_of t ≡ Ok k) (x : Grown s t) (p : ℕ) where
   abbrev u : List ℕ
   u = x.added
 
@@ -131,12 +130,12 @@ module _ (g : Settings) (v : State) (p : ℕ) (x : Step) (xs : List Step) where
   abbrev pub onward : ℕ
   onward = p + length x.part
 
-  pub chain-step : (continue_of g x.score v p x.part).result.answer ≡ Done (length x.part)
+  pub chain-step : (continue_of g x.score v p x.part).result.answer ≡ Ok (length x.part)
       → chain_from g v p (x ∷ xs) ≡ and_then (made_part g x.score v p (length x.part)) (chain_from g after onward xs)
   unfolding chain_from
   chain-step e = ap (λ (c : PartOutcome). and_then c (chain_from g c.result.state onward xs)) ((continue_decided g x.score v p x.part).makes (length x.part) e)
 
-  pub first_done : AllDone g v p (x ∷ xs) → (continue_of g x.score v p x.part).result.answer ≡ Done (length x.part)
+  pub first_done : AllDone g v p (x ∷ xs) → (continue_of g x.score v p x.part).result.answer ≡ Ok (length x.part)
   unfolding chain_from
   first_done d = cc
 
@@ -144,5 +143,5 @@ module _ (g : Settings) (v : State) (p : ℕ) (x : Step) (xs : List Step) where
   rest_done d = let e : _ ≡ _ = ap (λ (o : ChainOutcome). o.answers) (sym (chain-step (first_done d))) ∙ d in cc
 
   -- the first call done and the rest done: all done
-  pub all_done : (continue_of g x.score v p x.part).result.answer ≡ Done (length x.part) → AllDone g after onward xs → AllDone g v p (x ∷ xs)
-  all_done e d = ap (λ (o : ChainOutcome). o.answers) (chain-step e) ∙ ap (λ (l : List Answer). Done (length x.part) ∷ l) d
+  pub all_done : (continue_of g x.score v p x.part).result.answer ≡ Ok (length x.part) → AllDone g after onward xs → AllDone g v p (x ∷ xs)
+  all_done e d = ap (λ (o : ChainOutcome). o.answers) (chain-step e) ∙ ap (λ (l : List Answer). Ok (length x.part) ∷ l) d

@@ -1,5 +1,6 @@
 -- The claim of specs/NeverNegative.antt: the law of `state` on any state within the limits, at the three states that a
 -- call may start from: the fresh one, a given one, and that of an entry. Assumes nothing.
+use Rattle.std.specs.Prelude.{Ok, Some}
 use mathlib.Core.Path.{◌≡◌, refl, sym, ap, subst, ◌∙◌}
 use mathlib.Core.Bool.{true, false, true≢false}
 use mathlib.Core.List.{List}
@@ -16,11 +17,9 @@ use Rattle.sections.specs.Outcome.{Buffers, samples_in, room_in, leaves}
 use Rattle.sections.specs.Summary.{summary_of}
 use Rattle.sections.specs.Sections.{made_between}
 use Rattle.answers.specs.Order.{unless}
-use Rattle.answers.specs.declared.Answer.TheVariants.{Done}
 use Rattle.answers.specs.declared.Refusal.TheVariants.{GivenState, StartEntry}
 use Rattle.answers.proofs.Order.{passed, none_both}
 use Rattle.waveform.specs.Waveform.{remainder_of, reduce_of}
-use Rattle.score.specs.declared.Verdict.TheVariants.{Accepted}
 use Rattle.score.specs.Record.{count_of}
 use Rattle.score.specs.Score.{verdict_of}
 use Rattle.score.specs.Below.{count_below}
@@ -40,7 +39,6 @@ use Rattle.judging.specs.Judging.{refusals_of, part_fits}
 use Rattle.judging.proofs.Refusals.{all_passed}
 use Rattle.render.specs.Calls.{says, leaves_part, is_given, render_of, continue_of}
 use Rattle.render.proofs.Outcomes.{render-decided, continue_decided}
-use Rattle.rerender.specs.declared.Plan.TheVariants.{From}
 use Rattle.rerender.specs.Rerender.{plan_of, start_of, is_start, stop_of, recounted_from, start_refusals, rerender_of}
 use Rattle.rerender.proofs.Cases.{plan_there, stop_at, checks, all_checked, rerender-decided}
 use Rattle.demands.specs.NeverNegative.{minus_one, NotNegative, SameSteps, NeverNegative}
@@ -49,7 +47,7 @@ use Rattle.demands.specs.NeverNegative.{minus_one, NotNegative, SameSteps, Never
 not_negative : (p : Float) → T (nonneg p) → NotNegative p
 not_negative p h = record { at_least_0 = rw (zero_of-is binary64) (ge0→le p (nonneg→ge0 p h)); not-below = rest_not-below p h }
 
-steps : (g : Settings) → settings_ok g ≡ true → T (fits binary64 g.adsr.sustain) → (s : List ℕ) (m : ℕ) → verdict_of s ≡ Accepted m → (n : ℕ) (v : State) → in_limits v ≡ true → (k : ℕ) → SameSteps g s n v k
+steps : (g : Settings) → settings_ok g ≡ true → T (fits binary64 g.adsr.sustain) → (s : List ℕ) (m : ℕ) → verdict_of s ≡ Ok m → (n : ℕ) (v : State) → in_limits v ≡ true → (k : ℕ) → SameSteps g s n v k
 steps g ok w s m a n v l k =
     record {
       phase = not_negative _ (phase_nonnegative g ok w s m a n v l k);
@@ -59,9 +57,9 @@ steps g ok w s m a n v l k =
     }
 
 -- ---- the calls
-rendered : (g : Settings) → T (fits binary64 g.adsr.sustain) → (s : List ℕ) (b : Buffers) (k : ℕ) → (render_of g s b).result.answer ≡ Done k
+rendered : (g : Settings) → T (fits binary64 g.adsr.sustain) → (s : List ℕ) (b : Buffers) (k : ℕ) → (render_of g s b).result.answer ≡ Ok k
     → let heard = samples_branching g s 0 (fresh_of 0) k in
-    render_of g s b ≡ leaves (says (Done k) (state_branching g s 0 (fresh_of 0) k)) (record { heard = heard; stored = shelf_of (entries_branching g s 0 (fresh_of 0) (entries_for k)); summary = summary_of heard })
+    render_of g s b ≡ leaves (says (Ok k) (state_branching g s 0 (fresh_of 0) k)) (record { heard = heard; stored = shelf_of (entries_branching g s 0 (fresh_of 0) (entries_for k)); summary = summary_of heard })
 rendered g w s b k e =
     let d = render-decided g s b in
     let a = all_passed g (room_in b) s (d.done k e) in
@@ -71,8 +69,8 @@ rendered g w s b k e =
     d.makes k e
     ∙ rw (d.counts k e, branch_states g ok w s (count_of s) t 0 (fresh_of 0) i k, branch_samples g ok w s (count_of s) t 0 (fresh_of 0) i k, branch_entries g ok w s (count_of s) t 0 (fresh_of 0) i (entries_for k)) refl
 
-continued : (g : Settings) → T (fits binary64 g.adsr.sustain) → (s : List ℕ) (v : State) (p : ℕ) (part : List Float) (k : ℕ) → (continue_of g s v p part).result.answer ≡ Done k
-    → continue_of g s v p part ≡ leaves_part (says (Done k) (state_branching g s p v k)) (samples_branching g s p v k)
+continued : (g : Settings) → T (fits binary64 g.adsr.sustain) → (s : List ℕ) (v : State) (p : ℕ) (part : List Float) (k : ℕ) → (continue_of g s v p part).result.answer ≡ Ok k
+    → continue_of g s v p part ≡ leaves_part (says (Ok k) (state_branching g s p v k)) (samples_branching g s p v k)
 continued g w s v p part k e =
     let d = continue_decided g s v p part in
     let b = none_both (refusals_of g (part_fits p (length part)) s) (unless (is_given s p v) GivenState) (d.done k e) in
@@ -82,11 +80,11 @@ continued g w s v p part k e =
     let i = state_in v (both (is_state v) (eqb v.acted (count_below s p)) (passed (is_given s p v) GivenState b.1)).0 in
     d.makes k e ∙ rw (d.counts k e, branch_states g ok w s (count_of s) t p v i k, branch_samples g ok w s (count_of s) t p v i k) refl
 
-re_rendered : (g : Settings) → T (fits binary64 g.adsr.sustain) → (old new : List ℕ) (b : Buffers) (m : ℕ) → plan_of old new (samples_in b) ≡ From m → (k : ℕ) → (rerender_of g old new b).result ≡ Done k
+re_rendered : (g : Settings) → T (fits binary64 g.adsr.sustain) → (old new : List ℕ) (b : Buffers) (m : ℕ) → plan_of old new (samples_in b) ≡ Some m → (k : ℕ) → (rerender_of g old new b).result ≡ Ok k
     → let stop = m * section_size + k in
     let v = start_of b.stored m in
     rerender_of g old new b
-    ≡ leaves (Done k) (recounted_from new (entries_for stop) (made_between m stop (samples_branching g new (m * section_size) v k) (shelf_of (entries_branching g new m v (entries_for stop - m))) b))
+    ≡ leaves (Ok k) (recounted_from new (entries_for stop) (made_between m stop (samples_branching g new (m * section_size) v k) (shelf_of (entries_branching g new m v (entries_for stop - m))) b))
 re_rendered g w old new b m q k e =
     let d = rerender-decided g old new b in
     let shelf = b.stored in

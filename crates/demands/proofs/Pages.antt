@@ -2,11 +2,12 @@
 -- score after its last edit, which is accepted; and a re-render of a whole render leaves the whole render of the new
 -- score (proofs/Edits.antt), wherever it stops. So does a re-render, or a page, for each edit. An edit alone in a page
 -- has the bytes that it has in the list, so it makes the same score. Assumes nothing.
+use Rattle.std.specs.Prelude.{None, Ok, Option}
 use mathlib.Core.Path.{◌≡◌, refl, sym, subst, ap, ◌∙◌}
 use mathlib.Core.Bool.{Bool, true, false, cond}
 use mathlib.Core.List.{List, [], ◌∷◌, ◌++◌, map}
 use mathlib.Core.Logic.{◌⊎◌, inl, inr, ⊎_elim}
-use Prim.Native.Nat.{ℕ, zero, suc, ◌+◌, ◌-◌, ◌*◌, ◌/◌, ◌%◌, ◌≤◌, ◌<◌}
+use Prim.Native.Nat.{ℕ, zero, suc, ◌+◌, ◌*◌, ◌/◌, ◌%◌, ◌≤◌, ◌<◌}
 use native.Mathlib.Omega.{arith}
 use lib.Dec.{T, eqb, ltb}
 use lib.ListN.{length, get_or, take, drop, length-append, length-drop}
@@ -14,8 +15,7 @@ use lib.Seq.{length-take-le, take-take, take-add, take_at, drop_at, drop-drop, g
 use lib.Ieee.{binary64, fits}
 use borrow.Author.Tests.{eq-eqb}
 use Rattle.answers.specs.Order.{unless, first_of}
-use Rattle.answers.specs.declared.Answer.{Answer}
-use Rattle.answers.specs.declared.Answer.TheVariants.{Done}
+use Rattle.answers.specs.Answer.{Answer}
 use Rattle.answers.specs.declared.Refusal.{Refusal}
 use Rattle.answers.specs.declared.Refusal.TheVariants.{Page, EditFrame, NotThere, Full, Edit}
 use Rattle.answers.specs.declared.ScoreFault.TheVariants.{Mark, Kind, Field}
@@ -33,8 +33,6 @@ use Rattle.state.specs.declared.Settings.{Settings}
 use Rattle.state.specs.Settings.{settings_ok}
 use Rattle.judging.specs.Judging.{refusals_of, Passed, most_samples}
 use Rattle.judging.proofs.Refusals.{all_passed, none-refused}
-use Rattle.rerender.specs.declared.Plan.{Plan}
-use Rattle.rerender.specs.declared.Plan.TheVariants.{Nothing}
 use Rattle.rerender.specs.Rerender as rerender
 use Rattle.rerender.specs.Rerender.{plan_of, outcome_of, start_refusals, count_for, rerender_of}
 use Rattle.rerender.proofs.Cases.{plan_equal, plan_late}
@@ -65,7 +63,7 @@ new-taken old es a made = after-taken old es a made (edits_in es) (omega arith)
 
 -- ---- one page, whatever output, shelf and summary hold
 -- the same refusals decide a re-render and a page
-beside : (new space : List ℕ) (b : Buffers) (o : Outcome Answer) (count : ℕ) → o.result ≡ Done count → (xs : List Refusal)
+beside : (new space : List ℕ) (b : Buffers) (o : Outcome Answer) (count : ℕ) → o.result ≡ Ok count → (xs : List Refusal)
     → BesideRerender new space (first_of xs (rerender.kept_of b) o) (first_of xs (kept_of b space) (turned_over o new space))
 beside new space b o count done [] = record { same_answer = refl; same_left = refl; written = λ c e. (refl, refl); kept = λ why e. absurd (clash (cc)) }
 beside new space b o count done (x ∷ xs) = record { same_answer = refl; same_left = refl; written = λ c e. absurd (clash (cc)); kept = λ why e. (refl, refl) }
@@ -74,7 +72,7 @@ module _ (g : Settings) (old es : List ℕ) (b : Buffers) (space : List ℕ) (fi
   abbrev new : List ℕ
   new = new_score_of old es
 
-  abbrev plan : Plan
+  abbrev plan : Option ℕ
   plan = plan_of old new (samples_in b)
 
   abbrev starts : List Refusal
@@ -98,15 +96,15 @@ module _ (g : Settings) (old es : List ℕ) (b : Buffers) (space : List ℕ) (fi
       (beside new space b (outcome_of g old new plan b) (count_for g old new plan b) (outcome_done g old new b plan) starts))
 
   -- where the re-render is done
-  page_done : (count : ℕ) → (rerender_of g old new b).result ≡ Done count → edit_of g old es b space ≡ turned_over (rerender_of g old new b) new space
+  page_done : (count : ℕ) → (rerender_of g old new b).result ≡ Ok count → edit_of g old es b space ≡ turned_over (rerender_of g old new b) new space
   page_done count e =
       let none : starts ≡ [] = order.none-refused starts (rerender.kept_of b) (outcome_of g old new plan b) (λ (o : Outcome Answer). o.result) count (λ why. refl) (ap (λ (o : Outcome Answer). o.result) (sym re_renders) ∙ e) in
       let run : rerender_of g old new b ≡ outcome_of g old new plan b = re_renders ∙ ap (λ (xs : List Refusal). first_of xs (rerender.kept_of b) (outcome_of g old new plan b)) none in
       turns ∙ ap (λ (xs : List Refusal). first_of xs (kept_of b space) (turned_over (outcome_of g old new plan b) new space)) none ∙ ap (λ (o : Outcome Answer). turned_over o new space) (sym run)
 
   -- where its plan is nothing
-  nothing_done : Nothing ≡ plan → edit_of g old es b space ≡ rewrites (paged (Done 0) (length new)) b (new ++ drop (length new) space)
-  nothing_done q = turns ∙ ap (λ (p : Plan). first_of (start_refusals new p b.stored) (kept_of b space) (turned_over (outcome_of g old new p b) new space)) (sym q)
+  nothing_done : None ≡ plan → edit_of g old es b space ≡ rewrites (paged (Ok 0) (length new)) b (new ++ drop (length new) space)
+  nothing_done q = turns ∙ ap (λ (p : Option ℕ). first_of (start_refusals new p b.stored) (kept_of b space) (turned_over (outcome_of g old new p b) new space)) (sym q)
 
 -- ---- pages after a render
 -- the new score over the front of a buffer: it is there, and the buffer is as long as it was

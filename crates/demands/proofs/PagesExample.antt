@@ -1,6 +1,7 @@
 -- A page that meets the premises of `PagesOfEdits`, after a render of 8,192 samples, and stops early. The old score has
 -- two offs at 0 that find no key held; the page removes the first of them and inserts it again, so that it is behind
 -- the other. The re-render makes the 4,096 samples of section 0 and stops. Assumes nothing.
+use Rattle.std.specs.Prelude.{Ok, Option, Some}
 use mathlib.Core.Path.{◌≡◌, refl, sym, ap, ◌∙◌}
 use mathlib.Core.List.{List, [], ◌∷◌, ◌++◌}
 use mathlib.Core.Logic.{⊎_elim}
@@ -11,9 +12,6 @@ use lib.Ieee.{binary64}
 use lib.Ieee.Bits.{of_bits-fits}
 use borrow.Author.Tests.{lt-ltb}
 use Rattle.runs.specs.Runs.{run, first_passing}
-use Rattle.answers.specs.declared.Answer.TheVariants.{Done}
-use Rattle.score.specs.declared.Difference.TheVariants.{At}
-use Rattle.score.specs.declared.Verdict.TheVariants.{Accepted}
 use Rattle.score.specs.Record.{position_at}
 use Rattle.score.specs.Score.{mark_right, kind_right, fields_right, in_order, faults_at, faults_from, faults_of, verdict_of}
 use Rattle.score.specs.Below.{below}
@@ -27,8 +25,6 @@ use Rattle.state.specs.Heart.{has_at, act_to, begun, state_from}
 use Rattle.state.proofs.ButActed.{advance-same}
 use Rattle.state.proofs.RunsOn.{state_on}
 use Rattle.state.proofs.Tail.{tail_states}
-use Rattle.rerender.specs.declared.Plan.{Plan}
-use Rattle.rerender.specs.declared.Plan.TheVariants.{From}
 use Rattle.rerender.specs.Rerender.{plan_of, count_for}
 use Rattle.rerender.proofs.Cases.{plan_from}
 use Rattle.page.specs.Page.{frame_right, inserted_of, removed_of, score_after, new_score_of, record_faults, held_refusals, edit_refusals, Rewritten, paged, edit_of, AllMade}
@@ -72,11 +68,11 @@ swap-made zero h = rw found_first refl
 swap-made (suc zero) h = rw found_first refl
 swap-made (suc (suc i)) h = absurd (omega arith)
 
-two-accepted : verdict_of two ≡ Accepted 2
+two-accepted : verdict_of two ≡ Ok 2
 unfolding position_at mark_right kind_right fields_right in_order faults_at faults_from faults_of verdict_of
 two-accepted = refl
 
-swapped_accepted : verdict_of swapped ≡ Accepted 2
+swapped_accepted : verdict_of swapped ≡ Ok 2
 unfolding position_at mark_right kind_right fields_right in_order faults_at faults_from faults_of verdict_of
 swapped_accepted = refl
 
@@ -90,7 +86,7 @@ swap-whole = record { whole_edits = refl; all_made = swap-made }
 swap-edit : Edit trembling two swapped
 swap-edit = record { settings = trembling_ok; sustain_fits = swap_begins.sustain_fits; old_taken = swap_begins.old_taken; new-taken = record { records = 2; accepted = swapped_accepted } }
 
-swap_differs : difference_of two swapped ≡ At 0
+swap_differs : difference_of two swapped ≡ Some 0
 unfolding position_at same_to first_passing
 swap_differs = refl
 
@@ -119,13 +115,13 @@ stops_at_1 : StopsAt trembling two swapped 0 8192 1
 stops_at_1 = record { past = omega arith; within = omega arith; settled = λ l. settled; first = λ j l u s. omega arith }
 
 -- the page's count
-pub swap_once : once_paged trembling two swapped 8192 ≡ paged (Done 4096) 20
+pub swap_once : once_paged trembling two swapped 8192 ≡ paged (Ok 4096) 20
 swap_once =
-    let planned : plan_of two swapped 8192 ≡ From 0 = sym (plan_from two swapped 8192 0 swap_differs (omega arith)) in
+    let planned : plan_of two swapped 8192 ≡ Some 0 = sym (plan_from two swapped 8192 0 swap_differs (omega arith)) in
     let c = any_edits.counts trembling two swapped swap-edit 8192 (omega arith) 0 planned in
     let one : c.stop_section ≡ 1 = one_stop trembling two swapped 0 8192 c.stop_section 1 c.stops stops_at_1 in
     let count : min (c.stop_section * 4096) 8192 - 0 * 4096 ≡ 4096 = omega (arith, one) in
-    ap (λ (p : Plan). paged (Done (count_for trembling two swapped p (whole_of trembling two 8192))) 20) planned ∙ ap (λ (k : ℕ). paged (Done k) 20) (c.count-is ∙ count)
+    ap (λ (p : Option ℕ). paged (Ok (count_for trembling two swapped p (whole_of trembling two 8192))) 20) planned ∙ ap (λ (k : ℕ). paged (Ok k) 20) (c.count-is ∙ count)
 
 -- ---- the calls
 -- buffers of 8,192 samples that the old score is rendered in, and a buffer lent for the new score
@@ -145,7 +141,7 @@ at_once : AtOnce trembling two swap 8192 paper swap_call
 at_once = pages_of_edits.at_once trembling two swap paper swap_begins swap-whole paper-long 8192 lent_ones
 
 -- half of the samples are made again; the offs stand in the other order at the front of the buffer
-pub a_page : (swap_call.result ≡ paged (Done 4096) 20) × (swap_call.space ≡ swapped ++ drop 20 paper)
+pub a_page : (swap_call.result ≡ paged (Ok 4096) 20) × (swap_call.space ≡ swapped ++ drop 20 paper)
 a_page = (
   at_once.answered ∙ ap (λ (s : List ℕ). once_paged trembling two s 8192) swaps ∙ swap_once,
   at_once.score-is ∙ ap (λ (s : List ℕ). s ++ drop (length s) paper) swaps,

@@ -1,6 +1,7 @@
 -- The claim of specs/Peaks.antt: what a summary tells in the samples' own numbers, by the peaks of its sections; that
 -- the summary stays right, by the sections that stay and those that are worked out anew; that every sample made is
 -- finite. Assumes nothing.
+use Rattle.std.specs.Prelude.{Err, None, Ok, Option, Some}
 use mathlib.Core.Path.{◌≡◌, refl, sym, ap, subst, ◌∙◌}
 use mathlib.Core.Bool.{true}
 use mathlib.Core.List.{List, [], ◌++◌}
@@ -17,8 +18,7 @@ use lib.Ieee.Scale.{finite}
 use Rattle.floats.specs.Double.{zero64}
 use Rattle.floats.proofs.Order.{lt_not_le}
 use Rattle.runs.proofs.Listed.{listed_at}
-use Rattle.answers.specs.declared.Answer.{Answer}
-use Rattle.answers.specs.declared.Answer.TheVariants.{Done, Refused}
+use Rattle.answers.specs.Answer.{Answer}
 use Rattle.answers.specs.declared.Refusal.{Refusal}
 use Rattle.answers.specs.declared.Refusal.TheVariants.{StartEntry}
 use Rattle.answers.proofs.Order.{first_holds, passed, none_both}
@@ -26,7 +26,6 @@ use Rattle.peaks.specs.declared.Peak.{Peak}
 use Rattle.peaks.specs.Peaks.{sample_at, magnitude_at, magnitude_of, peak_of, IsPeak}
 use Rattle.peaks.proofs.Magnitudes.{magnitude_is}
 use Rattle.peaks.proofs.Meaning.{peak_is}
-use Rattle.score.specs.declared.Verdict.TheVariants.{Accepted}
 use Rattle.score.specs.Record.{count_of}
 use Rattle.score.specs.Score.{verdict_of}
 use Rattle.score.specs.Below.{count_below}
@@ -52,8 +51,6 @@ use Rattle.judging.proofs.Refusals.{all_passed}
 use Rattle.render.specs.Calls.{render_of}
 use Rattle.render.specs.declared.Rendered.{Rendered}
 use Rattle.render.proofs.Outcomes.{render-decided}
-use Rattle.rerender.specs.declared.Plan.{Plan}
-use Rattle.rerender.specs.declared.Plan.TheVariants.{Nothing, From}
 use Rattle.rerender.specs.Rerender.{plan_of, start_of, is_start, stop_of, made_from, outcome_of, start_refusals, rerender_refusals, kept_of, rerender_of}
 use Rattle.rerender.proofs.Cases.{plan_there, samples, made, samples-long, stop_at, left-long, left-before, left-between, left-heard_after, checks, Checked, all_checked, rerender-decided}
 use Rattle.demands.specs.Peaks.{AllFinite, InSection, TellsOf, Tells, IsRight, IsRightBetween, SameAfter, PeaksBesideTheSound}
@@ -166,16 +163,16 @@ silent xs all j h zeros =
     not-below-itself l = lt_not_le zero64 zero64 l (unfold of_bits le in tt)
 
 -- ---- what a call leaves is right
-render-right : (g : Settings) (s : List ℕ) (b : Buffers) (k : ℕ) → (render_of g s b).result.answer ≡ Done k → IsRight (render_of g s b).left
+render-right : (g : Settings) (s : List ℕ) (b : Buffers) (k : ℕ) → (render_of g s b).result.answer ≡ Ok k → IsRight (render_of g s b).left
 render-right g s b k e = subst (λ (o : Outcome Rendered). IsRight o.left) (sym ((render-decided g s b).makes k e)) refl
 
 -- where the plan is nothing, or the call is refused, nothing is touched
-untouched-whole : (g : Settings) (old new : List ℕ) (b : Buffers) → plan_of old new (samples_in b) ≡ Nothing → (rerender_of g old new b).left ≡ b
+untouched-whole : (g : Settings) (old new : List ℕ) (b : Buffers) → plan_of old new (samples_in b) ≡ None → (rerender_of g old new b).left ≡ b
 unfolding rerender_of
 untouched-whole g old new b q =
     first_holds (λ (o : Outcome Answer). o.left ≡ b) (rerender_refusals g old new b) (kept_of b) (outcome_of g old new (plan_of old new (samples_in b)) b) (λ why l. refl) (λ none. rw q refl)
 
-untouched-refused : (g : Settings) (old new : List ℕ) (b : Buffers) (why : Refusal) → (rerender_of g old new b).result ≡ Refused why → (rerender_of g old new b).left ≡ b
+untouched-refused : (g : Settings) (old new : List ℕ) (b : Buffers) (why : Refusal) → (rerender_of g old new b).result ≡ Err why → (rerender_of g old new b).left ≡ b
 untouched-refused g old new b why e = ap (λ (o : Outcome Answer). o.left) ((rerender-decided g old new b).keeps why e)
 
 -- what holds of the buffers that came and of those that are made from a section's entry holds of those that are left
@@ -183,9 +180,9 @@ module _ (g : Settings) (old new : List ℕ) (b : Buffers) (P : Buffers → Type
   left-holds : P (rerender_of g old new b).left
   left-holds = go (plan_of old new (samples_in b)) refl
     where
-      go : (q : Plan) → plan_of old new (samples_in b) ≡ q → P (rerender_of g old new b).left
-      go Nothing e = subst P (sym (untouched-whole g old new b e)) came
-      go (From m) e = either_way g old new b m e (λ (o : Outcome Answer). P o.left) (λ why. came) (made m (plan_there old new (samples_in b) m e))
+      go : (q : Option ℕ) → plan_of old new (samples_in b) ≡ q → P (rerender_of g old new b).left
+      go None e = subst P (sym (untouched-whole g old new b e)) came
+      go (Some m) e = either_way g old new b m e (λ (o : Outcome Answer). P o.left) (λ why. came) (made m (plan_there old new (samples_in b) m e))
 
 -- the sections from section m up to the stop are worked out anew, the others stay, and their samples, too
 stays-right : (g : Settings) (old new : List ℕ) (b : Buffers) → IsRight b → IsRight (rerender_of g old new b).left
@@ -207,12 +204,12 @@ sample-from : (g : Settings) (s : List ℕ) (n : ℕ) (v : State) (k i : ℕ) �
 unfolding samples_from state_from
 sample-from g s n v k i h = listed_at _ k i nan h
 
-samples-finite : (g : Settings) → settings_ok g ≡ true → T (fits binary64 g.adsr.sustain) → (s : List ℕ) (m : ℕ) → verdict_of s ≡ Accepted m → (n : ℕ) (v : State) → Fitting v → in_limits v ≡ true → (k : ℕ) → AllFinite (samples_from g s n v k)
+samples-finite : (g : Settings) → settings_ok g ≡ true → T (fits binary64 g.adsr.sustain) → (s : List ℕ) (m : ℕ) → verdict_of s ≡ Ok m → (n : ℕ) (v : State) → Fitting v → in_limits v ≡ true → (k : ℕ) → AllFinite (samples_from g s n v k)
 samples-finite g ok w s m a n v f l k i h =
     let j : i < k = omega (arith, h, samples-length g s n v k) in
     subst (λ (x : Float). T (finite x)) (sym (sample-from g s n v k i j)) (every-sample-finite s m a n g ok w v f l i)
 
-render-finite : (g : Settings) → T (fits binary64 g.adsr.sustain) → (s : List ℕ) (b : Buffers) (k : ℕ) → (render_of g s b).result.answer ≡ Done k → AllFinite (render_of g s b).left.heard
+render-finite : (g : Settings) → T (fits binary64 g.adsr.sustain) → (s : List ℕ) (b : Buffers) (k : ℕ) → (render_of g s b).result.answer ≡ Ok k → AllFinite (render_of g s b).left.heard
 render-finite g w s b k e =
     let d = render-decided g s b in
     let a = all_passed g (room_in b) s (d.done k e) in
@@ -259,11 +256,11 @@ stays-finite g w old new b all =
     append_finite (take (m * section_size) b.heard) (samples g old new m b ++ drop stop b.heard) (take-finite (m * section_size) b.heard all)
     (append_finite (samples g old new m b) (drop stop b.heard) (made-finite g w old new b m i c) (drop-finite stop b.heard all)))
 
-render-told : (g : Settings) → T (fits binary64 g.adsr.sustain) → (s : List ℕ) (b : Buffers) (k : ℕ) → (render_of g s b).result.answer ≡ Done k → Tells (render_of g s b).left.heard (render_of g s b).left.summary
+render-told : (g : Settings) → T (fits binary64 g.adsr.sustain) → (s : List ℕ) (b : Buffers) (k : ℕ) → (render_of g s b).result.answer ≡ Ok k → Tells (render_of g s b).left.heard (render_of g s b).left.summary
 render-told g w s b k e = rw (render-right g s b k e) (tells (render_of g s b).left.heard (render-finite g w s b k e))
 
 -- ---- a re-render that is done from section m on
-module _ (g : Settings) (old new : List ℕ) (b : Buffers) (m : ℕ) (planned : plan_of old new (samples_in b) ≡ From m) (k : ℕ) (done : (rerender_of g old new b).result ≡ Done k) where
+module _ (g : Settings) (old new : List ℕ) (b : Buffers) (m : ℕ) (planned : plan_of old new (samples_in b) ≡ Some m) (k : ℕ) (done : (rerender_of g old new b).result ≡ Ok k) where
   abbrev n : ℕ
   n = samples_in b
 
@@ -289,7 +286,7 @@ module _ (g : Settings) (old new : List ℕ) (b : Buffers) (m : ℕ) (planned : 
 
   -- what is left
   left_is : (rerender_of g old new b).left ≡ (made_from g old new m b).left
-  left_is = ap (λ (o : Outcome Answer). o.left) ((rerender-decided g old new b).makes k done) ∙ ap (λ (q : Plan). (outcome_of g old new q b).left) planned
+  left_is = ap (λ (o : Outcome Answer). o.left) ((rerender-decided g old new b).makes k done) ∙ ap (λ (q : Option ℕ). (outcome_of g old new q b).left) planned
 
   heard-is : take k (onward m (made_from g old new m b).left).heard ≡ samples g old new m b
   heard-is =

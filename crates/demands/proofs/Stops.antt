@@ -2,8 +2,9 @@
 -- the old score left, at the first section at which renders of both scores from sample zero have one state but for the
 -- number of records acted. From there on both scores make the same samples, and the same entries but for that number.
 -- Assumes nothing.
+use Rattle.std.specs.Prelude.{Ok, Some}
 use mathlib.Core.Path.{◌≡◌, refl, sym, ◌∙◌}
-use mathlib.Core.Bool.{true, false, true≢false}
+use mathlib.Core.Bool.{true, true≢false}
 use mathlib.Core.List.{List}
 use mathlib.Core.Logic.{⊎_elim}
 use Prim.Native.Nat.{ℕ, suc, ◌+◌, ◌-◌, ◌*◌, min, ◌≤◌, ◌<◌}
@@ -11,7 +12,6 @@ use native.Mathlib.Omega.{arith}
 use lib.ListN.{length, drop, drop_of_length-le}
 use Rattle.runs.specs.Runs.{first_passing}
 use Rattle.runs.proofs.First.{First, first_passing_lem}
-use Rattle.answers.specs.declared.Answer.TheVariants.{Done}
 use Rattle.score.specs.Record.{count_of}
 use Rattle.score.specs.Below.{count_below, Sorted}
 use Rattle.score.specs.Apart.{same_from}
@@ -29,7 +29,6 @@ use Rattle.state.specs.Heart.{state_from, samples_from, entries_from}
 use Rattle.state.proofs.Acted.{acted_fresh}
 use Rattle.state.proofs.Tail.{tail_states, tail_samples}
 use Rattle.sections.specs.Outcome.{Buffers, samples_in}
-use Rattle.rerender.specs.declared.Plan.TheVariants.{From}
 use Rattle.rerender.specs.Rerender.{plan_of, start_of, is_settled, stop_of, recounted, rerender_of}
 use Rattle.rerender.proofs.Cases.{plan_there, rerender-decided}
 use Rattle.rerender.proofs.Renewing.{Renewed, recounted-listed}
@@ -76,7 +75,7 @@ module _ (g : Settings) (old new : List ℕ) (m : ℕ) (b : Buffers) (there : m 
       }
 
 -- a call that is done with count c stopped c samples after its start
-pub stops_first : (g : Settings) (old new : List ℕ) (b : Buffers) (m : ℕ) → plan_of old new (samples_in b) ≡ From m → (c : ℕ) → (rerender_of g old new b).result ≡ Done c
+pub stops_first : (g : Settings) (old new : List ℕ) (b : Buffers) (m : ℕ) → plan_of old new (samples_in b) ≡ Some m → (c : ℕ) → (rerender_of g old new b).result ≡ Ok c
     → StopsOver g old new m (start_of b.stored m) b (entries_for (m * section_size + c))
 stops_first g old new b m planned c e =
     let there = plan_there old new (samples_in b) m planned in

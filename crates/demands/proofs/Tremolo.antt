@@ -1,6 +1,7 @@
 -- The tremolo's LFO is the ported block: where no phase is reduced no record acts either, so between two reductions the
 -- LFO's phase grows as the block's does. And depth 0 is no tremolo, by `state`'s laws of every sample, from the fresh
 -- state. Assumes nothing.
+use Rattle.std.specs.Prelude.{Ok}
 use mathlib.Core.Path.{◌≡◌, refl, subst, ap, ◌∙◌}
 use mathlib.Core.Bool.{Bool, true, false, ◌&&◌, ◌||◌}
 use mathlib.Core.List.{List}
@@ -16,7 +17,6 @@ use Rattle.runs.proofs.Listed.{listed_at, listed_same}
 use Rattle.floats.specs.Double.{◌⊕◌, ◌⊗◌}
 use Rattle.floats.proofs.Zeros.{Silent, zero_is}
 use Rattle.answers.specs.Outcome.{Outcome, leaves}
-use Rattle.answers.specs.declared.Answer.TheVariants.{Done}
 use Rattle.domain.specs.Domain.{highest_lfo, is_rate, is_frequency, is_depth, is_radians}
 use Rattle.waveform.specs.Waveform.{is_waveform, reduce_of, radians}
 use Rattle.waveform.specs.Filled.{phase_from, value_at, samples_by}
@@ -111,7 +111,7 @@ module _ (g : Settings) (s : List ℕ) where
           (and_i (is_depth g.lfo.depth && is_frequency highest_lfo g.lfo.frequency) (is_radians first) (and_i (is_depth g.lfo.depth) (is_frequency highest_lfo g.lfo.frequency) depth_in frequency_in) in-limits)
 
       call-done : (xs : List Float) → run_of (tone_of (block_at g.lfo (begun g s n v).lfo)) highest_lfo g.rate xs
-          ≡ leaves (record { answer = Done (length xs); phase = radians (reduce_of (phase_from (lfo_step_of g) first (length xs))) }) (samples_by (value_at g.lfo.waveform (lfo_step_of g)) (lfo_step_of g) g.lfo.depth first (length xs))
+          ≡ leaves (record { answer = Ok (length xs); phase = radians (reduce_of (phase_from (lfo_step_of g) first (length xs))) }) (samples_by (value_at g.lfo.waveform (lfo_step_of g)) (lfo_step_of g) g.lfo.depth first (length xs))
       unfolding run_of
       call-done xs = rw (is_setting_lem, is_tone_lem) refl
 
@@ -133,7 +133,7 @@ module _ (g : Settings) (s : List ℕ) where
         pub ported : Ported g s n v (suc k) xs
         ported =
             record {
-              done = ap (λ (o : Outcome Ran). o.result.answer) (call-done xs) ∙ ap Done e;
+              done = ap (λ (o : Outcome Ran). o.result.answer) (call-done xs) ∙ ap Ok e;
               values = values_are;
               samples = samples_are;
               phase = ap (λ (o : Outcome Ran). o.result.phase) (call-done xs) ∙ rw (e, grown k (phase-at k c)) refl;

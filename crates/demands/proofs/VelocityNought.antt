@@ -1,6 +1,7 @@
 -- The claim of specs/VelocityNought.antt: `state`'s laws of scores that are the same but for how releases are written,
 -- and that such scores, where both are accepted, meet the same refusals. Then two unequal scores that the claim is
 -- about. Assumes nothing.
+use Rattle.std.specs.Prelude.{Ok, Some}
 use mathlib.Core.Path.{◌≡◌, refl, sym, ap, ◌∙◌}
 use mathlib.Core.Logic.{◌⊎◌, inl, inr}
 use mathlib.Core.Bool.{true}
@@ -12,12 +13,9 @@ use lib.ListN.{length}
 use lib.Ieee.{Float, binary64, fits}
 use borrow.Author.Tests.{le-leb}
 use Rattle.runs.specs.Runs.{first_passing}
-use Rattle.answers.specs.declared.Answer.TheVariants.{Done}
 use Rattle.sections.specs.Outcome.{Buffers, samples_in, Outcome}
 use Rattle.score.specs.declared.Record.{Record}
 use Rattle.score.specs.declared.Kind.TheVariants.{Off}
-use Rattle.score.specs.declared.Difference.TheVariants.{At}
-use Rattle.score.specs.declared.Verdict.TheVariants.{Accepted}
 use Rattle.score.specs.Record.{count_of, position_at, record_at}
 use Rattle.score.specs.Score.{mark_right, kind_right, fields_right, in_order, faults_at, faults_from, faults_of, verdict_of}
 use Rattle.score.specs.Apart.{same_to, difference_of}
@@ -54,7 +52,7 @@ strike_velocities s a i l note velocity e =
     let b : EventIn (event.Strike note velocity) = rw e at (accepted_events s a.records a.accepted i l) in
     (strike-from_1 (record_at s i) note velocity e, b.1)
 
-voice_strikes : (s : VoiceState) (n : ℕ) → is_voice s ≡ true → n ≤ 127 → note_on_of s n 0 ≡ record { answer = Done 0; voice = sounding_of (pressed_of s.keys n 0) n 0 }
+voice_strikes : (s : VoiceState) (n : ℕ) → is_voice s ≡ true → n ≤ 127 → note_on_of s n 0 ≡ record { answer = Ok 0; state = sounding_of (pressed_of s.keys n 0) n 0 }
 voice_strikes s n ok l = rw (ok, le-leb n 127 l) refl
 
 -- ---- the calls
@@ -111,11 +109,11 @@ velocity_nought =
 abbrev pub hushed : List ℕ
 hushed = begins ++ 0x56 ∷ 0x4E ∷ 0x88 ∷ 0x13 ∷ 0 ∷ 0 ∷ 1 ∷ 69 ∷ 0 ∷ 0 ∷ []
 
-pub hushed_accepted : verdict_of hushed ≡ Accepted 2
+pub hushed_accepted : verdict_of hushed ≡ Ok 2
 unfolding position_at mark_right kind_right fields_right in_order faults_at faults_from faults_of verdict_of
 hushed_accepted = refl
 
-pub hushed_differs : difference_of edited hushed ≡ At 5000
+pub hushed_differs : difference_of edited hushed ≡ Some 5000
 unfolding position_at same_to first_passing
 hushed_differs = refl
 

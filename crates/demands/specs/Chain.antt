@@ -7,12 +7,10 @@
 -- the position already reached leaves the score accepted, and the call is 10. That every call answers 0 includes that
 -- every score is accepted; `DoneExactly` says when every call answers 0.
 -- The argument is in proofs/Chain.antt. Definitions only.
-use Rattle.std.specs.Prelude.{◌≡◌, true, List, [], ◌∷◌, ◌++◌, ℕ, ◌+◌, ◌≤◌, ◌<◌, T, length, Float}
+use Rattle.std.specs.Prelude.{◌≡◌, true, List, [], ◌∷◌, ◌++◌, ℕ, ◌+◌, ◌≤◌, ◌<◌, T, length, Float, Ok}
 use Rattle.std.specs.Float.{binary64}
 use Rattle.std.specs.Float.Ieee.{fits}
-use Rattle.answers.specs.declared.Answer.{Answer}
-use Rattle.answers.specs.declared.Answer.TheVariants.{Done}
-use Rattle.score.specs.declared.Verdict.TheVariants.{Accepted}
+use Rattle.answers.specs.Answer.{Answer}
 use Rattle.score.specs.Record.{count_of, position_at}
 use Rattle.score.specs.Score.{verdict_of}
 use Rattle.state.specs.declared.Settings.{Settings}
@@ -58,7 +56,7 @@ last_of s (x ∷ xs) = last_of x.score xs
 -- every call answers 0, with as many samples written as its part has
 abbrev pub done_all : List Step → List Answer
 done_all [] = []
-done_all (x ∷ xs) = Done (length x.part) ∷ done_all xs
+done_all (x ∷ xs) = Ok (length x.part) ∷ done_all xs
 
 abbrev pub AllDone : Settings → State → ℕ → List Step → Type 0
 AllDone g v p xs = (chain_from g v p xs).answers ≡ done_all xs
@@ -76,7 +74,7 @@ Grows s (x ∷ xs) = Grown s x.score × Grows x.score xs
 -- every score is accepted
 abbrev pub AllAccepted : List Step → Type 0
 AllAccepted [] = Unit
-AllAccepted (x ∷ xs) = ((n : ℕ) × (verdict_of x.score ≡ Accepted n)) × AllAccepted xs
+AllAccepted (x ∷ xs) = ((n : ℕ) × (verdict_of x.score ≡ Ok n)) × AllAccepted xs
 
 -- no record that t has after those of s has a position below p
 abbrev pub NoneBelow : List ℕ → List ℕ → ℕ → Type 0
@@ -90,7 +88,7 @@ NoneAddedBelow s p (x ∷ xs) = NoneBelow s x.score p × NoneAddedBelow x.score 
 -- ---- what is promised, of a chain from the fresh state at 0
 -- the chain leaves the samples and end state of one render of the last score, and that render is done
 pub record OneRender (g : Settings) (xs : List Step) (b : Buffers) : Type 0 where
-  pub done : (render_of g (last_of [] xs) b).result.answer ≡ Done (samples_of xs)
+  pub done : (render_of g (last_of [] xs) b).result.answer ≡ Ok (samples_of xs)
   pub heard : (chain_from g (fresh_of 0) 0 xs).heard ≡ (render_of g (last_of [] xs) b).left.heard
   pub state : (chain_from g (fresh_of 0) 0 xs).state ≡ (render_of g (last_of [] xs) b).result.state
 

@@ -6,8 +6,7 @@
 -- has not one entry a section". 02, R-6: the order of a page's refusals, which specs/Page.antt of `page` quotes.
 -- For each call a table says when each of its refusals is given; a refusal that the call never gives has the condition
 -- ⊥. The number and place of each refusal stand in specs/Numbers.antt of `answers`. Definitions only.
-use Rattle.std.specs.Prelude.{◌≡◌, Bool, true, false, ◌&&◌, List, [], ◌⊎◌, ℕ, ◌%◌, ◌<◌, leb, eqb, length, Float}
-use Rattle.answers.specs.declared.Answer.TheVariants.{Done, Refused}
+use Rattle.std.specs.Prelude.{◌≡◌, Bool, true, false, ◌&&◌, List, [], ◌⊎◌, ℕ, ◌%◌, ◌<◌, leb, eqb, length, Float, Err, Ok, Some}
 use Rattle.answers.specs.declared.Refusal.{Refusal}
 use Rattle.answers.specs.declared.Refusal.TheVariants.{Score, NewScore, Setting, Size, StartEntry, Argument, GivenState, EditFrame, NotThere, Full, Page, Edit}
 use Rattle.answers.specs.declared.ScoreFault.{ScoreFault}
@@ -15,9 +14,7 @@ use Rattle.answers.specs.declared.ScoreFault.TheVariants.{Length, Mark, Kind, Fi
 use Rattle.judging.specs.Judging.{Passed, part_fits}
 use Rattle.page.specs.Page.{edits_in, edit_byte, record_of, score_after, new_score_of, edit_refusals, AllMade, rewrites, paged, edit_of}
 use Rattle.render.specs.Calls.{says, render_of, leaves_part, is_given, continue_of}
-use Rattle.rerender.specs.declared.Plan.TheVariants.{From}
 use Rattle.rerender.specs.Rerender.{plan_of, is_start, count_for, rerender_of}
-use Rattle.score.specs.declared.Verdict.TheVariants.{Accepted, Faulty}
 use Rattle.score.specs.Apart.{bytes_at}
 use Rattle.score.specs.Record.{count_of}
 use Rattle.score.specs.Score.{mark_right, kind_right, fields_right, all_right, in_order, verdict_of}
@@ -52,14 +49,14 @@ FaultWhen s (Field i) = Reaches s i × (mark_right s i ≡ true) × (kind_right 
 FaultWhen s (Order i) = Reaches s i × (all_right s i ≡ true) × (in_order s i ≡ false)
 
 pub record FaultsExactly (s : List ℕ) : Type 0 where
-  pub faulty : (fault : ScoreFault) → Exactly (verdict_of s ≡ Faulty fault) (FaultWhen s fault)
+  pub faulty : (fault : ScoreFault) → Exactly (verdict_of s ≡ Err fault) (FaultWhen s fault)
 
 -- ---- the calls
 -- when a render gives each refusal
 abbrev pub RenderWhen : Settings → Bool → List ℕ → Refusal → Type 0
 RenderWhen g room s Setting = settings_ok g ≡ false
 RenderWhen g room s Size = (settings_ok g ≡ true) × (room ≡ false)
-RenderWhen g room s (Score fault) = (settings_ok g ≡ true) × (room ≡ true) × (verdict_of s ≡ Faulty fault)
+RenderWhen g room s (Score fault) = (settings_ok g ≡ true) × (room ≡ true) × (verdict_of s ≡ Err fault)
 RenderWhen g room s (NewScore fault) = ⊥
 RenderWhen g room s StartEntry = ⊥
 RenderWhen g room s Argument = ⊥
@@ -91,8 +88,8 @@ abbrev pub RerenderWhen : Settings → Bool → List ℕ → List ℕ → ℕ �
 RerenderWhen g room old new n shelf Setting = RenderWhen g room old Setting
 RerenderWhen g room old new n shelf Size = RenderWhen g room old Size
 RerenderWhen g room old new n shelf (Score fault) = RenderWhen g room old (Score fault)
-RerenderWhen g room old new n shelf (NewScore fault) = Passed g room old × (verdict_of new ≡ Faulty fault)
-RerenderWhen g room old new n shelf StartEntry = Passed g room old × (verdict_of new ≡ Accepted (count_of new)) × ((m : ℕ) × (plan_of old new n ≡ From m) × (is_start new m shelf ≡ false))
+RerenderWhen g room old new n shelf (NewScore fault) = Passed g room old × (verdict_of new ≡ Err fault)
+RerenderWhen g room old new n shelf StartEntry = Passed g room old × (verdict_of new ≡ Ok (count_of new)) × ((m : ℕ) × (plan_of old new n ≡ Some m) × (is_start new m shelf ≡ false))
 RerenderWhen g room old new n shelf Argument = ⊥
 RerenderWhen g room old new n shelf GivenState = ⊥
 RerenderWhen g room old new n shelf (EditFrame i) = ⊥
@@ -153,33 +150,33 @@ PageWhen g room old es space n shelf (NotThere i) =
 PageWhen g room old es space n shelf (Full i) = PageBegun g room old es space × Judged old es i × (edit_byte es i 2 ≡ 1) × (count_of (score_after old es i) ≡ 4096)
 PageWhen g room old es space n shelf StartEntry =
     PageBegun g room old es space × AllMade old es
-    × ((m : ℕ) × (plan_of old (new_score_of old es) n ≡ From m) × (is_start (new_score_of old es) m shelf ≡ false))
+    × ((m : ℕ) × (plan_of old (new_score_of old es) n ≡ Some m) × (is_start (new_score_of old es) m shelf ≡ false))
 PageWhen g room old es space n shelf (NewScore fault) = ⊥
 PageWhen g room old es space n shelf Argument = ⊥
 PageWhen g room old es space n shelf GivenState = ⊥
 
 -- ---- what is claimed of each call
 pub record RenderExactly (g : Settings) (s : List ℕ) (b : Buffers) : Type 0 where
-  pub refused : (why : Refusal) → Exactly ((render_of g s b).result.answer ≡ Refused why) (RenderWhen g (room_in b) s why)
-  pub done : Exactly ((render_of g s b).result.answer ≡ Done (samples_in b)) (Passed g (room_in b) s)
-  pub as_it_came : (why : Refusal) → (render_of g s b).result.answer ≡ Refused why → render_of g s b ≡ leaves (says (Refused why) (fresh_of 0)) b
+  pub refused : (why : Refusal) → Exactly ((render_of g s b).result.answer ≡ Err why) (RenderWhen g (room_in b) s why)
+  pub done : Exactly ((render_of g s b).result.answer ≡ Ok (samples_in b)) (Passed g (room_in b) s)
+  pub as_it_came : (why : Refusal) → (render_of g s b).result.answer ≡ Err why → render_of g s b ≡ leaves (says (Err why) (fresh_of 0)) b
 
 pub record ContinueExactly (g : Settings) (s : List ℕ) (v : State) (p : ℕ) (part : List Float) : Type 0 where
-  pub refused : (why : Refusal) → Exactly ((continue_of g s v p part).result.answer ≡ Refused why) (ContinueWhen g (part_fits p (length part)) s (is_given s p v) why)
-  pub done : Exactly ((continue_of g s v p part).result.answer ≡ Done (length part)) (Passed g (part_fits p (length part)) s × (is_given s p v ≡ true))
-  pub as_it_came : (why : Refusal) → (continue_of g s v p part).result.answer ≡ Refused why → continue_of g s v p part ≡ leaves_part (says (Refused why) v) part
+  pub refused : (why : Refusal) → Exactly ((continue_of g s v p part).result.answer ≡ Err why) (ContinueWhen g (part_fits p (length part)) s (is_given s p v) why)
+  pub done : Exactly ((continue_of g s v p part).result.answer ≡ Ok (length part)) (Passed g (part_fits p (length part)) s × (is_given s p v ≡ true))
+  pub as_it_came : (why : Refusal) → (continue_of g s v p part).result.answer ≡ Err why → continue_of g s v p part ≡ leaves_part (says (Err why) v) part
 
 pub record RerenderExactly (g : Settings) (old new : List ℕ) (b : Buffers) : Type 0 where
-  pub refused : (why : Refusal) → Exactly ((rerender_of g old new b).result ≡ Refused why) (RerenderWhen g (room_in b) old new (samples_in b) b.stored why)
+  pub refused : (why : Refusal) → Exactly ((rerender_of g old new b).result ≡ Err why) (RerenderWhen g (room_in b) old new (samples_in b) b.stored why)
   pub done : Exactly
-      ((rerender_of g old new b).result ≡ Done (count_for g old new (plan_of old new (samples_in b)) b))
-      (Passed g (room_in b) old × (verdict_of new ≡ Accepted (count_of new)) × ((m : ℕ) → plan_of old new (samples_in b) ≡ From m → is_start new m b.stored ≡ true))
-  pub as_it_came : (why : Refusal) → (rerender_of g old new b).result ≡ Refused why → rerender_of g old new b ≡ leaves (Refused why) b
+      ((rerender_of g old new b).result ≡ Ok (count_for g old new (plan_of old new (samples_in b)) b))
+      (Passed g (room_in b) old × (verdict_of new ≡ Ok (count_of new)) × ((m : ℕ) → plan_of old new (samples_in b) ≡ Some m → is_start new m b.stored ≡ true))
+  pub as_it_came : (why : Refusal) → (rerender_of g old new b).result ≡ Err why → rerender_of g old new b ≡ leaves (Err why) b
 
 pub record PageExactly (g : Settings) (old es : List ℕ) (b : Buffers) (space : List ℕ) : Type 0 where
-  pub refused : (why : Refusal) → Exactly ((edit_of g old es b space).result.answer ≡ Refused why) (PageWhen g (room_in b) old es space (samples_in b) b.stored why)
+  pub refused : (why : Refusal) → Exactly ((edit_of g old es b space).result.answer ≡ Err why) (PageWhen g (room_in b) old es space (samples_in b) b.stored why)
   pub done : Exactly
-      ((edit_of g old es b space).result.answer ≡ Done (count_for g old (new_score_of old es) (plan_of old (new_score_of old es) (samples_in b)) b))
+      ((edit_of g old es b space).result.answer ≡ Ok (count_for g old (new_score_of old es) (plan_of old (new_score_of old es) (samples_in b)) b))
       (PageBegun g (room_in b) old es space × AllMade old es
-      × ((m : ℕ) → plan_of old (new_score_of old es) (samples_in b) ≡ From m → is_start (new_score_of old es) m b.stored ≡ true))
-  pub as_it_came : (why : Refusal) → (edit_of g old es b space).result.answer ≡ Refused why → edit_of g old es b space ≡ rewrites (paged (Refused why) 0) b space
+      × ((m : ℕ) → plan_of old (new_score_of old es) (samples_in b) ≡ Some m → is_start (new_score_of old es) m b.stored ≡ true))
+  pub as_it_came : (why : Refusal) → (edit_of g old es b space).result.answer ≡ Err why → edit_of g old es b space ≡ rewrites (paged (Err why) 0) b space

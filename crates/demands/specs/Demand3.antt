@@ -18,15 +18,12 @@
 -- false of it, and `nothing_stops` says so of a call.
 -- The demand's mark is the first sample of a section: sample 4096 m for section m, whose entry is entry m.
 -- The argument is in proofs/Demand3.antt, that of `parted` and `first_change` in proofs/First.antt. Definitions only.
-use Rattle.std.specs.Prelude.{◌≡◌, true, false, List, ℕ, suc, ◌+◌, ◌-◌, ◌*◌, ◌/◌, ◌%◌, min, ◌≤◌, ◌<◌, T, length, take}
+use Rattle.std.specs.Prelude.{◌≡◌, true, false, List, ℕ, suc, ◌+◌, ◌-◌, ◌*◌, ◌/◌, ◌%◌, min, ◌≤◌, ◌<◌, T, length, take, Err, Ok, Some}
 use Rattle.std.specs.Float.{binary64}
 use Rattle.std.specs.Float.Ieee.{fits}
 use Rattle.sections.specs.Outcome.{Buffers, samples_in, Lent, before, onward, Outcome, leaves}
-use Rattle.answers.specs.declared.Answer.{Answer}
-use Rattle.answers.specs.declared.Answer.TheVariants.{Done, Refused}
+use Rattle.answers.specs.Answer.{Answer}
 use Rattle.answers.specs.declared.Refusal.TheVariants.{StartEntry}
-use Rattle.score.specs.declared.Difference.TheVariants.{At}
-use Rattle.score.specs.declared.Verdict.TheVariants.{Accepted}
 use Rattle.score.specs.Score.{verdict_of}
 use Rattle.score.specs.Below.{count_below}
 use Rattle.score.specs.Apart.{difference_of, records_from}
@@ -39,14 +36,13 @@ use Rattle.state.specs.Heart.{state_from}
 use Rattle.state.specs.ButActed.{SameButActed}
 use Rattle.render.specs.declared.Rendered.{Rendered}
 use Rattle.render.specs.Calls.{render_of}
-use Rattle.rerender.specs.declared.Plan.TheVariants.{From}
 use Rattle.rerender.specs.Rerender.{plan_of, start_of, rerender_of}
 
 -- ---- what is asked
 -- an accepted score
 pub record Taken (s : List ℕ) : Type 0 where
   pub records : ℕ
-  pub accepted : verdict_of s ≡ Accepted records
+  pub accepted : verdict_of s ≡ Ok records
 
 -- two accepted scores, under settings in their domain; the sustain is a value of an f64, as every f64 of the code is
 pub record Edit (g : Settings) (old new : List ℕ) : Type 0 where
@@ -126,8 +122,8 @@ pub record Recounted (new : List ℕ) (k : ℕ) (came left : Buffers) : Type 0 w
 -- done, with the count of the samples from start to stop, and so not 8. What lies between is the new render's. What
 -- lies before section m stays as it came, and what lies from section k on but for the numbers of records acted
 pub record RemadeTo (g : Settings) (new : List ℕ) (m k : ℕ) (b : Buffers) (o : Outcome Answer) : Type 0 where
-  pub counted : o.result ≡ Done (min (k * section_size) (samples_in b) - m * section_size)
-  pub never_8 : o.result ≡ Refused StartEntry → ⊥
+  pub counted : o.result ≡ Ok (min (k * section_size) (samples_in b) - m * section_size)
+  pub never_8 : o.result ≡ Err StartEntry → ⊥
   pub are_rendered : (r : BuffersOf (samples_in b)) → onward m (before k o.left) ≡ onward m (before k (left_in g new r).left)
   pub stay : before m o.left ≡ before m b
   pub recounted : Recounted new k b o.left
@@ -159,40 +155,40 @@ pub record StartRemade (g : Settings) (old new : List ℕ) (m : ℕ) (b : Buffer
 
 -- where nothing stopped the call
 pub record MadeToTheEnd (g : Settings) (new : List ℕ) (m : ℕ) (b : Buffers) (o : Outcome Answer) : Type 0 where
-  pub counted : o.result ≡ Done (samples_in b - m * section_size)
+  pub counted : o.result ≡ Ok (samples_in b - m * section_size)
   pub left : FromSection b (left_in g new) m o.left
 
 -- ---- the claim
 pub record Demand3 : Type 0 where
   -- the first changed record is at p, before the end, and all from the section that holds p on is what a render of the
   -- old score left there
-  pub re_rendered : (g : Settings) (old new : List ℕ) → Edit g old new → (b : Buffers) → Lent b → (p : ℕ) → difference_of old new ≡ At p → p < samples_in b
+  pub re_rendered : (g : Settings) (old new : List ℕ) → Edit g old new → (b : Buffers) → Lent b → (p : ℕ) → difference_of old new ≡ Some p → p < samples_in b
       → (r : BuffersOf (samples_in b)) → onward (p / section_size) b ≡ onward (p / section_size) (left_in g old r).left → Remade g old new (p / section_size) b (rerender_of g old new b)
   -- the entries from that section on are
-  pub entries_alone : (g : Settings) (old new : List ℕ) → Edit g old new → (b : Buffers) → Lent b → (p : ℕ) → difference_of old new ≡ At p → p < samples_in b
+  pub entries_alone : (g : Settings) (old new : List ℕ) → Edit g old new → (b : Buffers) → Lent b → (p : ℕ) → difference_of old new ≡ Some p → p < samples_in b
       → (r : BuffersOf (samples_in b)) → (onward (p / section_size) b).stored ≡ (onward (p / section_size) (left_in g old r).left).stored → EntriesRemade g old new (p / section_size) b (rerender_of g old new b)
   -- the entry of that section is
-  pub start_alone : (g : Settings) (old new : List ℕ) → Edit g old new → (b : Buffers) → Lent b → (p : ℕ) → difference_of old new ≡ At p → p < samples_in b
+  pub start_alone : (g : Settings) (old new : List ℕ) → Edit g old new → (b : Buffers) → Lent b → (p : ℕ) → difference_of old new ≡ Some p → p < samples_in b
       → (r : BuffersOf (samples_in b)) → entry_at b.stored (p / section_size) ≡ entry_at (left_in g old r).left.stored (p / section_size) → StartRemade g old new (p / section_size) b (rerender_of g old new b)
   -- what is no state stops nothing: if no later entry is one, the start entry is enough
-  pub nothing_stops : (g : Settings) (old new : List ℕ) → Edit g old new → (b : Buffers) → Lent b → (p : ℕ) → difference_of old new ≡ At p → p < samples_in b
+  pub nothing_stops : (g : Settings) (old new : List ℕ) → Edit g old new → (b : Buffers) → Lent b → (p : ℕ) → difference_of old new ≡ Some p → p < samples_in b
       → (r : BuffersOf (samples_in b)) → entry_at b.stored (p / section_size) ≡ entry_at (left_in g old r).left.stored (p / section_size)
       → ((j : ℕ) → p / section_size < j → j < entries_for (samples_in b) → is_entry (entry_at b.stored j) ≡ false) → MadeToTheEnd g new (p / section_size) b (rerender_of g old new b)
   -- after a call over such entries, stopped or not, an edit of the new score that starts at that section or later is
   -- not refused with 8
-  pub never_8_after : (g : Settings) (old new next : List ℕ) → Edit g old new → Taken next → (b : Buffers) → Lent b → (p : ℕ) → difference_of old new ≡ At p → p < samples_in b
+  pub never_8_after : (g : Settings) (old new next : List ℕ) → Edit g old new → Taken next → (b : Buffers) → Lent b → (p : ℕ) → difference_of old new ≡ Some p → p < samples_in b
       → (r : BuffersOf (samples_in b)) → (onward (p / section_size) b).stored ≡ (onward (p / section_size) (left_in g old r).left).stored
-      → (q : ℕ) → difference_of new next ≡ At q → q < samples_in b → p / section_size ≤ q / section_size → (rerender_of g new next (rerender_of g old new b).left).result ≡ Refused StartEntry → ⊥
+      → (q : ℕ) → difference_of new next ≡ Some q → q < samples_in b → p / section_size ≤ q / section_size → (rerender_of g new next (rerender_of g old new b).left).result ≡ Err StartEntry → ⊥
   -- whatever the start entry is: a call that is done with count c stopped where the entries say
-  pub stops_first : (g : Settings) (old new : List ℕ) (b : Buffers) (m : ℕ) → plan_of old new (samples_in b) ≡ From m → (c : ℕ) → (rerender_of g old new b).result ≡ Done c
+  pub stops_first : (g : Settings) (old new : List ℕ) (b : Buffers) (m : ℕ) → plan_of old new (samples_in b) ≡ Some m → (c : ℕ) → (rerender_of g old new b).result ≡ Ok c
       → StopsOver g old new m (start_of b.stored m) b (entries_for (m * section_size + c))
   -- there is one stop
   pub one_stop : (g : Settings) (old new : List ℕ) (m n j k : ℕ) → StopsAt g old new m n j → StopsAt g old new m n k → j ≡ k
   -- the scores are equal, whatever shelf and summary hold
-  pub equal : (g : Settings) (s : List ℕ) → Edit g s s → (b : Buffers) → Lent b → rerender_of g s s b ≡ leaves (Done 0) b
+  pub equal : (g : Settings) (s : List ℕ) → Edit g s s → (b : Buffers) → Lent b → rerender_of g s s b ≡ leaves (Ok 0) b
   -- the first change lies at or past the end, whatever shelf and summary hold
-  pub late : (g : Settings) (old new : List ℕ) → Edit g old new → (b : Buffers) → Lent b → (p : ℕ) → difference_of old new ≡ At p → samples_in b ≤ p → rerender_of g old new b ≡ leaves (Done 0) b
+  pub late : (g : Settings) (old new : List ℕ) → Edit g old new → (b : Buffers) → Lent b → (p : ℕ) → difference_of old new ≡ Some p → samples_in b ≤ p → rerender_of g old new b ≡ leaves (Ok 0) b
   -- no other case exists: accepted scores that are not equal differ at a position, which is that of the first changed
   -- record
-  pub parted : (old new : List ℕ) → Taken old → Taken new → (old ≡ new → ⊥) → (p : ℕ) × (difference_of old new ≡ At p)
-  pub first_change : (old new : List ℕ) → Taken old → Taken new → (p : ℕ) → difference_of old new ≡ At p → FirstChange old new p
+  pub parted : (old new : List ℕ) → Taken old → Taken new → (old ≡ new → ⊥) → (p : ℕ) × (difference_of old new ≡ Some p)
+  pub first_change : (old new : List ℕ) → Taken old → Taken new → (p : ℕ) → difference_of old new ≡ Some p → FirstChange old new p

@@ -7,20 +7,17 @@
 -- The claim also covers buffers that hold what a render left only from section m on (`HonestFrom`), where no edit lies
 -- before section m: what lies before section m stays as it came.
 -- The argument is in proofs/Edits.antt. Definitions only.
-use Rattle.std.specs.Prelude.{◌≡◌, true, List, [], ◌∷◌, ℕ, ◌-◌, ◌*◌, min, ◌≤◌, ◌<◌, T}
+use Rattle.std.specs.Prelude.{◌≡◌, true, List, [], ◌∷◌, ℕ, ◌-◌, ◌*◌, min, ◌≤◌, ◌<◌, T, Ok, Some}
 use Rattle.std.specs.Float.{binary64}
 use Rattle.std.specs.Float.Ieee.{fits}
 use Rattle.sections.specs.Outcome.{Buffers, samples_in, Lent, onward, Outcome, leaves}
-use Rattle.answers.specs.declared.Answer.{Answer}
-use Rattle.answers.specs.declared.Answer.TheVariants.{Done}
-use Rattle.score.specs.declared.Difference.TheVariants.{At}
+use Rattle.answers.specs.Answer.{Answer}
 use Rattle.score.specs.Apart.{difference_of}
 use Rattle.shelf.specs.Shelf.{section_size}
 use Rattle.state.specs.declared.Settings.{Settings}
 use Rattle.state.specs.Settings.{settings_ok}
 use Rattle.render.specs.Calls.{made_of}
 use Rattle.judging.specs.Judging.{most_samples}
-use Rattle.rerender.specs.declared.Plan.TheVariants.{From}
 use Rattle.rerender.specs.Rerender.{plan_of, count_for, rerender_of}
 use Rattle.demands.specs.Demand3.{Taken, Edit, BuffersOf, left_in, StopsAt, FromSection}
 
@@ -42,7 +39,7 @@ last_score old (new ∷ rest) = last_score new rest
 -- each call is done, with the count that its plan has in what a render of the score before leaves in n samples
 unfoldable pub all_counted : Settings → List ℕ → List (List ℕ) → ℕ → List Answer
 all_counted g old [] n = []
-all_counted g old (new ∷ rest) n = Done (count_for g old new (plan_of old new n) (made_of g old n).left) ∷ all_counted g new rest n
+all_counted g old (new ∷ rest) n = Ok (count_for g old new (plan_of old new n) (made_of g old n).left) ∷ all_counted g new rest n
 
 -- ---- what is asked
 -- every score is accepted
@@ -53,7 +50,7 @@ AllTaken (s ∷ rest) = Taken s × AllTaken rest
 -- no edit that changes a record before sample n changes one before section m
 abbrev pub NoneBefore : ℕ → ℕ → List ℕ → List (List ℕ) → Type 0
 NoneBefore m n old [] = Unit
-NoneBefore m n old (new ∷ rest) = ((p : ℕ) → difference_of old new ≡ At p → p < n → m * section_size ≤ p) × NoneBefore m n new rest
+NoneBefore m n old (new ∷ rest) = ((p : ℕ) → difference_of old new ≡ Some p → p < n → m * section_size ≤ p) × NoneBefore m n new rest
 
 -- from section m on, the buffers hold what the render left in some buffers of the same size; before section m, anything
 pub record HonestFrom {R : Type 0} (b : Buffers) (render : BuffersOf (samples_in b) → Outcome R) (m : ℕ) : Type 0 where
@@ -84,11 +81,11 @@ pub record EditedWhole (g : Settings) (old : List ℕ) (news : List (List ℕ)) 
 pub record CountIs (g : Settings) (old new : List ℕ) (m n : ℕ) : Type 0 where
   pub stop_section : ℕ
   pub stops : StopsAt g old new m n stop_section
-  pub count-is : count_for g old new (From m) (made_of g old n).left ≡ min (stop_section * section_size) n - m * section_size
+  pub count-is : count_for g old new (Some m) (made_of g old n).left ≡ min (stop_section * section_size) n - m * section_size
 
 -- ---- the claim
 pub record AnyEdits : Type 0 where
   pub over_rubbish : (g : Settings) (old : List ℕ) (news : List (List ℕ)) (m : ℕ) (b : Buffers) → Editing g old news m b → Edited g old news m b (edits_from g old news b)
   pub from_a_render : (g : Settings) → settings_ok g ≡ true → T (fits binary64 g.adsr.sustain) → (old : List ℕ) (news : List (List ℕ)) → Taken old → AllTaken news → (n : ℕ) (r : BuffersOf n)
       → EditedWhole g old news n (edits_from g old news (left_in g old r).left)
-  pub counts : (g : Settings) (old new : List ℕ) → Edit g old new → (n : ℕ) → n ≤ most_samples → (m : ℕ) → plan_of old new n ≡ From m → CountIs g old new m n
+  pub counts : (g : Settings) (old new : List ℕ) → Edit g old new → (n : ℕ) → n ≤ most_samples → (m : ℕ) → plan_of old new n ≡ Some m → CountIs g old new m n

@@ -8,11 +8,9 @@
 -- That an event does what the original's calls do, with the envelope's note_on skipped where a note was active, is
 -- `calls_act` in `state`'s proofs/Calls.antt. The arguments are in proofs/Joined.antt of the crate `state` and in
 -- proofs/JoinedNotes.antt. Definitions only.
-use Rattle.std.specs.Prelude.{◌≡◌, cond, List, [], ◌∷◌, ◌++◌, ℕ, zero, suc, ◌+◌}
+use Rattle.std.specs.Prelude.{◌≡◌, cond, List, [], ◌∷◌, ◌++◌, ℕ, zero, suc, ◌+◌, Option, Some, None}
 use Rattle.voice.specs.Keys.{fresh_keys, lifted_of}
 use Rattle.voice.specs.Voice.{is_released}
-use Rattle.voice.specs.declared.keys.ActiveNote.{ActiveNote}
-use Rattle.voice.specs.declared.keys.ActiveNote.TheVariants.{Silent, Note}
 use Rattle.envelope.specs.Stages.{triggered_of, released_of}
 use Rattle.envelope.specs.Stages as envelope
 use Rattle.envelope.specs.declared.Envelope.{Envelope}
@@ -44,7 +42,7 @@ seventeen = strikes 40 16 ++ event.Strike 60 100 ∷ []
 
 -- the note that sounds, how many keys are held, and the envelope
 pub record Heard : Type 0 where
-  pub active : ActiveNote
+  pub active : Option ℕ
   pub held : ℕ
   pub envelope : Envelope
 
@@ -52,28 +50,28 @@ pub record Heard : Type 0 where
 abbrev pub heard_after : Settings → State → Envelope → List Event → Heard
 heard_after g v e es = let u = act_all g (with_envelope v e) es in record { active = u.keys.active; held = u.keys.count; envelope = u.envelope }
 
-abbrev pub hears : ActiveNote → ℕ → Envelope → Heard
+abbrev pub hears : Option ℕ → ℕ → Envelope → Heard
 hears active held e = record { active = active; held = held; envelope = e }
 
 -- what events do to any envelope e; `examples` below takes g with Joined, and v with no key down and no note active
 pub record JoinedExamples (g : Settings) (v : State) (e : Envelope) : Type 0 where
   -- a first key
-  pub first : heard_after g v e (event.Strike 60 100 ∷ []) ≡ hears (Note 60) 1 (triggered_of e)
+  pub first : heard_after g v e (event.Strike 60 100 ∷ []) ≡ hears (Some 60) 1 (triggered_of e)
   -- a second key at the same sample
-  pub second : heard_after g v e (event.Strike 60 100 ∷ event.Strike 62 100 ∷ []) ≡ hears (Note 62) 2 (triggered_of e)
+  pub second : heard_after g v e (event.Strike 60 100 ∷ event.Strike 62 100 ∷ []) ≡ hears (Some 62) 2 (triggered_of e)
   -- (k) after 40 to 55 on, 60 joins, and is not held; 60 off: 55 sounds
-  pub seventeenth : heard_after g (act_all g v (strikes 40 16)) e (event.Strike 60 100 ∷ []) ≡ hears (Note 60) 16 e
-  pub falls_back : heard_after g (act_all g v seventeen) e (event.Lift 60 ∷ []) ≡ hears (Note 55) 16 e
+  pub seventeenth : heard_after g (act_all g v (strikes 40 16)) e (event.Strike 60 100 ∷ []) ≡ hears (Some 60) 16 e
+  pub falls_back : heard_after g (act_all g v seventeen) e (event.Lift 60 ∷ []) ≡ hears (Some 55) 16 e
   -- (l) instead 40 to 55 off: none is held, 60 sounds; 62 on joins it
-  pub none-held : heard_after g (act_all g v seventeen) e (lifts 40 16) ≡ hears (Note 60) 0 e
-  pub joins_with_none-held : heard_after g (act_all g v (seventeen ++ lifts 40 16)) e (event.Strike 62 100 ∷ []) ≡ hears (Note 62) 1 e
+  pub none-held : heard_after g (act_all g v seventeen) e (lifts 40 16) ≡ hears (Some 60) 0 e
+  pub joins_with_none-held : heard_after g (act_all g v (seventeen ++ lifts 40 16)) e (event.Strike 62 100 ∷ []) ≡ hears (Some 62) 1 e
   -- while 60 sounds and is held: after 60 off and then 62 on the envelope is released and then triggered; after 62 on
   -- and then 60 off it is as it was; also after 60 on again; after a reset and then 62 on it is fresh and then
   -- triggered
-  pub off_then_on : heard_after g (act_all g v (strikes 60 1)) e (event.Lift 60 ∷ event.Strike 62 100 ∷ []) ≡ hears (Note 62) 1 (triggered_of (released_of e))
-  pub on_then_off : heard_after g (act_all g v (strikes 60 1)) e (event.Strike 62 100 ∷ event.Lift 60 ∷ []) ≡ hears (Note 62) 1 e
-  pub the_same_again : heard_after g (act_all g v (strikes 60 1)) e (event.Strike 60 100 ∷ []) ≡ hears (Note 60) 2 e
-  pub reset_then_on : heard_after g (act_all g v (strikes 60 1)) e (event.Reset ∷ event.Strike 62 100 ∷ []) ≡ hears (Note 62) 1 (triggered_of envelope.fresh_of)
+  pub off_then_on : heard_after g (act_all g v (strikes 60 1)) e (event.Lift 60 ∷ event.Strike 62 100 ∷ []) ≡ hears (Some 62) 1 (triggered_of (released_of e))
+  pub on_then_off : heard_after g (act_all g v (strikes 60 1)) e (event.Strike 62 100 ∷ event.Lift 60 ∷ []) ≡ hears (Some 62) 1 e
+  pub the_same_again : heard_after g (act_all g v (strikes 60 1)) e (event.Strike 60 100 ∷ []) ≡ hears (Some 60) 2 e
+  pub reset_then_on : heard_after g (act_all g v (strikes 60 1)) e (event.Reset ∷ event.Strike 62 100 ∷ []) ≡ hears (Some 62) 1 (triggered_of envelope.fresh_of)
 
 -- ---- the claim
 pub record JoinedNotes : Type 0 where
@@ -81,8 +79,8 @@ pub record JoinedNotes : Type 0 where
   pub struck : (g : Settings) → g.keying ≡ Struck → (v : State) (note velocity : ℕ) → act_of g v (event.Strike note velocity) ≡ always_triggered v note velocity
   -- joined, with no note active: 01's rule too. With a note active, whichever: all four fields of the envelope stay,
   -- and all other fields of the state are as struck
-  pub joined_to-none : (g : Settings) → g.keying ≡ Joined → (v : State) → v.keys.active ≡ Silent → (note velocity : ℕ) → act_of g v (event.Strike note velocity) ≡ always_triggered v note velocity
-  pub joined_to_a_note : (g : Settings) → g.keying ≡ Joined → (v : State) (n : ℕ) → v.keys.active ≡ Note n → (note velocity : ℕ)
+  pub joined_to-none : (g : Settings) → g.keying ≡ Joined → (v : State) → v.keys.active ≡ None → (note velocity : ℕ) → act_of g v (event.Strike note velocity) ≡ always_triggered v note velocity
+  pub joined_to_a_note : (g : Settings) → g.keying ≡ Joined → (v : State) (n : ℕ) → v.keys.active ≡ Some n → (note velocity : ℕ)
       → act_of g v (event.Strike note velocity) ≡ with_envelope (always_triggered v note velocity) v.envelope
   -- an off releases the envelope where the voice's note_off says released, and else leaves it; no fall back triggers
   pub lift-releases : (g : Settings) (v : State) (note : ℕ) → (act_of g v (event.Lift note)).envelope ≡ cond (is_released (lifted_of v.keys note).off) (released_of v.envelope) v.envelope

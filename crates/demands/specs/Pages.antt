@@ -13,14 +13,12 @@
 -- the two scores leaves (`is-one-rerender`), so what Demand 3 says of a re-render holds for it. What its count is, in
 -- the words of two renders, `counts` of specs/Edits.antt says.
 -- The argument is in proofs/Pages.antt. Definitions only.
-use Rattle.std.specs.Prelude.{◌≡◌, true, List, [], ◌∷◌, ◌++◌, ℕ, zero, suc, ◌*◌, ◌%◌, ◌≤◌, ◌<◌, T, length, get_or, take, drop}
+use Rattle.std.specs.Prelude.{◌≡◌, true, List, [], ◌∷◌, ◌++◌, ℕ, zero, suc, ◌*◌, ◌%◌, ◌≤◌, ◌<◌, T, length, get_or, take, drop, Err, Ok, Some}
 use Rattle.std.specs.Float.{binary64}
 use Rattle.std.specs.Float.Ieee.{fits}
-use Rattle.answers.specs.declared.Answer.{Answer}
-use Rattle.answers.specs.declared.Answer.TheVariants.{Done, Refused}
+use Rattle.answers.specs.Answer.{Answer}
 use Rattle.answers.specs.declared.Refusal.{Refusal}
 use Rattle.sections.specs.Outcome.{Buffers, samples_in, Outcome}
-use Rattle.score.specs.declared.Difference.TheVariants.{At}
 use Rattle.score.specs.declared.Record.{Record}
 use Rattle.score.specs.Record.{Valid, encode_of, blank, encode_all}
 use Rattle.score.specs.Score.{IsScore}
@@ -64,7 +62,7 @@ score_over old (es ∷ rest) = score_over (new_score_of old es) rest
 -- done, with the count of one re-render of the old score into the new one after a render of the old one in n samples,
 -- and with the bytes of the new score
 abbrev pub once_paged : Settings → List ℕ → List ℕ → ℕ → Paged
-once_paged g old new n = paged (Done (count_for g old new (plan_of old new n) (made_of g old n).left)) (length new)
+once_paged g old new n = paged (Ok (count_for g old new (plan_of old new n) (made_of g old n).left)) (length new)
 
 unfoldable pub all_paged : Settings → List ℕ → List (List ℕ) → ℕ → List Paged
 all_paged g old [] n = []
@@ -130,8 +128,8 @@ pub record PagesOfOne (g : Settings) (old es : List ℕ) (n : ℕ) (chain : Rewr
 pub record BesideRerender (new : List ℕ) (space : List ℕ) (c : Outcome Answer) (o : Rewritten Paged) : Type 0 where
   pub same_answer : o.result.answer ≡ c.result
   pub same_left : o.left ≡ c.left
-  pub written : (count : ℕ) → c.result ≡ Done count → (o.result.bytes ≡ length new) × (o.space ≡ new ++ drop (length new) space)
-  pub kept : (why : Refusal) → c.result ≡ Refused why → (o.result.bytes ≡ 0) × (o.space ≡ space)
+  pub written : (count : ℕ) → c.result ≡ Ok count → (o.result.bytes ≡ length new) × (o.space ≡ new ++ drop (length new) space)
+  pub kept : (why : Refusal) → c.result ≡ Err why → (o.result.bytes ≡ 0) × (o.space ≡ space)
 
 -- a list of one edit can be made, and leaves the score of these records
 pub record Makes (old es : List ℕ) (records : List Record) : Type 0 where
@@ -163,7 +161,7 @@ pub record PagesOfEdits : Type 0 where
   -- edits that together leave the old score, such as none, or that lie past the end: the score is written, and nothing
   -- else
   pub equal : (g : Settings) (old es : List ℕ) (b : Buffers) (space : List ℕ) → first_refusals g old es b space ≡ [] → AllMade old es → new_score_of old es ≡ old
-      → edit_of g old es b space ≡ rewrites (paged (Done 0) (length (new_score_of old es))) b (new_score_of old es ++ drop (length (new_score_of old es)) space)
+      → edit_of g old es b space ≡ rewrites (paged (Ok 0) (length (new_score_of old es))) b (new_score_of old es ++ drop (length (new_score_of old es)) space)
   pub late : (g : Settings) (old es : List ℕ) (b : Buffers) (space : List ℕ) → first_refusals g old es b space ≡ [] → AllMade old es
-      → (p : ℕ) → difference_of old (new_score_of old es) ≡ At p → samples_in b ≤ p
-      → edit_of g old es b space ≡ rewrites (paged (Done 0) (length (new_score_of old es))) b (new_score_of old es ++ drop (length (new_score_of old es)) space)
+      → (p : ℕ) → difference_of old (new_score_of old es) ≡ Some p → samples_in b ≤ p
+      → edit_of g old es b space ≡ rewrites (paged (Ok 0) (length (new_score_of old es))) b (new_score_of old es ++ drop (length (new_score_of old es)) space)

@@ -8,12 +8,11 @@
 -- That a summary stays right needs no finite sample; that it then tells the largest does, and every sample that a
 -- render or a re-render makes is finite. 02, R-12: "nothing else from the stop on is written". Demand 3 over the
 -- summary is in specs/Demand3.antt. The argument is in proofs/Peaks.antt. Definitions only.
-use Rattle.std.specs.Prelude.{◌≡◌, List, ℕ, suc, ◌+◌, ◌*◌, ◌≤◌, ◌<◌, T, length, get_or, take, drop, Float}
+use Rattle.std.specs.Prelude.{◌≡◌, List, ℕ, suc, ◌+◌, ◌*◌, ◌≤◌, ◌<◌, T, length, get_or, take, drop, Float, Err, None, Ok, Some}
 use Rattle.std.specs.Float.{nan, binary64}
 use Rattle.std.specs.Float.Ieee.{fits, lt, le, eq}
 use Rattle.std.specs.Float.Ieee.Scale.{finite}
 use Rattle.floats.specs.Double.{zero64}
-use Rattle.answers.specs.declared.Answer.TheVariants.{Done, Refused}
 use Rattle.answers.specs.declared.Refusal.{Refusal}
 use Rattle.peaks.specs.Peaks.{magnitude_of, sample_at, magnitude_at, IsMagnitude}
 use Rattle.shelf.specs.Shelf.{section_size, entries_for}
@@ -21,7 +20,6 @@ use Rattle.sections.specs.Outcome.{Summary, Buffers, samples_in, before, onward}
 use Rattle.sections.specs.Summary.{summary_of}
 use Rattle.state.specs.declared.Settings.{Settings}
 use Rattle.render.specs.Calls.{render_of}
-use Rattle.rerender.specs.declared.Plan.TheVariants.{Nothing, From}
 use Rattle.rerender.specs.Rerender.{plan_of, rerender_of}
 
 -- ---- what a summary tells of the samples xs
@@ -72,16 +70,16 @@ pub record PeaksBesideTheSound : Type 0 where
   pub silent : (xs : List Float) → AllFinite xs → (j : ℕ) → j < entries_for (length xs) → ((k : ℕ) → InSection xs j k → T (eq (sample_at xs k) zero64))
       → (get_or (summary_of xs).magnitudes j nan ≡ zero64) × (get_or (summary_of xs).numbers j 0 ≡ j * section_size)
   -- a render that is done makes finite samples, and leaves a right summary, which so tells of its output
-  pub render-finite : (g : Settings) → T (fits binary64 g.adsr.sustain) → (s : List ℕ) (b : Buffers) (k : ℕ) → (render_of g s b).result.answer ≡ Done k → AllFinite (render_of g s b).left.heard
-  pub render-right : (g : Settings) (s : List ℕ) (b : Buffers) (k : ℕ) → (render_of g s b).result.answer ≡ Done k → IsRight (render_of g s b).left
-  pub render-told : (g : Settings) → T (fits binary64 g.adsr.sustain) → (s : List ℕ) (b : Buffers) (k : ℕ) → (render_of g s b).result.answer ≡ Done k → Tells (render_of g s b).left.heard (render_of g s b).left.summary
+  pub render-finite : (g : Settings) → T (fits binary64 g.adsr.sustain) → (s : List ℕ) (b : Buffers) (k : ℕ) → (render_of g s b).result.answer ≡ Ok k → AllFinite (render_of g s b).left.heard
+  pub render-right : (g : Settings) (s : List ℕ) (b : Buffers) (k : ℕ) → (render_of g s b).result.answer ≡ Ok k → IsRight (render_of g s b).left
+  pub render-told : (g : Settings) → T (fits binary64 g.adsr.sustain) → (s : List ℕ) (b : Buffers) (k : ℕ) → (render_of g s b).result.answer ≡ Ok k → Tells (render_of g s b).left.heard (render_of g s b).left.summary
   -- the k samples that a re-render makes from section m on are finite, its summary is right for their sections,
   -- whatever came, and samples and summary after them stay as they came
-  pub rerender-finite : (g : Settings) → T (fits binary64 g.adsr.sustain) → (old new : List ℕ) (b : Buffers) (m : ℕ) → plan_of old new (samples_in b) ≡ From m → (k : ℕ) → (rerender_of g old new b).result ≡ Done k
+  pub rerender-finite : (g : Settings) → T (fits binary64 g.adsr.sustain) → (old new : List ℕ) (b : Buffers) (m : ℕ) → plan_of old new (samples_in b) ≡ Some m → (k : ℕ) → (rerender_of g old new b).result ≡ Ok k
       → AllFinite (take k (onward m (rerender_of g old new b).left).heard)
-  pub rerender-right : (g : Settings) (old new : List ℕ) (b : Buffers) (m : ℕ) → plan_of old new (samples_in b) ≡ From m → (k : ℕ) → (rerender_of g old new b).result ≡ Done k
+  pub rerender-right : (g : Settings) (old new : List ℕ) (b : Buffers) (m : ℕ) → plan_of old new (samples_in b) ≡ Some m → (k : ℕ) → (rerender_of g old new b).result ≡ Ok k
       → IsRightBetween m (entries_for (m * section_size + k)) (rerender_of g old new b).left
-  pub rerender-stops : (g : Settings) (old new : List ℕ) (b : Buffers) (m : ℕ) → plan_of old new (samples_in b) ≡ From m → (k : ℕ) → (rerender_of g old new b).result ≡ Done k
+  pub rerender-stops : (g : Settings) (old new : List ℕ) (b : Buffers) (m : ℕ) → plan_of old new (samples_in b) ≡ Some m → (k : ℕ) → (rerender_of g old new b).result ≡ Ok k
       → SameAfter (entries_for (m * section_size + k)) (rerender_of g old new b).left b
   -- so, whatever the answer, a summary that came right stays right, finite samples stay finite, and a summary that told
   -- the truth of finite samples tells it of the finished output
@@ -90,8 +88,8 @@ pub record PeaksBesideTheSound : Type 0 where
   pub stays-told : (g : Settings) → T (fits binary64 g.adsr.sustain) → (old new : List ℕ) (b : Buffers) → AllFinite b.heard → Tells b.heard b.summary → Tells (rerender_of g old new b).left.heard (rerender_of g old new b).left.summary
   -- what lies before the start is not touched, whatever the answer; where the plan is nothing or the call is refused,
   -- nothing is touched
-  pub untouched : (g : Settings) (old new : List ℕ) (b : Buffers) (m : ℕ) → plan_of old new (samples_in b) ≡ From m → before m (rerender_of g old new b).left ≡ before m b
-  pub untouched-whole : (g : Settings) (old new : List ℕ) (b : Buffers) → plan_of old new (samples_in b) ≡ Nothing → (rerender_of g old new b).left ≡ b
-  pub untouched-refused : (g : Settings) (old new : List ℕ) (b : Buffers) (why : Refusal) → (rerender_of g old new b).result ≡ Refused why → (rerender_of g old new b).left ≡ b
+  pub untouched : (g : Settings) (old new : List ℕ) (b : Buffers) (m : ℕ) → plan_of old new (samples_in b) ≡ Some m → before m (rerender_of g old new b).left ≡ before m b
+  pub untouched-whole : (g : Settings) (old new : List ℕ) (b : Buffers) → plan_of old new (samples_in b) ≡ None → (rerender_of g old new b).left ≡ b
+  pub untouched-refused : (g : Settings) (old new : List ℕ) (b : Buffers) (why : Refusal) → (rerender_of g old new b).result ≡ Err why → (rerender_of g old new b).left ≡ b
   -- what lies before a section and what lies from it on are all that there is
   pub cut : (m : ℕ) (b c : Buffers) → before m b ≡ before m c → onward m b ≡ onward m c → b ≡ c

@@ -9,13 +9,12 @@
 -- 02, R-7: "With depth 0 the samples equal the old ones as numbers". Here to the bit, for 0 and -0: a render under
 -- depth 0 has the samples without tremolo, and they are the same under any two LFOs of depth 0.
 -- The arguments are in proofs/Tremolo.antt. Definitions only.
-use Rattle.std.specs.Prelude.{◌≡◌, true, false, List, ℕ, ◌+◌, ◌<◌, T, length, get_or, Float}
+use Rattle.std.specs.Prelude.{◌≡◌, true, false, List, ℕ, ◌+◌, ◌<◌, T, length, get_or, Float, Ok}
 use Rattle.std.specs.Float.{nan, binary64}
 use Rattle.std.specs.Float.Ieee.{fits}
 use Rattle.runs.specs.Runs.{listed}
 use Rattle.floats.specs.Range.{within}
 use Rattle.floats.specs.Double.{◌⊗◌, zero64}
-use Rattle.answers.specs.declared.Answer.TheVariants.{Done}
 use Rattle.answers.specs.Outcome.{Outcome}
 use Rattle.domain.specs.Domain.{is_radians}
 use Rattle.waveform.specs.declared.Radians.{Radians}
@@ -25,7 +24,6 @@ use Rattle.lfo.specs.declared.Processed.{Processed}
 use Rattle.lfo.specs.Lfo.{process_of}
 use Rattle.tremolo.specs.declared.Lfo.{Lfo}
 use Rattle.tremolo.specs.Tremolo.{lfo_at, factor_of}
-use Rattle.score.specs.declared.Verdict.TheVariants.{Accepted}
 use Rattle.score.specs.Score.{verdict_of}
 use Rattle.state.specs.declared.Settings.{Settings}
 use Rattle.state.specs.declared.State.{State}
@@ -52,7 +50,7 @@ NoneReduced s n k = (i : ℕ) → 0 < i → i < k → reduces_at s (n + i) ≡ f
 
 -- ---- what is promised of k samples from sample n on, and of the call over xs
 pub record Ported (g : Settings) (s : List ℕ) (n : ℕ) (v : State) (k : ℕ) (xs : List Float) : Type 0 where
-  pub done : (ported_of g s n v xs).result.answer ≡ Done k
+  pub done : (ported_of g s n v xs).result.answer ≡ Ok k
   pub values : (ported_of g s n v xs).lent ≡ listed (λ (i : ℕ). lfo_at g.lfo (lfo_step_of g) (heard_at g s n v i).lfo.0) k
   pub samples : samples_from g s n v k ≡ listed (λ (i : ℕ). dry_of g (heard_at g s n v i) ⊗ factor_of g.lfo.depth (get_or (ported_of g s n v xs).lent i nan)) k
   pub phase : (ported_of g s n v xs).result.block.phase ≡ radians (reduce_of (state_from g s n v k).lfo.0)
@@ -63,7 +61,7 @@ pub record LfoIsPorted : Type 0 where
   pub from_any : (g : Settings) → settings_ok g ≡ true → (s : List ℕ) (n : ℕ) (v : State) → T (is_radians (begun g s n v).lfo.0) → (k : ℕ) → 0 < k → NoneReduced s n k
       → (xs : List Float) → length xs ≡ k → Ported g s n v k xs
   -- so at every sample of a render of an accepted score
-  pub in_a_render : (g : Settings) → settings_ok g ≡ true → T (fits binary64 g.adsr.sustain) → (s : List ℕ) (m : ℕ) → verdict_of s ≡ Accepted m → (n k : ℕ) → 0 < k → NoneReduced s n k
+  pub in_a_render : (g : Settings) → settings_ok g ≡ true → T (fits binary64 g.adsr.sustain) → (s : List ℕ) (m : ℕ) → verdict_of s ≡ Ok m → (n k : ℕ) → 0 < k → NoneReduced s n k
       → (xs : List Float) → length xs ≡ k → Ported g s n (state_from g s 0 (fresh_of 0) n) k xs
 
 -- ---- the claim on depth 0
@@ -74,7 +72,7 @@ pub record IsDepth0 (depth : Float) : Type 0 where
 
 -- of the first k samples of a render of an accepted score
 pub record Depth0IsDry : Type 0 where
-  pub samples : (g : Settings) → settings_ok g ≡ true → T (fits binary64 g.adsr.sustain) → IsDepth0 g.lfo.depth → (s : List ℕ) (m : ℕ) → verdict_of s ≡ Accepted m
+  pub samples : (g : Settings) → settings_ok g ≡ true → T (fits binary64 g.adsr.sustain) → IsDepth0 g.lfo.depth → (s : List ℕ) (m : ℕ) → verdict_of s ≡ Ok m
       → (k : ℕ) → samples_from g s 0 (fresh_of 0) k ≡ listed (λ (i : ℕ). dry_of g (heard_at g s 0 (fresh_of 0) i)) k
-  pub any_lfo : (g : Settings) (l : Lfo) → settings_ok g ≡ true → settings_ok (with_tremolo g l) ≡ true → T (fits binary64 g.adsr.sustain) → IsDepth0 g.lfo.depth → IsDepth0 l.depth → (s : List ℕ) (m : ℕ) → verdict_of s ≡ Accepted m
+  pub any_lfo : (g : Settings) (l : Lfo) → settings_ok g ≡ true → settings_ok (with_tremolo g l) ≡ true → T (fits binary64 g.adsr.sustain) → IsDepth0 g.lfo.depth → IsDepth0 l.depth → (s : List ℕ) (m : ℕ) → verdict_of s ≡ Ok m
       → (k : ℕ) → samples_from g s 0 (fresh_of 0) k ≡ samples_from (with_tremolo g l) s 0 (fresh_of 0) k

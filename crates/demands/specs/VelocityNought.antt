@@ -8,11 +8,10 @@
 -- "`VoiceState` itself keeps the Rust's behaviour": the voice's own `note_on` strikes with any velocity, and so does
 -- the event `Strike`; no record gives that event with velocity 0. The arguments are in proofs/ButReleases.antt of the
 -- crate `state` and in proofs/VelocityNought.antt. Definitions only.
-use Rattle.std.specs.Prelude.{◌≡◌, true, List, ℕ, ◌≤◌, ◌<◌, T, Float}
+use Rattle.std.specs.Prelude.{◌≡◌, true, List, ℕ, ◌≤◌, ◌<◌, T, Float, Ok}
 use Rattle.std.specs.Float.{binary64}
 use Rattle.std.specs.Float.Ieee.{fits}
 use Rattle.sections.specs.Outcome.{Buffers}
-use Rattle.answers.specs.declared.Answer.TheVariants.{Done}
 use Rattle.score.specs.declared.Record.{Record}
 use Rattle.score.specs.declared.Kind.TheVariants.{On, Off, Reset}
 use Rattle.score.specs.Record.{count_of, record_at}
@@ -43,7 +42,7 @@ pub record VelocityNought : Type 0 where
   -- every strike of an accepted score has a velocity from 1 to 127
   pub strike_velocities : (s : List ℕ) → Taken s → (i : ℕ) → i < count_of s → (note velocity : ℕ) → event_of (record_at s i) ≡ event.Strike note velocity → (1 ≤ velocity) × (velocity ≤ 127)
   -- the voice's own call with velocity 0: note n sounds, with velocity 0, and its key is pressed
-  pub voice_strikes : (s : VoiceState) (n : ℕ) → is_voice s ≡ true → n ≤ 127 → note_on_of s n 0 ≡ record { answer = Done 0; voice = sounding_of (pressed_of s.keys n 0) n 0 }
+  pub voice_strikes : (s : VoiceState) (n : ℕ) → is_voice s ≡ true → n ≤ 127 → note_on_of s n 0 ≡ record { answer = Ok 0; state = sounding_of (pressed_of s.keys n 0) n 0 }
   -- the same states and samples are made, from every state and position
   pub states : (s t : List ℕ) → SameButReleases s t → (g : Settings) (n : ℕ) (v : State) (k : ℕ) → state_from g s n v k ≡ state_from g t n v k
   pub samples : (s t : List ℕ) → SameButReleases s t → (g : Settings) (n : ℕ) (v : State) (k : ℕ) → samples_from g s n v k ≡ samples_from g t n v k

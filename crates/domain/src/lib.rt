@@ -25,6 +25,7 @@ pub fn is_duty(duty: f64) -> bool
 }
 
 // Whether a rate is 8,000 to 192,000 Hz.
+#[tactic(auto, unfolding(crate::specs::Domain::is_rate))]
 pub fn is_rate(rate: u32) -> bool
     ensures { result ≡ is_rate rate }
 {

@@ -1,6 +1,4 @@
 -- What is proved of the envelope beyond its contracts, and the laws under it.
--- only a NaN is not equal to itself
-pub mod Itself
 -- what the block call leaves
 pub mod Outcomes
 -- a decay ends at a progress of 33 / 32 at the latest

@@ -1,13 +1,18 @@
 -- A lent part is scaled: one more value, a step within a stage, and Idle and Sustain. Assumes nothing.
 use mathlib.Core.Path.{◌≡◌, refl, sym, subst, ap, ◌∙◌}
-use mathlib.Core.Bool.{Bool, true, false, true≢false, ◌||◌}
-use mathlib.Core.List.{List}
-use Prim.Native.Nat.{ℕ, zero, suc, ◌+◌, ◌<◌, ◌≤◌}
+use mathlib.Core.Bool.{true, false, true≢false}
+use mathlib.Core.List.{List, map, append-nil}
+use Prim.Native.Nat.{ℕ, zero, suc, ◌+◌, ◌-◌, ◌<◌, ◌≤◌}
 use native.Mathlib.Numerals.{add-one}
 use native.Mathlib.Omega.{arith}
-use lib.ListN.{length, get_or, set, length-set}
+use native.Mathlib.Nat.{add-suc}
+use lib.ListN.{length, get_or, set, drop, length-set}
 use lib.Seq.{take-suc-set, take_all, get_or-set_other}
 use lib.Ieee.{Float, nan}
+use borrow.Rule.Slice.PartMut.{put_mid, mid_of}
+use Rattle.std.proofs.lemmas.List.{ext_get_or, get_or-map, get_or-drop, length-map, length-drop, take_rest, drop_all}
+use Rattle.runs.proofs.Listed.{listed-length, listed_at, listed_on, listed_same}
+use Rattle.envelope.proofs.RunsOn.{envelope_runs_on}
 use Rattle.runs.specs.Runs.{run, listed}
 use Rattle.floats.specs.Double.{◌⊗◌}
 use Rattle.envelope.specs.declared.Adsr.{Adsr}
@@ -15,22 +20,12 @@ use Rattle.envelope.specs.declared.Envelope.{Envelope}
 use Rattle.envelope.specs.declared.EnvelopeStage.{EnvelopeStage}
 use Rattle.envelope.specs.declared.EnvelopeStage.TheVariants.{Idle, Attack, Decay, Sustain, Release}
 use Rattle.envelope.specs.Stages.{rule_of, is_moving, grown_of, step_of}
-use Rattle.envelope.specs.Inner.{level_of, ends_at, next_in, ended_in, scaled_two, Reached}
+use Rattle.envelope.specs.Inner.{level_of, ends_at, next_in, ended_in, scaled_by, scaled_two, Reached}
 use Rattle.envelope.specs.Running.{envelope_from}
 use Rattle.envelope.specs.Scaled.{scaled_to, Scaled}
 
--- if `a || b` is false, a and b are
-pub neither : (a b : Bool) → (a || b) ≡ false → (a ≡ false) × (b ≡ false)
-neither false b e = (refl, e)
-neither true b e = absurd (true≢false e)
-
 none_below : {n : ℕ} → n < 0 → ⊥
 none_below l = omega arith
-
--- writing two values keeps the length
-pub two-long : (velocity : Float) (ys zs : List Float) (i : ℕ) (a b : Float) → zs ≡ scaled_two velocity ys i a b → length zs ≡ length ys
-unfolding scaled_two
-two-long velocity ys zs i a b z = ap length z ∙ simp length-set refl
 
 module _ (k : Adsr) (t : Float) (e : Envelope) where
   -- ---- before the end of a stage a step keeps the stage, and the time grows
@@ -111,3 +106,28 @@ module _ (k : Adsr) (t : Float) (e : Envelope) where
     scaled_all ys c i h b =
         let z : i ≡ length xs = omega (arith, b.long, b.within) in
         record { samples = sym (take_all i ys h) ∙ b.first ∙ ap (scaled_to k t e velocity xs) z; envelope = b.envelope ∙ ap (envelope_from k t e) z }
+
+-- ---- in Idle and Sustain all that is left is scaled by one level
+map-listed : (f : Float → Float) (zs : List Float) → map f zs ≡ listed (λ (n : ℕ). f (get_or zs n nan)) (length zs)
+map-listed f zs =
+    let g : ℕ → Float = λ n. f (get_or zs n nan) in
+    ext_get_or nan (map f zs) (listed g (length zs)) (length-map zs f ∙ sym (listed-length g (length zs)))
+    (λ n h. let l : n < length zs = subst (λ (m : ℕ). n < m) (length-map zs f) h in get_or-map f zs n nan nan l ∙ sym (listed_at g (length zs) n nan l))
+
+module _ (k : Adsr) (t : Float) (e : Envelope) (velocity : Float) (xs ys : List Float) (c d : Envelope) (i : ℕ) where
+  pub held_all : (zs : List Float) → is_moving c.stage ≡ false → i < length ys → Reached k t e velocity xs ys c i → d ≡ step_of k t c → zs ≡ map (scaled_by d.level velocity) (mid_of i (length ys - i) ys) → Scaled k t e velocity xs (put_mid i (length ys - i) ys zs) d
+  unfolding scaled_to
+  held_all zs h l b s z =
+      let n = length ys - i in
+      let at : ℕ → Float = λ j. get_or xs j nan ⊗ (envelope_from k t e (suc j)).level ⊗ velocity in
+      let whole : length xs ≡ i + n = omega (arith, b.long) in
+      let still : (j : ℕ) → d ≡ envelope_from k t e (i + suc j) = λ j.
+      s ∙ stands k t c h (suc j) (omega arith) ∙ ap (λ (x : Envelope). envelope_from k t x (suc j)) b.envelope ∙ sym (envelope_runs_on k t e i (suc j)) in
+      let f : Float → Float = scaled_by d.level velocity in
+      let g : ℕ → Float = λ j. f (get_or (drop i ys) j nan) in
+      let same : (j : ℕ) → j < n → g j ≡ at (i + j) = λ j m. rw (get_or-drop i ys j nan, b.others (i + j) (omega arith), ap (λ (x : Envelope). x.level) (still j), add-suc i j) refl in
+      let rest : zs ≡ listed (λ (j : ℕ). at (i + j)) n = z ∙ ap (map f) (take_rest ys i) ∙ map-listed f (drop i ys) ∙ ap (listed g) (length-drop i ys) ∙ listed_same g (λ j. at (i + j)) n same in
+      record {
+        samples = rw (b.first, rest, drop_all n (drop i ys) (omega (arith, length-drop i ys)), append-nil, whole) (sym (listed_on at i n));
+        envelope = still (length ys - suc i) ∙ ap (envelope_from k t e) (omega arith);
+      }

@@ -1,6 +1,7 @@
 -- After any number of samples, and after any calls from `new`, the envelope is accepted: both levels 0 to 1 and the
 -- time 0 to 11 s; and every level on the way is 0 to 1.
 -- The sustain setting is taken to be a value of an f64, as every f64 of a program is. Assumes nothing.
+use Rattle.std.specs.Prelude.{Ok}
 use mathlib.Core.Path.{◌≡◌}
 use mathlib.Core.Bool.{◌&&◌}
 use mathlib.Core.List.{List, [], ◌∷◌, ◌++◌}
@@ -13,7 +14,6 @@ use lib.Ieee.Fits.{and_l, and_r}
 use Rattle.floats.specs.Range.{within}
 use Rattle.floats.specs.Double.{zero64, one}
 use Rattle.runs.proofs.Laws.{repeated_keeps}
-use Rattle.answers.specs.declared.Answer.TheVariants.{Done}
 use Rattle.answers.specs.declared.Refusal.TheVariants.{Setting, Argument}
 use Rattle.answers.specs.Order.{unless}
 use Rattle.answers.specs.Outcome.{Outcome}
@@ -100,14 +100,14 @@ clash e = omega arith
 -- 01: "The level is proved to stay between 0 and 1 from a fresh envelope". Every level that `process` writes, after any
 -- calls from `new`, is 0 to 1
 pub process_in : (attack decay sustain release : Float) → T (fits binary64 sustain) → (cs : List Call) (rate : ℕ) (xs : List Float) (n : ℕ)
-    → (process_of (run (new_of attack decay sustain release) cs) rate xs).result.answer ≡ Done n → (i : ℕ) → i < length xs → T (within zero64 one (get_or (process_of (run (new_of attack decay sustain release) cs) rate xs).lent i nan))
+    → (process_of (run (new_of attack decay sustain release) cs) rate xs).result.answer ≡ Ok n → (i : ℕ) → i < length xs → T (within zero64 one (get_or (process_of (run (new_of attack decay sustain release) cs) rate xs).lent i nan))
 unfolding process_of
 process_in attack decay sustain release w cs rate xs n done i l =
     let b = run (new_of attack decay sustain release) cs in
     let g : Good b = calls_keep (new_of attack decay sustain release) cs (record { sustain_fits = w; accepted = fresh-accepted }) in
     let usable = is_adsr b.adsr && is_rate rate in
     let sound = is_envelope b.envelope in
-    first_keeps (unless usable Setting ++ unless sound Argument) _ _ (λ (o : Outcome Processed). o.result.answer ≡ Done n → T (within zero64 one (get_or o.lent i nan))) (λ why e. absurd (clash (cc)))
+    first_keeps (unless usable Setting ++ unless sound Argument) _ _ (λ (o : Outcome Processed). o.result.answer ≡ Ok n → T (within zero64 one (get_or o.lent i nan))) (λ why e. absurd (clash (cc)))
     (λ e d.
     let t = (both-held usable sound Setting Argument e).0 in
     levels_in b.adsr rate b.envelope (and_l (is_adsr b.adsr) (is_rate rate) t) g.sustain_fits (and_r (is_adsr b.adsr) (is_rate rate) t) g.accepted i (length xs) l)

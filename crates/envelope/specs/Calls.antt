@@ -4,9 +4,7 @@
 -- state by value as it came, and writes nowhere."
 -- The settings are judged by the one call that uses them, `process`; a given envelope is judged by every call that
 -- takes one. Definitions only.
-use Rattle.std.specs.Prelude.{◌&&◌, List, ◌++◌, ℕ, length, Float}
-use Rattle.answers.specs.declared.Answer.{Answer}
-use Rattle.answers.specs.declared.Answer.TheVariants.{Done, Refused}
+use Rattle.std.specs.Prelude.{◌&&◌, List, ◌++◌, ℕ, length, Float, Err, Ok}
 use Rattle.answers.specs.declared.Refusal.{Refusal}
 use Rattle.answers.specs.declared.Refusal.TheVariants.{Setting, Argument}
 use Rattle.answers.specs.Order.{unless, first_of}
@@ -19,16 +17,12 @@ use Rattle.envelope.specs.declared.Envelope.{Envelope}
 use Rattle.envelope.specs.declared.EnvelopeBlock.{EnvelopeBlock}
 use Rattle.envelope.specs.declared.Processed.{Processed}
 
--- done with n samples written, or the first refusal
-abbrev pub answer_or : List Refusal → ℕ → Answer
-answer_or refusals n = first_of refusals (λ (why : Refusal). Refused why) (Done n)
-
 abbrev pub with_envelope : EnvelopeBlock → Envelope → EnvelopeBlock
 with_envelope b e = record { adsr = b.adsr; envelope = e }
 
 -- done with the envelope e, or refused with the block as it came
 abbrev pub changed_of : EnvelopeBlock → Envelope → Processed
-changed_of b e = first_of (unless (is_envelope b.envelope) Argument) (λ (why : Refusal). record { answer = Refused why; block = b }) (record { answer = Done 0; block = with_envelope b e })
+changed_of b e = first_of (unless (is_envelope b.envelope) Argument) (λ (why : Refusal). record { answer = Err why; block = b }) (record { answer = Ok 0; block = with_envelope b e })
 
 -- ---- the calls
 -- a fresh envelope, and the settings as they are given
@@ -44,13 +38,16 @@ note_off_of b = changed_of b (released_of b.envelope)
 abbrev pub reset_of : EnvelopeBlock → Processed
 reset_of b = changed_of b fresh_of
 
--- 6 if the settings or the rate are outside their domain, then 9 if the envelope is outside its limits, and all is as
--- it came; else every lent number is a level
+-- 6 if the settings or the rate are outside their domain, then 9 if the envelope is outside its limits
+abbrev pub refusals_of : EnvelopeBlock → ℕ → List Refusal
+refusals_of b rate = unless (is_adsr b.adsr && is_rate rate) Setting ++ unless (is_envelope b.envelope) Argument
+
+-- the first refusal, and all is as it came; else every lent number is a level
 unfoldable pub process_of : EnvelopeBlock → ℕ → List Float → Outcome Processed
 process_of b rate xs =
     let n = length xs in
     let adsr = clamped_of b.adsr in
     let t = sample_time_of rate in
-    first_of (unless (is_adsr b.adsr && is_rate rate) Setting ++ unless (is_envelope b.envelope) Argument)
-    (λ (why : Refusal). leaves (record { answer = Refused why; block = b }) xs)
-    (leaves (record { answer = Done n; block = with_envelope b (envelope_from adsr t b.envelope n) }) (levels_from adsr t b.envelope n))
+    first_of (refusals_of b rate)
+    (λ (why : Refusal). leaves (record { answer = Err why; block = b }) xs)
+    (leaves (record { answer = Ok n; block = with_envelope b (envelope_from adsr t b.envelope n) }) (levels_from adsr t b.envelope n))

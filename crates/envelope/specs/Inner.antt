@@ -6,10 +6,12 @@ use Rattle.std.specs.Float.Ieee.{le}
 use Rattle.floats.specs.Double.{◌⊕◌, ◌⊗◌, zero64, one}
 use Rattle.envelope.specs.Stages.{release_floor, with_stage, attack_level, decay_level, release_level}
 use Rattle.envelope.specs.Running.{envelope_from}
-use Rattle.envelope.specs.Scaled.{scaled_to, Scaled}
+use Rattle.envelope.specs.Scaled.{scaled_to}
 use Rattle.envelope.specs.declared.Adsr.{Adsr}
 use Rattle.envelope.specs.declared.Envelope.{Envelope}
 use Rattle.envelope.specs.declared.EnvelopeStage.{EnvelopeStage}
+use Rattle.envelope.specs.declared.levels.Scaling.{Scaling}
+use Rattle.envelope.specs.declared.levels.Progress.{Progress}
 use Rattle.envelope.specs.declared.EnvelopeStage.TheVariants.{Idle, Attack, Decay, Sustain, Release}
 
 -- ---- a step
@@ -42,6 +44,10 @@ ended_in Sustain adsr t e = with_stage e Sustain adsr.sustain e.stage_time
 ended_in Release adsr t e = with_stage e Idle zero64 zero64
 
 -- ---- a part
+-- a value times a level times the velocity
+abbrev pub scaled_by : Float → Float → Float → Float
+scaled_by level velocity x = x ⊗ level ⊗ velocity
+
 -- values i and i + 1 of a part, each times its level times the velocity
 unfoldable pub scaled_two : Float → List Float → ℕ → Float → Float → List Float
 scaled_two velocity ys i a b = let once = set ys i (get_or ys i nan ⊗ a ⊗ velocity) in set once (i + 1) (get_or once (i + 1) nan ⊗ b ⊗ velocity)
@@ -59,6 +65,6 @@ pub record Reached (adsr : Adsr) (t : Float) (e : Envelope) (velocity : Float) (
 abbrev pub ScalesOn : Adsr → Float → Float → List Float → Envelope → ℕ → List Float → Envelope → ℕ → Type 0
 ScalesOn adsr t velocity ys c i zs d j = (e : Envelope) (xs : List Float) → Reached adsr t e velocity xs ys c i → Reached adsr t e velocity xs zs d j
 
--- from ys, c, i to the end of the part, which is then zs
-abbrev pub Finished : Adsr → Float → Float → List Float → Envelope → ℕ → List Float → Envelope → Type 0
-Finished adsr t velocity ys c i zs r = (e : Envelope) (xs : List Float) → Reached adsr t e velocity xs ys c i → Scaled adsr t e velocity xs zs r
+-- from ys and the progress p to zs and q, no further back and within the part
+abbrev pub Advances : Scaling → List Float → Progress → List Float → Progress → Type 0
+Advances by ys p zs q = (p.count ≤ q.count) × (q.count ≤ length zs) × ScalesOn by.adsr by.sample_time by.velocity ys p.envelope p.count zs q.envelope q.count

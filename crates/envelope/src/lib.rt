@@ -3,16 +3,14 @@
 // it alone in its state. Left out, as 01 says: `Block`, parameter names and modulation; and `prepare`.
 #![tactic(auto)]
 
-ghost use Rattle.std.specs.Prelude.{◌≡◌, not, ◌++◌, length};
-ghost use Rattle.std.specs.Float.Ieee.{is_nan};
-ghost use Rattle.envelope.specs.Limits.{is_adsr, is_envelope, clamp_of, clamped_of, sample_time_of};
-ghost use Rattle.envelope.specs.Stages.{with_stage, step_of, fresh_of, triggered_of, is_idle, released_of};
+ghost use Rattle.std.specs.Prelude.{◌≡◌, length};
+ghost use Rattle.envelope.specs.Limits.{is_adsr, is_envelope, clamped_of, sample_time_of};
+ghost use Rattle.envelope.specs.Stages.{with_stage, step_of, fresh_of, triggered_of, released_of};
 ghost use Rattle.envelope.specs.Inner.{level_of, ends_at, next_in, ended_in};
 ghost use Rattle.envelope.specs.Running.{Filled};
-ghost use Rattle.answers.specs.declared.Refusal.TheVariants.{Setting, Argument};
-ghost use Rattle.answers.specs.Order.{unless};
 ghost use Rattle.answers.specs.Outcome.{leaves};
-ghost use Rattle.envelope.specs.Calls.{answer_or, changed_of, new_of, note_on_of, note_off_of, reset_of, process_of};
+ghost use Rattle.answers.specs.Value.{value_or};
+ghost use Rattle.envelope.specs.Calls.{refusals_of, changed_of, new_of, note_on_of, note_off_of, reset_of, process_of};
 
 use answers::{Answer, Refusal};
 
@@ -101,18 +99,12 @@ impl EnvelopeBlock {
     pub fn process(self, rate: u32, out: &mut [f64]) -> Processed
         ensures { leaves result out.new ≡ process_of self rate out.old }
     {
-        let usable = is_adsr(self.adsr) & domain::is_rate(rate);
-        let sound = is_envelope(self.envelope);
-        let answer = judged(usable, sound, out.len());
-        let adsr = self.adsr;
-        let mut envelope = self.envelope;
-        if usable & sound {
-            envelope = fill(clamped(adsr), sample_time(rate), envelope, out);
+        let answer = judged(self, rate, out.len());
+        let mut block = self;
+        if answer.is_ok() {
+            block.envelope = fill(clamped(self.adsr), sample_time(rate), self.envelope, out);
         }
-        Processed {
-            answer,
-            block: EnvelopeBlock { adsr, envelope },
-        }
+        Processed { answer, block }
     }
 }
 
@@ -139,15 +131,14 @@ pub fn triggered(e: Envelope) -> Envelope
 pub fn released(e: Envelope) -> Envelope
     ensures { result ≡ released_of e }
 {
-    let stage = e.stage;
-    if is_idle(stage) {
+    if matches!(e.stage, EnvelopeStage::Idle) {
         return e;
     }
     Envelope {
         stage: EnvelopeStage::Release,
-        level: e.level,
         stage_time: 0.0,
         release_level: e.level,
+        ..e
     }
 }
 
@@ -155,10 +146,7 @@ pub fn released(e: Envelope) -> Envelope
 pub fn is_adsr(adsr: Adsr) -> bool
     ensures { result ≡ is_adsr adsr }
 {
-    is_number(adsr.attack)
-        & is_number(adsr.decay)
-        & is_number(adsr.sustain)
-        & is_number(adsr.release)
+    !adsr.attack.is_nan() & !adsr.decay.is_nan() & !adsr.sustain.is_nan() & !adsr.release.is_nan()
 }
 
 // Whether an envelope is within the shelf's limits.
@@ -170,15 +158,16 @@ pub fn is_envelope(e: Envelope) -> bool
         & floats::is_within(0.0, 11.0, e.stage_time)
 }
 
-// Times between 0.001 and 10 s, sustain between 0 and 1.
+// Times between 0.001 and 10 s, sustain between 0 and 1. `clamp` keeps a number between the bounds, -0 at a bound of 0
+// too, and a NaN.
 pub fn clamped(adsr: Adsr) -> Adsr
     ensures { result ≡ clamped_of adsr }
 {
     Adsr {
-        attack: clamp(0.001, 10.0, adsr.attack),
-        decay: clamp(0.001, 10.0, adsr.decay),
-        sustain: clamp(0.0, 1.0, adsr.sustain),
-        release: clamp(0.001, 10.0, adsr.release),
+        attack: adsr.attack.clamp(0.001, 10.0),
+        decay: adsr.decay.clamp(0.001, 10.0),
+        sustain: adsr.sustain.clamp(0.0, 1.0),
+        release: adsr.release.clamp(0.001, 10.0),
     }
 }
 
@@ -193,12 +182,12 @@ pub fn sample_time(rate: u32) -> f64
 pub fn step(adsr: Adsr, sample_time: f64, e: Envelope) -> Envelope
     ensures { result ≡ step_of adsr sample_time e }
 {
-    let stage = e.stage;
-    let next = next_in(stage, adsr, sample_time, e);
-    if ends_at(stage, adsr, next.level) {
-        return ended_in(stage, adsr, sample_time, e);
+    let next = next_in(e.stage, adsr, sample_time, e);
+    if ends_at(e.stage, adsr, next.level) {
+        ended_in(e.stage, adsr, sample_time, e)
+    } else {
+        next
     }
-    next
 }
 
 // The envelope after one sample that does not end the stage: the time grows by one sample.
@@ -209,7 +198,7 @@ fn next_in(stage: EnvelopeStage, adsr: Adsr, sample_time: f64, e: Envelope) -> E
         stage,
         level: level_in(stage, adsr, e),
         stage_time: e.stage_time + sample_time,
-        release_level: e.release_level,
+        ..e
     }
 }
 
@@ -260,19 +249,7 @@ fn with_stage(e: Envelope, stage: EnvelopeStage, level: f64, stage_time: f64) ->
         stage,
         level,
         stage_time,
-        release_level: e.release_level,
-    }
-}
-
-fn is_idle(stage: EnvelopeStage) -> bool
-    ensures { result ≡ is_idle stage }
-{
-    match stage {
-        EnvelopeStage::Idle => true,
-        EnvelopeStage::Attack => false,
-        EnvelopeStage::Decay => false,
-        EnvelopeStage::Sustain => false,
-        EnvelopeStage::Release => false,
+        ..e
     }
 }
 
@@ -281,64 +258,38 @@ fn fill(adsr: Adsr, sample_time: f64, e: Envelope, out: &mut [f64]) -> Envelope
     ensures { Filled adsr sample_time e (length out.old) out.new result }
 {
     let mut after = e;
-    let mut i = 0;
-    while i < out.len() {
+    for x in out.iter_mut() {
         after = step(adsr, sample_time, after);
-        out[i] = after.level;
-        i += 1;
+        *x = after.level;
     }
     after
 }
 
-// `f64::clamp`, for every number and a NaN: a number between the bounds is kept, -0 at a bound of 0 too.
-fn clamp(low: f64, high: f64, x: f64) -> f64
-    ensures { result ≡ clamp_of low high x }
+// 6 before 9, or done with the count.
+fn judged(block: EnvelopeBlock, rate: u32, count: usize) -> Answer
+    ensures { result ≡ value_or (refusals_of block rate) count }
 {
-    if x < low {
-        return low;
-    }
-    if x > high {
-        return high;
-    }
-    x
-}
-
-// Only a NaN is not equal to itself.
-fn is_number(x: f64) -> bool
-    ensures { result ≡ not (is_nan x) }
-{
-    x == x
-}
-
-// 6 before 9, or done.
-fn judged(usable: bool, sound: bool, count: usize) -> Answer
-    ensures { result ≡ answer_or (unless usable Setting ++ unless sound Argument) count }
-{
-    if usable {
-        if sound {
-            return Answer::Done(count);
-        }
-        return Answer::Refused(Refusal::Argument);
-    }
-    Answer::Refused(Refusal::Setting)
+    let usable = is_adsr(block.adsr) & domain::is_rate(rate);
+    answers::value_if(usable, Refusal::Setting, ())?;
+    answers::value_if(is_envelope(block.envelope), Refusal::Argument, count)
 }
 
 // Done with the envelope after the call, or refused with the block as it came.
 fn changed(before: EnvelopeBlock, after: Envelope) -> Processed
     ensures { result ≡ changed_of before after }
 {
-    let adsr = before.adsr;
     if is_envelope(before.envelope) {
-        return Processed {
-            answer: Answer::Done(0),
+        Processed {
+            answer: Ok(0),
             block: EnvelopeBlock {
-                adsr,
                 envelope: after,
+                ..before
             },
-        };
-    }
-    Processed {
-        answer: Answer::Refused(Refusal::Argument),
-        block: before,
+        }
+    } else {
+        Processed {
+            answer: Err(Refusal::Argument),
+            block: before,
+        }
     }
 }

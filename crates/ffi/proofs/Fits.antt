@@ -1,5 +1,6 @@
 -- Every answer that the desk packs fits its word: its number is below 2^8, its place below 2^24, its count below 2^32.
 -- Of a page of 2^24 edits or more only an answer that is done does. Assumes nothing.
+use Rattle.std.specs.Prelude.{Err, None, Ok, Option, Some, Result}
 use mathlib.Core.Path.{◌≡◌, sym, subst}
 use mathlib.Core.Bool.{Bool, true, false, cond, ◌&&◌}
 use mathlib.Core.List.{List, [], ◌++◌, map}
@@ -12,14 +13,12 @@ use lib.Ieee.{Float}
 use borrow.Author.Tests.{leb-true}
 use Rattle.sections.specs.Outcome.{Buffers, samples_in, room_in, Outcome}
 use Rattle.sections.proofs.Room.{in_room}
-use Rattle.answers.specs.declared.Answer.{Answer}
-use Rattle.answers.specs.declared.Answer.TheVariants.{Done, Refused}
+use Rattle.answers.specs.Answer.{Answer}
 use Rattle.answers.specs.declared.Refusal.{Refusal}
 use Rattle.answers.specs.declared.Refusal.TheVariants.{Score, NewScore, Setting, Size, StartEntry, Argument, GivenState, EditFrame, NotThere, Full, Page, Edit}
 use Rattle.answers.specs.declared.ScoreFault.{ScoreFault}
 use Rattle.answers.specs.declared.ScoreFault.TheVariants.{Length, Mark, Kind, Field, Order}
 use Rattle.answers.specs.declared.Numbers.{Numbers}
-use Rattle.answers.specs.declared.Value.{Value}
 use Rattle.answers.specs.Numbers.{fault_number, fault_place, refusal_number, refusal_place, numbers_of}
 use Rattle.answers.specs.Order.{unless, first_of}
 use Rattle.answers.specs.Value.{value_or}
@@ -34,8 +33,6 @@ use Rattle.page.proofs.Taken.{accepted-bytes, after-accepted, none_made}
 use Rattle.page.proofs.Calls.{outcome_done, begun, edit-decided}
 use Rattle.render.specs.declared.Rendered.{Rendered}
 use Rattle.render.specs.Calls.{made_of, render_of, continue_refusals}
-use Rattle.rerender.specs.declared.Plan.{Plan}
-use Rattle.rerender.specs.declared.Plan.TheVariants.{Nothing, From}
 use Rattle.rerender.specs.Rerender.{plan_of, is_start, stop_of, outcome_of, start_refusals, rerender_refusals, kept_of, rerender_of, count_for}
 use Rattle.rerender.proofs.Cases.{checks, all_checked}
 use Rattle.score.specs.Record.{count_of}
@@ -45,12 +42,9 @@ use Rattle.score.proofs.Codec.{both}
 use Rattle.state.specs.declared.Settings.{Settings}
 use Rattle.state.specs.Settings.{settings_ok}
 use Rattle.waveform.specs.Waveform.{is_waveform, value_of}
-use Rattle.ffi.specs.declared.Shape.{Shape}
-use Rattle.ffi.specs.declared.Shape.TheVariants as shape
-use Rattle.ffi.specs.declared.Choice.{Choice}
-use Rattle.ffi.specs.declared.Choice.TheVariants.{Known, Unknown}
 use Rattle.ffi.specs.Packed.{paged_numbers}
-use Rattle.ffi.specs.Ffi.{shape_of, single_for, single_of, is_given_in}
+use Rattle.ffi.specs.Ffi.{shape_of, single_for, answer_in, single_of, is_given_in}
+use Rattle.waveform.specs.declared.Waveform.{Waveform}
 
 pub record Fitting (n : Numbers) : Type 0 where
   pub number_fits : n.number < 256
@@ -85,10 +79,10 @@ refusal_number_lem (Full i) = (omega arith, omega arith)
 refusal_number_lem Page = (omega arith, omega arith)
 refusal_number_lem (Edit f) = let b = fault_number_lem f in (omega arith, omega (arith, b.1))
 
-pub done-fits : (n : ℕ) → n < 4294967296 → Fits (Done n)
+pub done-fits : (n : ℕ) → n < 4294967296 → Fits (Ok n)
 done-fits n h = record { number_fits = omega arith; place-fits = omega arith; count_fits = h }
 
-pub refused-fits : (r : Refusal) → refusal_place r ≤ 16777215 → Fits (Refused r)
+pub refused-fits : (r : Refusal) → refusal_place r ≤ 16777215 → Fits (Err r)
 refused-fits r h = record { number_fits = omega (arith, (refusal_number_lem r).1); place-fits = omega arith; count_fits = omega arith }
 
 -- ---- the places in a list of faults or of refusals: that of the first one, which is given, is at most n
@@ -157,24 +151,24 @@ judged-low g room s =
 
 -- ---- the calls
 -- an answer that is the first of such refusals, or done with a count below 2^32
-first_fits : (xs : List Refusal) → Placed xs → (n : ℕ) → (xs ≡ [] → n < 4294967296) → Fits (first_of xs Refused (Done n))
-first_fits xs low n h = first_holds Fits xs Refused (Done n) (λ why l. refused-fits why (low why l)) (λ none. done-fits n (h none))
+first_fits : (xs : List Refusal) → Placed xs → (n : ℕ) → (xs ≡ [] → n < 4294967296) → Fits (first_of xs Err (Ok n))
+first_fits xs low n h = first_holds Fits xs Err (Ok n) (λ why l. refused-fits why (low why l)) (λ none. done-fits n (h none))
 
-value-fits : (xs : List Refusal) → Placed xs → (x : Float) → Fits (value_or xs x).answer
-value-fits xs low x = first_holds (λ (v : Value). Fits v.answer) xs _ _ (λ why l. refused-fits why (low why l)) (λ none. done-fits 0 (omega arith))
+value-fits : (xs : List Refusal) → Placed xs → (x : Float) → Fits (answer_in (value_or xs x))
+value-fits xs low x = first_holds (λ (v : Result Float Refusal). Fits (answer_in v)) xs _ _ (λ why l. refused-fits why (low why l)) (λ none. done-fits 0 (omega arith))
 
 pub check-fits : (s : List ℕ) → Fits (answer_of s)
 unfolding answer_of
 check-fits s = first_fits (map Score (faults_of s)) (score-low s) 0 (λ none. omega arith)
 
-pub single-fits : (code : ℕ) (phase dt duty : Float) → Fits (single_of code phase dt duty).answer
+pub single-fits : (code : ℕ) (phase dt duty : Float) → Fits (answer_in (single_of code phase dt duty))
 single-fits code phase dt duty = go (shape_of code duty)
   where
-    go : (x : Shape) → Fits (single_for x phase dt).answer
-    go (shape.Known w) =
+    go : (x : Option Waveform) → Fits (answer_in (single_for x phase dt))
+    go (Some w) =
         value-fits (unless (is_waveform w) Setting ++ unless (is_phase phase dt) Argument)
         (append_low refusal_place (unless (is_waveform w) Setting) (unless (is_phase phase dt) Argument) (unless-low refusal_place (is_waveform w) Setting (omega arith)) (unless-low refusal_place (is_phase phase dt) Argument (omega arith))) (value_of w phase dt)
-    go shape.Unknown = refused-fits Setting (omega arith)
+    go None = refused-fits Setting (omega arith)
 
 pub render-fits : (g : Settings) (s : List ℕ) (b : Buffers) → Fits (render_of g s b).result.answer
 unfolding render_of
@@ -183,15 +177,15 @@ render-fits g s b =
     (λ none. done-fits (samples_in b) (omega (arith, (in_room b (all_passed g (room_in b) s none).sized).short)))
 
 -- a re-render, alone or after the edits of a page
-start_low : (new stored : List ℕ) (q : Plan) → Placed (start_refusals new q stored)
-start_low new stored Nothing = λ why h. absurd h
-start_low new stored (From m) = unless-low refusal_place (is_start new m stored) StartEntry (omega arith)
+start_low : (new stored : List ℕ) (q : Option ℕ) → Placed (start_refusals new q stored)
+start_low new stored None = λ why h. absurd h
+start_low new stored (Some m) = unless-low refusal_place (is_start new m stored) StartEntry (omega arith)
 
 module _ (g : Settings) (old new : List ℕ) (b : Buffers) where
-  run-count : (q : Plan) → room_in b ≡ true → count_for g old new q b < 4294967296
+  run-count : (q : Option ℕ) → room_in b ≡ true → count_for g old new q b < 4294967296
   unfolding stop_of
-  run-count Nothing h = omega arith
-  run-count (From m) h = omega (arith, (in_room b h).short)
+  run-count None h = omega arith
+  run-count (Some m) h = omega (arith, (in_room b h).short)
 
   pub rerender-fits : Fits (rerender_of g old new b).result
   unfolding rerender_of
@@ -233,7 +227,7 @@ module _ (g : Settings) (old es : List ℕ) (b : Buffers) (space : List ℕ) whe
   abbrev new : List ℕ
   new = new_score_of old es
 
-  abbrev plan : Plan
+  abbrev plan : Option ℕ
   plan = plan_of old new (samples_in b)
 
   abbrev first : List Refusal
@@ -279,18 +273,18 @@ module _ (g : Settings) (old es : List ℕ) (b : Buffers) (space : List ℕ) whe
   edit-fits h = first_holds (λ (o : Rewritten Paged). Fitting (said o)) (page_refusals g old es b space) (page.kept_of b space) made (λ why l. refused-fits why (page_low h why l)) made-fits
 
   -- however many edits there are
-  pub edit-done-fits : (n : ℕ) → (edit_of g old es b space).result.answer ≡ Done n → Fitting (said (edit_of g old es b space))
+  pub edit-done-fits : (n : ℕ) → (edit_of g old es b space).result.answer ≡ Ok n → Fitting (said (edit_of g old es b space))
   edit-done-fits n e = let c = edit-decided g old es b space in subst (λ (o : Rewritten Paged). Fitting (said o)) (sym (c.makes n e)) (made-fits (c.done n e))
 
 -- what a continuing call in words answers
-abbrev pub continue_says : Choice → List ℕ → List ℕ → ℕ → ℕ → Answer
-continue_says (Known g) s ws p n = first_of (continue_refusals g s (is_given_in s p ws) p n) Refused (Done n)
-continue_says Unknown s ws p n = Refused Setting
+abbrev pub continue_says : Option Settings → List ℕ → List ℕ → ℕ → ℕ → Answer
+continue_says (Some g) s ws p n = first_of (continue_refusals g s (is_given_in s p ws) p n) Err (Ok n)
+continue_says None s ws p n = Err Setting
 
-pub continue_fits : (c : Choice) (s ws : List ℕ) (p n : ℕ) → Fits (continue_says c s ws p n)
-continue_fits (Known g) s ws p n =
+pub continue_fits : (c : Option Settings) (s ws : List ℕ) (p n : ℕ) → Fits (continue_says c s ws p n)
+continue_fits (Some g) s ws p n =
     let judged = refusals_of g (part_fits p n) s in
     let given = unless (is_given_in s p ws) GivenState in
     first_fits (judged ++ given) (append_low refusal_place judged given (judged-low g (part_fits p n) s) (unless-low refusal_place (is_given_in s p ws) GivenState (omega arith))) n
     (λ none. let short : p + n ≤ most_samples = leb-true (p + n) most_samples (all_passed g (part_fits p n) s (none_both judged given none).0).sized in omega arith)
-continue_fits Unknown s ws p n = refused-fits Setting (omega arith)
+continue_fits None s ws p n = refused-fits Setting (omega arith)

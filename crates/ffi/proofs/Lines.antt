@@ -1,10 +1,10 @@
 -- No listing is empty, and none has 2^32 bytes: a record's line has at most 69 bytes, and a score has at most 4,096
 -- records. Assumes nothing.
+use Rattle.std.specs.Prelude.{Err}
 use mathlib.Core.List.{List}
 use Prim.Native.Nat.{ℕ, zero, suc, ◌*◌, ◌≤◌, ◌<◌}
 use native.Mathlib.Omega.{arith}
 use lib.ListN.{length, length-append}
-use Rattle.answers.specs.declared.Answer.TheVariants.{Refused}
 use Rattle.answers.specs.declared.Refusal.TheVariants.{Score}
 use Rattle.answers.specs.Numbers.{numbers_of}
 use Rattle.answers.proofs.Order.{first_holds}
@@ -33,7 +33,7 @@ lines_length s (suc n) = rw length-append (omega (arith, lines_length s n, line-
 pub listing_fits : (s : List ℕ) → length (listing_of s) < 4294967296
 listing_fits s =
     first_holds (λ (text : List ℕ). length text < 4294967296) (faults_of s) refused_text (accepted_text s (count_of s))
-    (λ f l. let m = numbers_of (Refused (Score f)) in simp length-append (omega (arith, twenty_digits m.number, twenty_digits m.place)))
+    (λ f l. let m = numbers_of (Err (Score f)) in simp length-append (omega (arith, twenty_digits m.number, twenty_digits m.place)))
     (λ none. simp length-append (omega (arith, twenty_digits (count_of s), lines_length s (count_of s), (accepted_all s (count_of s) (none-accepted s none)).few)))
 
 pub listing_starts : (s : List ℕ) → 0 < length (listing_of s)

@@ -1,5 +1,6 @@
 -- What a host reads in a word is what the call answered: number, place and count; of a page that is done, the bytes of
 -- the new score in the place. Assumes nothing.
+use Rattle.std.specs.Prelude.{Err, None, Ok, Option, Some}
 use mathlib.Core.Path.{◌≡◌, refl, sym, ap, ◌∙◌}
 use mathlib.Core.List.{List}
 use Prim.Native.Nat.{ℕ, ◌+◌, ◌*◌, ◌/◌, ◌%◌, ◌<◌}
@@ -7,8 +8,7 @@ use native.Mathlib.Omega.{arith}
 use lib.ListN.{length}
 use lib.Ieee.{Float}
 use Rattle.sections.specs.Outcome.{Buffers}
-use Rattle.answers.specs.declared.Answer.{Answer}
-use Rattle.answers.specs.declared.Answer.TheVariants.{Done, Refused}
+use Rattle.answers.specs.Answer.{Answer}
 use Rattle.answers.specs.declared.Refusal.TheVariants.{Setting, Size, Argument}
 use Rattle.answers.specs.declared.Numbers.{Numbers}
 use Rattle.answers.specs.Numbers.{numbers_of}
@@ -20,10 +20,8 @@ use Rattle.render.specs.Calls.{render_of, continue_refusals}
 use Rattle.rerender.specs.Rerender.{rerender_of}
 use Rattle.score.specs.Score.{answer_of}
 use Rattle.state.specs.declared.Settings.{Settings}
-use Rattle.ffi.specs.declared.Choice.{Choice}
-use Rattle.ffi.specs.declared.Choice.TheVariants.{Known, Unknown}
 use Rattle.ffi.specs.Packed.{word_of, packed_of, paged_numbers, packed_page, numbers_in}
-use Rattle.ffi.specs.Ffi.{Continued, check_of, single_of, rendered, rerendered, edited, is_given_in, made_in, kept_in, continue_in, continue_for}
+use Rattle.ffi.specs.Ffi.{Continued, check_of, answer_in, single_of, rendered, rerendered, edited, is_given_in, made_in, kept_in, continue_in, continue_for}
 use Rattle.ffi.proofs.Lines.{listing_fits}
 use Rattle.ffi.proofs.Fits.{Fitting, Fits, done-fits, refused-fits, check-fits, single-fits, render-fits, rerender-fits, edit-fits, edit-done-fits, continue_says, continue_fits}
 
@@ -59,12 +57,12 @@ read_back a f = numbers_back (numbers_of a) f
 pub check-reads : (s : List ℕ) → numbers_in (check_of s) ≡ numbers_of (answer_of s)
 check-reads s = read_back (answer_of s) (check-fits s)
 
-pub sample-reads : (code : ℕ) (phase dt duty : Float) → numbers_in (packed_of (single_of code phase dt duty).answer) ≡ numbers_of (single_of code phase dt duty).answer
-sample-reads code phase dt duty = read_back (single_of code phase dt duty).answer (single-fits code phase dt duty)
+pub sample-reads : (code : ℕ) (phase dt duty : Float) → numbers_in (packed_of (answer_in (single_of code phase dt duty))) ≡ numbers_of (answer_in (single_of code phase dt duty))
+sample-reads code phase dt duty = read_back (answer_in (single_of code phase dt duty)) (single-fits code phase dt duty)
 
 -- an unknown code, whatever the other arguments are
-pub unknown_reads : numbers_in (packed_of (Refused Setting)) ≡ numbers_of (Refused Setting)
-unknown_reads = read_back (Refused Setting) (refused-fits Setting (omega arith))
+pub unknown_reads : numbers_in (packed_of (Err Setting)) ≡ numbers_of (Err Setting)
+unknown_reads = read_back (Err Setting) (refused-fits Setting (omega arith))
 
 module _ (g : Settings) where
   pub render-reads : (s : List ℕ) (b : Buffers) → numbers_in (rendered (render_of g s b)).result ≡ numbers_of (render_of g s b).result.answer
@@ -83,23 +81,23 @@ module _ (g : Settings) where
     edit-reads h = numbers_back (paged_numbers page.answer page.bytes) (edit-fits g old es b space h)
 
     -- of any number of edits, where it is done
-    pub edit-done-reads : (n : ℕ) → page.answer ≡ Done n → numbers_in (edited (edit_of g old es b space)).result ≡ record { number = 0; place = page.bytes; count = n }
+    pub edit-done-reads : (n : ℕ) → page.answer ≡ Ok n → numbers_in (edited (edit_of g old es b space)).result ≡ record { number = 0; place = page.bytes; count = n }
     unfolding packed_page
     edit-done-reads n e = numbers_back (paged_numbers page.answer page.bytes) (edit-done-fits g old es b space n e) ∙ ap (λ (a : Answer). paged_numbers a page.bytes) e
 
 -- a continuing call, also from words that are no state and under unknown settings
-pub continue_says_lem : (c : Choice) (s ws : List ℕ) (p : ℕ) (part : List Float) → (continue_for c s ws p part).result ≡ packed_of (continue_says c s ws p (length part))
+pub continue_says_lem : (c : Option Settings) (s ws : List ℕ) (p : ℕ) (part : List Float) → (continue_for c s ws p part).result ≡ packed_of (continue_says c s ws p (length part))
 unfolding continue_in
-continue_says_lem (Known g) s ws p part =
+continue_says_lem (Some g) s ws p part =
     let refusals = continue_refusals g s (is_given_in s p ws) p (length part) in
-    first-through (λ (o : Continued ℕ). o.result) refusals (kept_in part ws) (made_in g s ws p (length part)) ∙ sym (first-through packed_of refusals Refused (Done (length part)))
-continue_says_lem Unknown s ws p part = refl
+    first-through (λ (o : Continued ℕ). o.result) refusals (kept_in part ws) (made_in g s ws p (length part)) ∙ sym (first-through packed_of refusals Err (Ok (length part)))
+continue_says_lem None s ws p part = refl
 
-pub continue_reads : (c : Choice) (s ws : List ℕ) (p : ℕ) (part : List Float) → numbers_in (continue_for c s ws p part).result ≡ numbers_of (continue_says c s ws p (length part))
+pub continue_reads : (c : Option Settings) (s ws : List ℕ) (p : ℕ) (part : List Float) → numbers_in (continue_for c s ws p part).result ≡ numbers_of (continue_says c s ws p (length part))
 continue_reads c s ws p part = ap numbers_in (continue_says_lem c s ws p part) ∙ read_back (continue_says c s ws p (length part)) (continue_fits c s ws p (length part))
 
-pub fresh-reads : (numbers_in (packed_of (Done 0)) ≡ numbers_of (Done 0)) × (numbers_in (packed_of (Refused Argument)) ≡ numbers_of (Refused Argument))
-fresh-reads = (read_back (Done 0) (done-fits 0 (omega arith)), read_back (Refused Argument) (refused-fits Argument (omega arith)))
+pub fresh-reads : (numbers_in (packed_of (Ok 0)) ≡ numbers_of (Ok 0)) × (numbers_in (packed_of (Err Argument)) ≡ numbers_of (Err Argument))
+fresh-reads = (read_back (Ok 0) (done-fits 0 (omega arith)), read_back (Err Argument) (refused-fits Argument (omega arith)))
 
-pub list-reads : (s : List ℕ) → (numbers_in (packed_of (Done (length (listing_of s)))) ≡ numbers_of (Done (length (listing_of s)))) × (numbers_in (packed_of (Refused Size)) ≡ numbers_of (Refused Size))
-list-reads s = (read_back (Done (length (listing_of s))) (done-fits (length (listing_of s)) (listing_fits s)), read_back (Refused Size) (refused-fits Size (omega arith)))
+pub list-reads : (s : List ℕ) → (numbers_in (packed_of (Ok (length (listing_of s)))) ≡ numbers_of (Ok (length (listing_of s)))) × (numbers_in (packed_of (Err Size)) ≡ numbers_of (Err Size))
+list-reads s = (read_back (Ok (length (listing_of s))) (done-fits (length (listing_of s)) (listing_fits s)), read_back (Err Size) (refused-fits Size (omega arith)))

@@ -5,9 +5,8 @@
 -- Every answer has a word: a place or a count too large for its bits is cut to its low bits, so that none spills into
 -- the next; none of the desk's own answers is cut (proofs/ReadBack.antt) but the place of a refused edit from edit
 -- 16,777,216 on. Definitions only.
-use Rattle.std.specs.Prelude.{ℕ, ◌+◌, ◌*◌, ◌/◌, ◌%◌}
-use Rattle.answers.specs.declared.Answer.{Answer}
-use Rattle.answers.specs.declared.Answer.TheVariants.{Done, Refused}
+use Rattle.std.specs.Prelude.{ℕ, ◌+◌, ◌*◌, ◌/◌, ◌%◌, Err, Ok}
+use Rattle.answers.specs.Answer.{Answer}
 use Rattle.answers.specs.declared.Numbers.{Numbers}
 use Rattle.answers.specs.Numbers.{numbers_of}
 use Rattle.page.specs.declared.Paged.{Paged}
@@ -21,8 +20,8 @@ packed_of answer = word_of (numbers_of answer)
 
 -- a page of edits: when done, the bytes of the new score stand in the place's bits, so a host reads the number first
 abbrev pub paged_numbers : Answer → ℕ → Numbers
-paged_numbers (Done n) bytes = record { number = 0; place = bytes; count = n }
-paged_numbers (Refused why) bytes = numbers_of (Refused why)
+paged_numbers (Ok n) bytes = record { number = 0; place = bytes; count = n }
+paged_numbers (Err why) bytes = numbers_of (Err why)
 
 unfoldable pub packed_page : Paged → ℕ
 packed_page p = word_of (paged_numbers p.answer p.bytes)

@@ -10,11 +10,12 @@ ghost use Rattle.sections.specs.Outcome.{lends, leaves};
 ghost use Rattle.page.specs.Page.{rewrites};
 ghost use Rattle.ffi.specs.Packed.{word_of, packed_of, packed_page};
 ghost use Rattle.ffi.specs.Version.{version};
-ghost use Rattle.ffi.specs.Ffi.{fills, continues, shape_of, manner_of, asks, choice_of, check_of, single_of, render_for, rerender_for, edit_for, continue_in, continue_for, fresh_for, list_for};
+ghost use Rattle.ffi.specs.Ffi.{fills, continues, shape_of, manner_of, asks, choice_of, check_of, number_in, answer_in, single_of, render_for, rerender_for, edit_for, continue_in, continue_for, fresh_for, list_for};
 
-use answers::{Answer, Numbers, Refusal, Value};
+use answers::{Answer, Numbers, Refusal};
 use envelope::Adsr;
 use page::Paged;
+use sections::Buffers;
 use shelf::ENTRY_WORDS;
 use state::{Keying, Settings};
 use tremolo::Lfo;
@@ -40,27 +41,6 @@ pub struct Asked {
     pub joined: u32,
 }
 
-// The waveform of a code; unknown where the code is 5, the original's noise, or above 6.
-#[derive(Clone, Copy)]
-pub enum Shape {
-    Known(Waveform),
-    Unknown,
-}
-
-// Whether notes are struck or joined; unknown where the host's number is above 1.
-#[derive(Clone, Copy)]
-pub enum Manner {
-    Known(Keying),
-    Unknown,
-}
-
-// The settings that a host asks for; unknown where a code of theirs or `joined` is.
-#[derive(Clone, Copy)]
-pub enum Choice {
-    Known(Settings),
-    Unknown,
-}
-
 // The version of the calls, their arguments and a state's number of words, which a host must be written for.
 pub fn gav_version() -> u32
     ensures { result ≡ version }
@@ -77,19 +57,16 @@ pub fn gav_check_score(score: &[u8]) -> u64
 
 // One sample of a waveform; +0 where it is refused.
 pub fn gav_sample(code: u32, phase: f64, dt: f64, duty: f64) -> f64
-    ensures { result ≡ (single_of code phase dt duty).value }
+    ensures { result ≡ number_in (single_of code phase dt duty) }
 {
-    let single = single(code, phase, dt, duty);
-    single.value
+    single(code, phase, dt, duty).unwrap_or(0.0)
 }
 
 // The answer to `gav_sample` with these arguments.
 pub fn gav_sample_says(code: u32, phase: f64, dt: f64, duty: f64) -> u64
-    ensures { result ≡ packed_of (single_of code phase dt duty).answer }
+    ensures { result ≡ packed_of (answer_in (single_of code phase dt duty)) }
 {
-    let single = single(code, phase, dt, duty);
-    let answer = single.answer;
-    packed(answer)
+    packed(single(code, phase, dt, duty).map(|_| 0))
 }
 
 // Every sample of the output, every entry of the shelf and every peak of the summary, from sample zero.
@@ -128,12 +105,16 @@ pub fn gav_render(
         lfo_depth,
         joined,
     });
-    let Choice::Known(settings) = choice else {
-        return packed(Answer::Refused(Refusal::Setting));
+    let Some(settings) = choice else {
+        return packed(Err(Refusal::Setting));
     };
-    let rendered = render::render(settings, score, out, shelf, magnitudes, numbers);
-    let answer = rendered.answer;
-    packed(answer)
+    let mut lent = Buffers {
+        heard: out,
+        stored: shelf,
+        magnitudes,
+        numbers,
+    };
+    packed(render::render(settings, score, &mut lent).answer)
 }
 
 // The samples, the entries and the summary from the start of the section that holds the first changed position to the
@@ -174,10 +155,16 @@ pub fn gav_rerender(
         lfo_depth,
         joined,
     });
-    let Choice::Known(settings) = choice else {
-        return packed(Answer::Refused(Refusal::Setting));
+    let Some(settings) = choice else {
+        return packed(Err(Refusal::Setting));
     };
-    packed(rerender::rerender(settings, old, new, out, shelf, magnitudes, numbers))
+    let mut lent = Buffers {
+        heard: out,
+        stored: shelf,
+        magnitudes,
+        numbers,
+    };
+    packed(rerender::rerender(settings, old, new, &mut lent))
 }
 
 // The edits of a list, made one after the other on the old score, and one re-render of the old score into the new one;
@@ -219,12 +206,16 @@ pub fn gav_edit(
         lfo_depth,
         joined,
     });
-    let Choice::Known(settings) = choice else {
-        return packed(Answer::Refused(Refusal::Setting));
+    let Some(settings) = choice else {
+        return packed(Err(Refusal::Setting));
     };
-    packed_page(page::edit(
-        settings, old, edits, out, shelf, magnitudes, numbers, new_score,
-    ))
+    let mut lent = Buffers {
+        heard: out,
+        stored: shelf,
+        magnitudes,
+        numbers,
+    };
+    packed_page(page::edit(settings, old, edits, &mut lent, new_score))
 }
 
 // The next part of the output, from the state in thirteen words; when done, the words are those of the state after the
@@ -263,8 +254,8 @@ pub fn gav_continue(
         lfo_depth,
         joined,
     });
-    let Choice::Known(settings) = choice else {
-        return packed(Answer::Refused(Refusal::Setting));
+    let Some(settings) = choice else {
+        return packed(Err(Refusal::Setting));
     };
     continue_in(settings, score, state, position, part)
 }
@@ -274,10 +265,10 @@ pub fn gav_fresh(state: &mut [u64]) -> u64
     ensures { fills result state.new ≡ fresh_for state.old }
 {
     if state.len() != ENTRY_WORDS {
-        return packed(Answer::Refused(Refusal::Argument));
+        return packed(Err(Refusal::Argument));
     }
     shelf::store(state, state::fresh());
-    packed(Answer::Done(0))
+    packed(Ok(0))
 }
 
 // What the lister prints for a score; the count is its bytes. No listing is empty: 0 bytes mean a buffer that is too
@@ -287,16 +278,16 @@ pub fn gav_list(score: &[u8], text: &mut [u8]) -> u64
 {
     let bytes = listing::list(score, text);
     if bytes == 0 {
-        return packed(Answer::Refused(Refusal::Size));
+        return packed(Err(Refusal::Size));
     }
-    packed(Answer::Done(bytes))
+    packed(Ok(bytes))
 }
 
 // An answer in one word: bits 0 to 7 the number, 8 to 31 the place, 32 to 63 the count.
 fn packed(answer: Answer) -> u64
     ensures { result ≡ packed_of answer }
 {
-    word_of(answers::in_numbers(answer))
+    word_of(Numbers::from(answer))
 }
 
 // The answer of a page in one word; when done, the bytes of the new score stand in the place's bits.
@@ -306,12 +297,12 @@ fn packed_page(paged: Paged) -> u64
     let answer = paged.answer;
     let bytes = paged.bytes;
     match answer {
-        Answer::Done(count) => word_of(Numbers {
+        Ok(count) => word_of(Numbers {
             number: 0,
             place: bytes,
             count,
         }),
-        Answer::Refused(_) => packed(answer),
+        Err(_) => packed(answer),
     }
 }
 
@@ -323,45 +314,36 @@ fn word_of(numbers: Numbers) -> u64
     numbers.number as u64 + 256 * place + 0x1_0000_0000 * count
 }
 
-fn shape_of(code: u32, duty: f64) -> Shape
+fn shape_of(code: u32, duty: f64) -> Option<Waveform>
     ensures { result ≡ shape_of code duty }
 {
     match code {
-        0 => Shape::Known(Waveform::Sine),
-        1 => Shape::Known(Waveform::Square),
-        2 => Shape::Known(Waveform::Sawtooth),
-        3 => Shape::Known(Waveform::Triangle),
-        4 => Shape::Known(Waveform::Pulse(duty)),
-        6 => Shape::Known(Waveform::RoundedTriangle),
-        _ => Shape::Unknown,
+        0 => Some(Waveform::Sine),
+        1 => Some(Waveform::Square),
+        2 => Some(Waveform::Sawtooth),
+        3 => Some(Waveform::Triangle),
+        4 => Some(Waveform::Pulse(duty)),
+        6 => Some(Waveform::RoundedTriangle),
+        _ => None,
     }
 }
 
-fn manner_of(joined: u32) -> Manner
+fn manner_of(joined: u32) -> Option<Keying>
     ensures { result ≡ manner_of joined }
 {
     match joined {
-        0 => Manner::Known(Keying::Struck),
-        1 => Manner::Known(Keying::Joined),
-        _ => Manner::Unknown,
+        0 => Some(Keying::Struck),
+        1 => Some(Keying::Joined),
+        _ => None,
     }
 }
 
-fn choice_of(asked: Asked) -> Choice
+fn choice_of(asked: Asked) -> Option<Settings>
     ensures { result ≡ choice_of asked }
 {
-    let shape = shape_of(asked.code, asked.duty);
-    let lfo_shape = shape_of(asked.lfo_code, asked.lfo_duty);
-    let manner = manner_of(asked.joined);
-    let Shape::Known(waveform) = shape else {
-        return Choice::Unknown;
-    };
-    let Shape::Known(lfo_waveform) = lfo_shape else {
-        return Choice::Unknown;
-    };
-    let Manner::Known(keying) = manner else {
-        return Choice::Unknown;
-    };
+    let waveform = shape_of(asked.code, asked.duty)?;
+    let lfo_waveform = shape_of(asked.lfo_code, asked.lfo_duty)?;
+    let keying = manner_of(asked.joined)?;
     let adsr = Adsr {
         attack: asked.attack,
         decay: asked.decay,
@@ -373,7 +355,7 @@ fn choice_of(asked: Asked) -> Choice
         frequency: asked.lfo_frequency,
         depth: asked.lfo_depth,
     };
-    Choice::Known(Settings {
+    Some(Settings {
         rate: asked.rate,
         waveform,
         adsr,
@@ -382,14 +364,11 @@ fn choice_of(asked: Asked) -> Choice
     })
 }
 
-fn single(code: u32, phase: f64, dt: f64, duty: f64) -> Value
+fn single(code: u32, phase: f64, dt: f64, duty: f64) -> Result<f64, Refusal>
     ensures { result ≡ single_of code phase dt duty }
 {
-    let shape = shape_of(code, duty);
-    match shape {
-        Shape::Known(waveform) => waveform::sample(waveform, phase, dt),
-        Shape::Unknown => answers::value_if(false, Refusal::Setting, 0.0),
-    }
+    let waveform = shape_of(code, duty).ok_or(Refusal::Setting)?;
+    waveform::sample(waveform, phase, dt)
 }
 
 // A continuing call whose state comes and goes in words. Words that are no state are 10, after 6, 7 and the score's
@@ -403,19 +382,14 @@ fn continue_in(
 ) -> u64
     ensures { continues result part.new words.new ≡ continue_in settings score.now words.old position part.old }
 {
-    let entry = shelf::decode(words);
-    if !entry.valid {
+    let Some(state) = shelf::decode(words) else {
         let stretch = judging::part_fits(position, part.len());
-        let refused = Answer::Refused(Refusal::GivenState);
+        let refused = Err(Refusal::GivenState);
         return packed(judging::judged(settings, stretch, score, refused));
-    }
-    let state = entry.state;
+    };
     let rendered = render::continue_render(settings, score, state, position, part);
-    let answer = rendered.answer;
-    if let Answer::Refused(_) = answer {
-        return packed(answer);
+    if rendered.answer.is_ok() {
+        shelf::store(words, rendered.state);
     }
-    let after = rendered.state;
-    shelf::store(words, after);
-    packed(answer)
+    packed(rendered.answer)
 }

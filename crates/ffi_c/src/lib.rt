@@ -8,7 +8,7 @@ ghost use Rattle.sections.specs.Outcome.{lends, leaves};
 ghost use Rattle.page.specs.Page.{rewrites};
 ghost use Rattle.ffi.specs.Packed.{packed_of};
 ghost use Rattle.ffi.specs.Version.{version};
-ghost use Rattle.ffi.specs.Ffi.{fills, continues, asks, choice_of, check_of, single_of, render_for, rerender_for, edit_for, continue_for, fresh_for, list_for};
+ghost use Rattle.ffi.specs.Ffi.{fills, continues, asks, choice_of, check_of, number_in, answer_in, single_of, render_for, rerender_for, edit_for, continue_for, fresh_for, list_for};
 
 // The version of the calls, their arguments and a state's number of words, which a host must be written for.
 #[unsafe(no_mangle)]
@@ -29,7 +29,7 @@ pub extern "C" fn gav_check_score(score: &[u8]) -> u64
 // One sample of a waveform; +0 where it is refused.
 #[unsafe(no_mangle)]
 pub extern "C" fn gav_sample(code: u32, phase: f64, dt: f64, duty: f64) -> f64
-    ensures { result ≡ (single_of code phase dt duty).value }
+    ensures { result ≡ number_in (single_of code phase dt duty) }
 {
     ffi::gav_sample(code, phase, dt, duty)
 }
@@ -37,7 +37,7 @@ pub extern "C" fn gav_sample(code: u32, phase: f64, dt: f64, duty: f64) -> f64
 // The answer to `gav_sample` with these arguments.
 #[unsafe(no_mangle)]
 pub extern "C" fn gav_sample_says(code: u32, phase: f64, dt: f64, duty: f64) -> u64
-    ensures { result ≡ packed_of (single_of code phase dt duty).answer }
+    ensures { result ≡ packed_of (answer_in (single_of code phase dt duty)) }
 {
     ffi::gav_sample_says(code, phase, dt, duty)
 }

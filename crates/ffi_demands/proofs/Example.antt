@@ -7,6 +7,7 @@
 -- A page: two offs at 0, of which the first is removed and inserted, after a gav_render of 8,192 samples. Its word says
 -- 20 bytes and 4,096 samples, and what it leaves is what two calls of gav_rerender leave, or two of gav_edit. Assumes
 -- nothing.
+use Rattle.std.specs.Prelude.{Some}
 use mathlib.Core.Path.{◌≡◌, refl, sym, ap, ◌∙◌}
 use mathlib.Core.List.{List, [], ◌∷◌, ◌++◌}
 use Prim.Native.Nat.{ℕ, ◌+◌, ◌*◌}
@@ -25,7 +26,6 @@ use Rattle.demands.specs.Pages.{scores_of, once_paged, singles_of}
 use Rattle.page.specs.Page.{new_score_of, Rewritten}
 use Rattle.state.specs.declared.Settings.{Settings}
 use Rattle.ffi.specs.declared.Asked.{Asked}
-use Rattle.ffi.specs.declared.Choice.TheVariants.{Known}
 use Rattle.ffi.specs.Packed.{packed_page}
 use Rattle.ffi.specs.Ffi.{Continued, asks, shape_of, manner_of, choice_of, edit_for}
 use Rattle.ffi_demands.specs.WordsChain.{words_chain, AllZero, OneFfiRender}
@@ -40,7 +40,7 @@ use Rattle.ffi_demands.proofs.FfiPages.{words_pages}
 abbrev pub square : Asked
 square = asks 8000 1 half trembling.adsr.attack trembling.adsr.decay trembling.adsr.sustain trembling.adsr.release 1 half trembling.lfo.frequency trembling.lfo.depth 1
 
-known : choice_of square ≡ Known trembling
+known : choice_of square ≡ Some trembling
 unfolding shape_of manner_of choice_of
 known = refl
 
@@ -115,5 +115,5 @@ swapped_in_words_lem =
       pages_of_one = words_pages.pages_of_one square sustain_fits two swap paper 8192 lent_ones render-zero swap-zero;
     }
   where
-    known-settings : {g h : Settings} → Known g ≡ Known h → g ≡ h
+    known-settings : {g h : Settings} → Some g ≡ Some h → g ≡ h
     known-settings e = cc

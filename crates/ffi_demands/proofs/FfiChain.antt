@@ -1,5 +1,6 @@
 -- The claim of specs/WordsChain.antt. The chain in words leaves what the chain on states leaves (proofs/Tells.antt),
 -- and that is one render (`demands`). Assumes nothing.
+use Rattle.std.specs.Prelude.{Ok, Option, Some}
 use mathlib.Core.Path.{◌≡◌, refl, sym, ap, subst, ◌∙◌}
 use mathlib.Core.Bool.{true}
 use mathlib.Core.List.{List, [], ◌∷◌, map}
@@ -11,7 +12,6 @@ use lib.ListN.{length, replicate, length-replicate}
 use lib.Ieee.{Float, binary64, fits}
 use Rattle.floats.specs.Double.{zero64}
 use Rattle.sections.specs.Outcome.{Buffers, lends, samples_in, Lent, Outcome}
-use Rattle.answers.specs.declared.Answer.TheVariants.{Done}
 use Rattle.answers.specs.declared.Refusal.TheVariants.{Setting}
 use Rattle.shelf.specs.Shelf.{entry_words, entries_for, words_for, entry_of}
 use Rattle.score.specs.Record.{count_of}
@@ -24,8 +24,6 @@ use Rattle.demands.specs.Chain.{Step, samples_of, last_of, done_all, Grows, AllA
 use Rattle.demands.proofs.Honest.{render-passed}
 use Rattle.demands.proofs.Chain.{chain-short, chain, chain-done}
 use Rattle.ffi.specs.declared.Asked.{Asked}
-use Rattle.ffi.specs.declared.Choice.{Choice}
-use Rattle.ffi.specs.declared.Choice.TheVariants.{Known}
 use Rattle.ffi.specs.Packed.{packed_of}
 use Rattle.ffi.specs.Ffi.{Continued, choice_of, render_for, continue_for, fresh_for}
 use Rattle.ffi_demands.specs.WordsChain.{words_chain_from, words_chain, AllZero, OneFfiRender, ZeroExactly, WordsPartsAreOne}
@@ -66,7 +64,7 @@ module _ (a : Asked) (sus : T (fits binary64 a.sustain)) (room : List ℕ) (thir
       let d = zero_all a g is fit (x ∷ xs) [] 0 (fresh_of 0) h grow (subst (λ (o : Continued (List ℕ)). AllZero o.result) (from-fresh (x ∷ xs)) z) in
       let t = tells a g is fit (x ∷ xs) [] 0 (fresh_of 0) h grow d in
       let c = chain g x xs grow d b l e in
-      let r = ap (λ (c : Choice). render_for c (last_of [] (x ∷ xs)) b) is in
+      let r = ap (λ (c : Option Settings). render_for c (last_of [] (x ∷ xs)) b) is in
       subst (OneFfiRender a (x ∷ xs) b) (sym (from-fresh (x ∷ xs)))
       (record {
         result = t.result;
@@ -76,7 +74,7 @@ module _ (a : Asked) (sus : T (fits binary64 a.sustain)) (room : List ℕ) (thir
       })
 
   -- ---- every number is 0 exactly when no record was added below the position reached
-  pub desk_chain-done : (g : Settings) → choice_of a ≡ Known g → settings_ok g ≡ true → (xs : List Step) → AllAccepted xs → Grows [] xs → samples_of xs ≤ most_samples → ZeroExactly a room xs
+  pub desk_chain-done : (g : Settings) → choice_of a ≡ Some g → settings_ok g ≡ true → (xs : List Step) → AllAccepted xs → Grows [] xs → samples_of xs ≤ most_samples → ZeroExactly a room xs
   desk_chain-done g is ok xs b grow l =
       let fit = sustain_fits a sus g is in
       let h = invariant_fresh a g is fit in
@@ -102,7 +100,7 @@ module _ (a : Asked) (sus : T (fits binary64 a.sustain)) (room : List ℕ) (thir
       let b : Buffers = lends out (replicate (words_for n) 0) (replicate (entries_for n) zero64) (replicate (entries_for n) 0) in
       let fit : Lent b = record { short = short; fits = length-replicate (words_for n) 0; magnitudes-fit = length-replicate (entries_for n) zero64; numbers_fit = length-replicate (entries_for n) 0 } in
       let many = desk_chain x xs grow z b fit e in
-      let said : packed_of (render_of g s b).result.answer ≡ packed_of (Done (samples_of (x ∷ xs))) = sym (ap (λ (c : Choice). (render_for c s b).result) q.known) ∙ many.done in
+      let said : packed_of (render_of g s b).result.answer ≡ packed_of (Ok (samples_of (x ∷ xs))) = sym (ap (λ (c : Option Settings). (render_for c s b).result) q.known) ∙ many.done in
       let d = zero-done (render_of g s b).result.answer (rw said (done-zero (samples_of (x ∷ xs)))) in
       let p = render-passed g s b d.0 d.1 in
       let whole : Step = record { score = s; part = out } in

@@ -1,5 +1,6 @@
 -- The claim of specs/WordsDemand3.antt: a gav_render whose number is 0 had settings that are known and in their domain
 -- and an accepted score, and then the calls are those of `demands`, each answer packed. Assumes nothing.
+use Rattle.std.specs.Prelude.{Ok, Option, Some}
 use mathlib.Core.Path.{◌≡◌, sym, ap, ◌∙◌}
 use mathlib.Core.Bool.{true, false}
 use mathlib.Core.List.{List}
@@ -8,10 +9,8 @@ use lib.Dec.{T}
 use lib.Ieee.{binary64, fits}
 use Rattle.sections.specs.Outcome.{Buffers, samples_in, Lent, before, onward, leaves}
 use Rattle.sections.proofs.Room.{in_room}
-use Rattle.answers.specs.declared.Answer.TheVariants.{Done}
 use Rattle.answers.specs.declared.Refusal.TheVariants.{Setting}
 use Rattle.answers.specs.Numbers.{numbers_of}
-use Rattle.score.specs.declared.Difference.TheVariants.{At}
 use Rattle.score.specs.Record.{count_of}
 use Rattle.score.specs.Apart.{difference_of}
 use Rattle.shelf.specs.Shelf.{section_size, entries_for, is_entry, entry_at}
@@ -23,8 +22,6 @@ use Rattle.demands.specs.Demand3.{Taken, Edit, BuffersOf, left_in, FromSection}
 use Rattle.demands.proofs.Honest.{render-passed}
 use Rattle.demands.proofs.Demand3.{demand_3_holds}
 use Rattle.ffi.specs.declared.Asked.{Asked}
-use Rattle.ffi.specs.declared.Choice.{Choice}
-use Rattle.ffi.specs.declared.Choice.TheVariants.{Known}
 use Rattle.ffi.specs.Packed.{packed_of}
 use Rattle.ffi.specs.Ffi.{choice_of, render_for, rerendered, rerender_for}
 use Rattle.ffi.proofs.ReadBack.{rerender-reads}
@@ -35,7 +32,7 @@ use Rattle.ffi_demands.proofs.Codes.{is_known, sustain_fits}
 -- ---- what is true of a gav_render whose number is 0
 pub record Good (a : Asked) (s : List ℕ) (b : Buffers) : Type 0 where
   pub settings : Settings
-  pub known : choice_of a ≡ Known settings
+  pub known : choice_of a ≡ Some settings
   pub in_domain : settings_ok settings ≡ true
   pub taken : Taken s
   pub lent : Lent b
@@ -50,9 +47,9 @@ zero_good a s b z =
     record { settings = g; known = q.known; in_domain = p.settings; taken = record { records = count_of s; accepted = p.accepted }; lent = in_room b p.sized }
 
 -- ---- a gav_render under known settings leaves what a render leaves
-module _ (a : Asked) (g : Settings) (is : choice_of a ≡ Known g) (s : List ℕ) where
+module _ (a : Asked) (g : Settings) (is : choice_of a ≡ Some g) (s : List ℕ) where
   pub desk_left : {n : ℕ} (r : BuffersOf n) → (ffi_left a s r).left ≡ (left_in g s r).left
-  desk_left r = ap (λ (c : Choice). (render_for c s r.buffers).left) is
+  desk_left r = ap (λ (c : Option Settings). (render_for c s r.buffers).left) is
 
   pub desk_from : (m : ℕ) (came left : Buffers) → FromSection came (left_in g s) m left → FromSection came (ffi_left a s) m left
   desk_from m came left f = record { are_rendered = λ r. f.are_rendered r ∙ sym (ap (onward m) (desk_left r)); stay = f.stay }
@@ -62,13 +59,13 @@ module _ (a : Asked) (sus : T (fits binary64 a.sustain)) (old new : List ℕ) (t
   edit : (r : BuffersOf (samples_in b)) (q : Good a old r.buffers) → Edit q.settings old new
   edit r q = record { settings = q.in_domain; sustain_fits = sustain_fits a sus q.settings q.known; old_taken = q.taken; new-taken = t }
 
-  in_words : (g : Settings) → choice_of a ≡ Known g → rerender_for (choice_of a) old new b ≡ rerendered (rerender_of g old new b)
-  in_words g is = ap (λ (c : Choice). rerender_for c old new b) is
+  in_words : (g : Settings) → choice_of a ≡ Some g → rerender_for (choice_of a) old new b ≡ rerendered (rerender_of g old new b)
+  in_words g is = ap (λ (c : Option Settings). rerender_for c old new b) is
 
-  says : (g : Settings) (m k : ℕ) → (rerender_of g old new b).result ≡ Done (min (k * section_size) (samples_in b) - m * section_size) → FfiCounted m k b (rerendered (rerender_of g old new b)).result
+  says : (g : Settings) (m k : ℕ) → (rerender_of g old new b).result ≡ Ok (min (k * section_size) (samples_in b) - m * section_size) → FfiCounted m k b (rerendered (rerender_of g old new b)).result
   says g m k e = record { counted = ap packed_of e; reads = rerender-reads g old new b ∙ ap numbers_of e }
 
-  module _ (p : ℕ) (e : difference_of old new ≡ At p) (heard : p < samples_in b) (r : BuffersOf (samples_in b)) (zero : Zero (ffi_left a old r).result) where
+  module _ (p : ℕ) (e : difference_of old new ≡ Some p) (heard : p < samples_in b) (r : BuffersOf (samples_in b)) (zero : Zero (ffi_left a old r).result) where
     abbrev m : ℕ
     m = p / section_size
 
@@ -127,7 +124,7 @@ module _ (a : Asked) (sus : T (fits binary64 a.sustain)) (old new : List ℕ) (t
         let d = demand_3_holds.nothing_stops g old new (edit r q) b z p e heard r (left ∙ ap (λ (c : Buffers). entry_at c.stored m) (desk_left a g q.known old r)) none in
         rw (in_words g q.known) (record { counted = ap packed_of d.counted; left = desk_from a g q.known new m b (rerender_of g old new b).left d.left })
 
-  nothing : (r : BuffersOf (samples_in b)) → Zero (ffi_left a old r).result → ((g : Settings) → Edit g old new → rerender_of g old new b ≡ leaves (Done 0) b) → rerender_for (choice_of a) old new b ≡ leaves (packed_of (Done 0)) b
+  nothing : (r : BuffersOf (samples_in b)) → Zero (ffi_left a old r).result → ((g : Settings) → Edit g old new → rerender_of g old new b ≡ leaves (Ok 0) b) → rerender_for (choice_of a) old new b ≡ leaves (packed_of (Ok 0)) b
   nothing r zero f = let q = zero_good a old r.buffers zero in in_words q.settings q.known ∙ ap rerendered (f q.settings (edit r q))
 
 pub words_demand_3 : WordsDemand3

@@ -1,6 +1,7 @@
 -- The claim of specs/WordsPages.antt: a page of edits in words is the page of `demands`, its answer packed. Number 0 in
 -- its word shows that the list has whole edits, which are all made, and the buffer its 40,960 bytes. The word of a page
 -- that is done has the bytes of its score, so a chain of pages takes the same fronts in words. Assumes nothing.
+use Rattle.std.specs.Prelude.{Err, Ok, Option, Some}
 use mathlib.Core.Path.{◌≡◌, refl, sym, ap, subst, ◌∙◌}
 use mathlib.Core.List.{List, [], ◌∷◌, map}
 use Prim.Native.Nat.{ℕ}
@@ -9,8 +10,7 @@ use lib.Dec.{T}
 use lib.ListN.{length, take}
 use lib.Ieee.{binary64, fits}
 use Rattle.sections.specs.Outcome.{Buffers, samples_in, Outcome}
-use Rattle.answers.specs.declared.Answer.{Answer}
-use Rattle.answers.specs.declared.Answer.TheVariants.{Done, Refused}
+use Rattle.answers.specs.Answer.{Answer}
 use Rattle.answers.specs.declared.Refusal.{Refusal}
 use Rattle.answers.specs.declared.Numbers.{Numbers}
 use Rattle.state.specs.declared.Settings.{Settings}
@@ -27,8 +27,6 @@ use Rattle.demands.proofs.Whole.{rendered}
 use Rattle.demands.proofs.PageRefusals.{page_exactly}
 use Rattle.demands.proofs.Pages.{pages_of_edits}
 use Rattle.ffi.specs.declared.Asked.{Asked}
-use Rattle.ffi.specs.declared.Choice.{Choice}
-use Rattle.ffi.specs.declared.Choice.TheVariants.{Known}
 use Rattle.ffi.specs.Packed.{packed_of, packed_page, numbers_in}
 use Rattle.ffi.specs.Ffi as desk
 use Rattle.ffi.specs.Ffi.{choice_of, render_for, rerender_for, edited, edit_for}
@@ -65,13 +63,13 @@ same-front g old es b space z =
     let d = paged-zero c.result z in
     ap (λ (m : Numbers). take m.place c.space) (edit-done-reads g old es b space d.0 d.1)
 
-pages_are : (a : Asked) (g : Settings) → choice_of a ≡ Known g → (pages : List (List ℕ)) (old : List ℕ) (b : Buffers) (space : List ℕ)
+pages_are : (a : Asked) (g : Settings) → choice_of a ≡ Some g → (pages : List (List ℕ)) (old : List ℕ) (b : Buffers) (space : List ℕ)
     → AllZero (map packed_page (pages_from g old pages b space).result) → words_pages_from a old pages b space ≡ packed_pages (pages_from g old pages b space)
 unfolding words_pages_from pages_from
 pages_are a g is [] old b space z = refl
 pages_are a g is (es ∷ rest) old b space z =
     let c = edit_of g old es b space in
-    ap (λ (k : Choice). and_pages (edit_for k old es b space)) is
+    ap (λ (k : Option Settings). and_pages (edit_for k old es b space)) is
     ∙ ap (λ (s : List ℕ). and_over (packed_page c.result) (words_pages_from a s rest c.left c.space)) (same-front g old es b space z.0)
     ∙ ap (and_over (packed_page c.result)) (pages_are a g is rest (front_of c) c.left c.space z.1)
   where
@@ -105,7 +103,7 @@ module _ (a : Asked) (sus : T (fits binary64 a.sustain)) (old es space : List �
   begins = record { settings = q.in_domain; sustain_fits = sustain_fits a sus g q.known; old_taken = q.taken }
 
   in_words : call ≡ edited page
-  in_words = ap (λ (c : Choice). edit_for c old es (render_for c old r.buffers).left space) q.known
+  in_words = ap (λ (c : Option Settings). edit_for c old es (render_for c old r.buffers).left space) q.known
 
   -- a page whose number is 0 is done, so nothing refuses it
   zero-whole : Zero call.result → Whole old es × (length space ≡ 40960)
@@ -130,8 +128,8 @@ module _ (a : Asked) (sus : T (fits binary64 a.sustain)) (old es space : List �
     next-zero : (s : BuffersOf n) → Zero (ffi_left a new s).result
     next-zero s =
         let taken : Taken new = pages_of_edits.new-taken old es q.taken whole.all_made in
-        let done : (ffi_left a new s).result ≡ packed_of (Done (samples_in s.buffers)) =
-        ap (λ (c : Choice). (render_for c new s.buffers).result) q.known ∙ ap (λ (o : Outcome Rendered). (desk.rendered o).result) (rendered g q.in_domain new taken s.buffers s.lent) in
+        let done : (ffi_left a new s).result ≡ packed_of (Ok (samples_in s.buffers)) =
+        ap (λ (c : Option Settings). (render_for c new s.buffers).result) q.known ∙ ap (λ (o : Outcome Rendered). (desk.rendered o).result) (rendered g q.in_domain new taken s.buffers s.lent) in
         subst Zero (sym done) (done-zero (samples_in s.buffers))
 
     at_once : FfiAtOnce a old es n space call
@@ -188,12 +186,12 @@ paged-is : (p : Paged) (a : Answer) (n : ℕ) → p.answer ≡ a → p.bytes ≡
 paged-is p a n e f = rw (← e, ← f) refl
 
 -- a page that is refused has the word of its refusal
-refused_word_lem : (p : Paged) (why : Refusal) → p.answer ≡ Refused why → packed_page p ≡ packed_of (Refused why)
+refused_word_lem : (p : Paged) (why : Refusal) → p.answer ≡ Err why → packed_page p ≡ packed_of (Err why)
 unfolding packed_page packed_of
 refused_word_lem p why e = rw e refl
 
 beside : (g : Settings) (old es : List ℕ) (b : Buffers) (space : List ℕ) → first_refusals g old es b space ≡ [] → AllMade old es
-    → FfiBesideRerender (new_score_of old es) space (rerender_for (Known g) old (new_score_of old es) b) (edit_for (Known g) old es b space)
+    → FfiBesideRerender (new_score_of old es) space (rerender_for (Some g) old (new_score_of old es) b) (edit_for (Some g) old es b space)
 beside g old es b space first made =
     let new = new_score_of old es in
     let o = edit_of g old es b space in
@@ -202,14 +200,14 @@ beside g old es b space first made =
       answer = (rerender_of g old new b).result;
       word = refl;
       same_left = d.same_left;
-      written = λ count e. (let w = d.written count e in (ap packed_page (paged-is o.result (Done count) (length new) (d.same_answer ∙ e) w.0), w.1));
+      written = λ count e. (let w = d.written count e in (ap packed_page (paged-is o.result (Ok count) (length new) (d.same_answer ∙ e) w.0), w.1));
       kept = λ why e. (refused_word_lem o.result why (d.same_answer ∙ e) ∙ ap packed_of (sym e), (d.kept why e).1);
     }
 
-is-one-rerender : (a : Asked) (g : Settings) → choice_of a ≡ Known g → (old es : List ℕ) (b : Buffers) (space : List ℕ) → first_refusals g old es b space ≡ [] → AllMade old es
+is-one-rerender : (a : Asked) (g : Settings) → choice_of a ≡ Some g → (old es : List ℕ) (b : Buffers) (space : List ℕ) → first_refusals g old es b space ≡ [] → AllMade old es
     → FfiBesideRerender (new_score_of old es) space (rerender_for (choice_of a) old (new_score_of old es) b) (edit_for (choice_of a) old es b space)
 is-one-rerender a g is old es b space first made =
-    subst (λ (k : Choice). FfiBesideRerender (new_score_of old es) space (rerender_for k old (new_score_of old es) b) (edit_for k old es b space)) (sym is) (beside g old es b space first made)
+    subst (λ (k : Option Settings). FfiBesideRerender (new_score_of old es) space (rerender_for k old (new_score_of old es) b) (edit_for k old es b space)) (sym is) (beside g old es b space first made)
 
 -- ---- the claim
 pub words_pages : WordsPages

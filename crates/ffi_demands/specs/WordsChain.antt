@@ -4,11 +4,10 @@
 -- Each call takes the words that the call before it left, at the end of the part before. Of the answers the claim asks
 -- only what a host sees: the number in every word is 0.
 -- The argument is in proofs/FfiChain.antt. Definitions only.
-use Rattle.std.specs.Prelude.{◌≡◌, true, List, [], ◌∷◌, ◌++◌, map, ℕ, ◌+◌, ◌≤◌, T, length, Float}
+use Rattle.std.specs.Prelude.{◌≡◌, true, List, [], ◌∷◌, ◌++◌, map, ℕ, ◌+◌, ◌≤◌, T, length, Float, None, Ok, Option, Some}
 use Rattle.std.specs.Float.{binary64}
 use Rattle.std.specs.Float.Ieee.{fits}
 use Rattle.sections.specs.Outcome.{Buffers, samples_in, Lent}
-use Rattle.answers.specs.declared.Answer.TheVariants.{Done}
 use Rattle.shelf.specs.Shelf.{entry_words, entry_of}
 use Rattle.state.specs.declared.Settings.{Settings}
 use Rattle.state.specs.Settings.{settings_ok}
@@ -16,8 +15,6 @@ use Rattle.judging.specs.Judging.{most_samples}
 use Rattle.render.specs.Calls.{render_of}
 use Rattle.demands.specs.Chain.{Step, samples_of, last_of, done_all, Grows, AllAccepted, NoneAddedBelow}
 use Rattle.ffi.specs.declared.Asked.{Asked}
-use Rattle.ffi.specs.declared.Choice.{Choice}
-use Rattle.ffi.specs.declared.Choice.TheVariants.{Known, Unknown}
 use Rattle.ffi.specs.Packed.{packed_of, numbers_in}
 use Rattle.ffi.specs.Ffi.{Continued, continues, choice_of, render_for, continue_for, fresh_for}
 
@@ -37,9 +34,9 @@ abbrev pub words_chain : Asked → List ℕ → List Step → Continued (List �
 words_chain a room xs = words_chain_from a (fresh_for room).left 0 xs
 
 -- the words of a render's end state; none where the settings are unknown
-abbrev pub end_words : Choice → List ℕ → Buffers → List ℕ
-end_words (Known g) s b = entry_of (render_of g s b).result.state
-end_words Unknown s b = []
+abbrev pub end_words : Option Settings → List ℕ → Buffers → List ℕ
+end_words (Some g) s b = entry_of (render_of g s b).result.state
+end_words None s b = []
 
 -- ---- what is asked of the answers: number 0 in every word
 abbrev pub AllZero : List ℕ → Type 0
@@ -51,7 +48,7 @@ AllZero (word ∷ rest) = ((numbers_in word).number ≡ 0) × AllZero rest
 -- is done
 pub record OneFfiRender (a : Asked) (xs : List Step) (b : Buffers) (o : Continued (List ℕ)) : Type 0 where
   pub result : o.result ≡ map packed_of (done_all xs)
-  pub done : (render_for (choice_of a) (last_of [] xs) b).result ≡ packed_of (Done (samples_of xs))
+  pub done : (render_for (choice_of a) (last_of [] xs) b).result ≡ packed_of (Ok (samples_of xs))
   pub heard : o.heard ≡ (render_for (choice_of a) (last_of [] xs) b).left.heard
   pub words : o.words ≡ end_words (choice_of a) (last_of [] xs) b
 
@@ -71,5 +68,5 @@ pub record WordsPartsAreOne : Type 0 where
   pub one-call : (a : Asked) → T (fits binary64 a.sustain) → (room : List ℕ) → length room ≡ entry_words → (x : Step) (xs : List Step) → Grows [] (x ∷ xs) → AllZero (words_chain a room (x ∷ xs)).result
       → (out : List Float) → length out ≡ samples_of (x ∷ xs) → (words_chain a room (x ∷ xs)).words ≡ (continue_for (choice_of a) (last_of [] (x ∷ xs)) (fresh_for room).left 0 out).words
   -- under settings in their domain, for accepted scores and an output of at most 16,777,216 samples
-  pub zero_exactly : (a : Asked) → T (fits binary64 a.sustain) → (room : List ℕ) → length room ≡ entry_words → (g : Settings) → choice_of a ≡ Known g → settings_ok g ≡ true
+  pub zero_exactly : (a : Asked) → T (fits binary64 a.sustain) → (room : List ℕ) → length room ≡ entry_words → (g : Settings) → choice_of a ≡ Some g → settings_ok g ≡ true
       → (xs : List Step) → AllAccepted xs → Grows [] xs → samples_of xs ≤ most_samples → ZeroExactly a room xs

@@ -4,17 +4,15 @@
 -- gav_render, holding what gav_render or the last gav_rerender left".
 -- Of the answers the claim asks only what a host sees: the number in every word is 0. The argument is in
 -- proofs/FfiEdits.antt. Definitions only.
-use Rattle.std.specs.Prelude.{◌≡◌, true, List, [], ◌∷◌, map, ℕ, T}
+use Rattle.std.specs.Prelude.{◌≡◌, true, List, [], ◌∷◌, map, ℕ, T, Ok, Some}
 use Rattle.std.specs.Float.{binary64}
 use Rattle.std.specs.Float.Ieee.{fits}
 use Rattle.sections.specs.Outcome.{Buffers, samples_in, Lent, Outcome, leaves}
-use Rattle.answers.specs.declared.Answer.TheVariants.{Done}
 use Rattle.state.specs.declared.Settings.{Settings}
 use Rattle.state.specs.Settings.{settings_ok}
 use Rattle.demands.specs.Demand3.{Taken, BuffersOf, FromSection}
 use Rattle.demands.specs.Edits.{and_over, last_score, all_counted, AllTaken, NoneBefore, HonestFrom}
 use Rattle.ffi.specs.declared.Asked.{Asked}
-use Rattle.ffi.specs.declared.Choice.TheVariants.{Known}
 use Rattle.ffi.specs.Packed.{packed_of}
 use Rattle.ffi.specs.Ffi.{choice_of, render_for, rerender_for}
 use Rattle.ffi_demands.specs.WordsChain.{AllZero}
@@ -44,7 +42,7 @@ pub record FfiEditing (a : Asked) (old : List ℕ) (news : List (List ℕ)) (m :
 -- last score is left, before section m what came
 pub record FfiEdited (a : Asked) (old : List ℕ) (news : List (List ℕ)) (m : ℕ) (b : Buffers) (o : Outcome (List ℕ)) : Type 0 where
   pub settings : Settings
-  pub known : choice_of a ≡ Known settings
+  pub known : choice_of a ≡ Some settings
   pub result : o.result ≡ map packed_of (all_counted settings old news (samples_in b))
   pub left : FromSection b (ffi_left a (last_score old news)) m o.left
 
@@ -52,9 +50,9 @@ pub record FfiEdited (a : Asked) (old : List ℕ) (news : List (List ℕ)) (m : 
 -- gav_render of the last score leaves, which is done
 pub record LastFfiRender (a : Asked) (first : List ℕ) (news : List (List ℕ)) (n : ℕ) (b : Buffers) (o : Outcome (List ℕ)) : Type 0 where
   pub settings : Settings
-  pub known : choice_of a ≡ Known settings
-  pub result : o.result ≡ packed_of (Done n) ∷ map packed_of (all_counted settings first news n)
-  pub done : (render_for (choice_of a) (last_score first news) b).result ≡ packed_of (Done n)
+  pub known : choice_of a ≡ Some settings
+  pub result : o.result ≡ packed_of (Ok n) ∷ map packed_of (all_counted settings first news n)
+  pub done : (render_for (choice_of a) (last_score first news) b).result ≡ packed_of (Ok n)
   pub left : o.left ≡ (render_for (choice_of a) (last_score first news) b).left
 
 -- ---- the claim
@@ -68,4 +66,4 @@ pub record WordsAnyEdits : Type 0 where
   -- every number is 0 under settings in their domain, for accepted scores, an output of at most 16,777,216 samples, and
   -- a shelf and a summary that fit it
   pub from_a_render-zero : (a : Asked) → T (fits binary64 a.sustain) → (first : List ℕ) (news : List (List ℕ)) (b : Buffers)
-      → (g : Settings) → choice_of a ≡ Known g → settings_ok g ≡ true → Lent b → Taken first → AllTaken news → AllZero (words_edits a first news b).result
+      → (g : Settings) → choice_of a ≡ Some g → settings_ok g ≡ true → Lent b → Taken first → AllTaken news → AllZero (words_edits a first news b).result

@@ -6,11 +6,10 @@
 -- one gav_rerender into the score after each edit, or one gav_edit for each edit: each takes as its old score a copy of
 -- the bytes that the call before it left at the front of the buffer, as many as that call's word says.
 -- The argument is in proofs/FfiPages.antt. Definitions only.
-use Rattle.std.specs.Prelude.{◌≡◌, List, [], ◌∷◌, ◌++◌, map, ℕ, ◌<◌, T, length, take, drop}
+use Rattle.std.specs.Prelude.{◌≡◌, List, [], ◌∷◌, ◌++◌, map, ℕ, ◌<◌, T, length, take, drop, Err, Ok, Some}
 use Rattle.std.specs.Float.{binary64}
 use Rattle.std.specs.Float.Ieee.{fits}
-use Rattle.answers.specs.declared.Answer.{Answer}
-use Rattle.answers.specs.declared.Answer.TheVariants.{Done, Refused}
+use Rattle.answers.specs.Answer.{Answer}
 use Rattle.answers.specs.declared.Refusal.{Refusal}
 use Rattle.sections.specs.Outcome.{Buffers, Outcome}
 use Rattle.state.specs.declared.Settings.{Settings}
@@ -21,7 +20,6 @@ use Rattle.demands.specs.Demand3.{BuffersOf}
 use Rattle.demands.specs.Edits.{last_score}
 use Rattle.demands.specs.Pages.{scores_of, once_paged, all_paged, singles_of, Whole}
 use Rattle.ffi.specs.declared.Asked.{Asked}
-use Rattle.ffi.specs.declared.Choice.TheVariants.{Known}
 use Rattle.ffi.specs.Packed.{packed_of, packed_page, numbers_in}
 use Rattle.ffi.specs.Ffi.{choice_of, rerender_for, edit_for}
 use Rattle.ffi_demands.specs.WordsChain.{AllZero}
@@ -45,7 +43,7 @@ words_pages_from a old (es ∷ rest) b space =
 -- of which stays; and a gav_render of the new score answers 0, so the next page may follow
 pub record FfiAtOnce (a : Asked) (old es : List ℕ) (n : ℕ) (space : List ℕ) (o : Rewritten ℕ) : Type 0 where
   pub settings : Settings
-  pub known : choice_of a ≡ Known settings
+  pub known : choice_of a ≡ Some settings
   pub word : o.result ≡ packed_page (once_paged settings old (new_score_of old es) n)
   pub reads : numbers_in o.result ≡ record { number = 0; place = length (new_score_of old es); count = count_for settings old (new_score_of old es) (plan_of old (new_score_of old es) n) (made_of settings old n).left }
   pub are_rendered : (r : BuffersOf n) → o.left ≡ (ffi_left a (new_score_of old es) r).left
@@ -63,7 +61,7 @@ pub record FfiOneAtATime (old es : List ℕ) (chain : Outcome (List ℕ)) (o : R
 -- at the front of the buffer too
 pub record FfiPagesOfOne (a : Asked) (old es : List ℕ) (n : ℕ) (chain : Rewritten (List ℕ)) (o : Rewritten ℕ) : Type 0 where
   pub settings : Settings
-  pub known : choice_of a ≡ Known settings
+  pub known : choice_of a ≡ Some settings
   pub words : chain.result ≡ map packed_page (all_paged settings old (singles_of es) n)
   pub all_zero : AllZero chain.result
   pub same_left : chain.left ≡ o.left
@@ -76,8 +74,8 @@ pub record FfiBesideRerender (new space : List ℕ) (c : Outcome ℕ) (o : Rewri
   pub answer : Answer
   pub word : c.result ≡ packed_of answer
   pub same_left : o.left ≡ c.left
-  pub written : (count : ℕ) → answer ≡ Done count → (o.result ≡ packed_page (paged (Done count) (length new))) × (o.space ≡ new ++ drop (length new) space)
-  pub kept : (why : Refusal) → answer ≡ Refused why → (o.result ≡ c.result) × (o.space ≡ space)
+  pub written : (count : ℕ) → answer ≡ Ok count → (o.result ≡ packed_page (paged (Ok count) (length new))) × (o.space ≡ new ++ drop (length new) space)
+  pub kept : (why : Refusal) → answer ≡ Err why → (o.result ≡ c.result) × (o.space ≡ space)
 
 -- ---- the claim: for any settings whose sustain is a value of an f64, as every f64 of the code is
 pub record WordsPages : Type 0 where
@@ -89,7 +87,7 @@ pub record WordsPages : Type 0 where
       → Zero (edit_for (choice_of a) old es (ffi_left a old r).left space).result
       → FfiOneAtATime old es (words_edits_from a old (scores_of old es) (ffi_left a old r).left) (edit_for (choice_of a) old es (ffi_left a old r).left space)
   -- where nothing before 8 refuses; so what specs/WordsDemand3.antt and specs/WordsPeaks.antt say of gav_rerender holds
-  pub is-one-rerender : (a : Asked) (g : Settings) → choice_of a ≡ Known g → (old es : List ℕ) (b : Buffers) (space : List ℕ) → first_refusals g old es b space ≡ [] → AllMade old es
+  pub is-one-rerender : (a : Asked) (g : Settings) → choice_of a ≡ Some g → (old es : List ℕ) (b : Buffers) (space : List ℕ) → first_refusals g old es b space ≡ [] → AllMade old es
       → FfiBesideRerender (new_score_of old es) space (rerender_for (choice_of a) old (new_score_of old es) b) (edit_for (choice_of a) old es b space)
   pub pages_of_one : (a : Asked) → T (fits binary64 a.sustain) → (old es space : List ℕ) (n : ℕ) (r : BuffersOf n) → Zero (ffi_left a old r).result
       → Zero (edit_for (choice_of a) old es (ffi_left a old r).left space).result

@@ -3,11 +3,10 @@
 -- Of the answers the claim asks only what a host sees: the number in a word is 0. Of a re-render it asks nothing: what
 -- holds of the summary holds whatever the answer is, unknown settings included.
 -- The argument is in proofs/FfiPeaks.antt. Definitions only.
-use Rattle.std.specs.Prelude.{◌≡◌, List, ℕ, T}
+use Rattle.std.specs.Prelude.{◌≡◌, List, ℕ, T, Some}
 use Rattle.std.specs.Float.{binary64}
 use Rattle.std.specs.Float.Ieee.{fits}
 use Rattle.sections.specs.Outcome.{Buffers, samples_in, before}
-use Rattle.rerender.specs.declared.Plan.TheVariants.{From}
 use Rattle.rerender.specs.Rerender.{plan_of}
 use Rattle.demands.specs.Peaks.{AllFinite, Tells, IsRight}
 use Rattle.ffi.specs.declared.Asked.{Asked}
@@ -25,4 +24,4 @@ pub record WordsPeaks : Type 0 where
   pub stays-told : (a : Asked) → T (fits binary64 a.sustain) → (old new : List ℕ) (b : Buffers) → AllFinite b.heard → Tells b.heard b.summary
       → Tells (rerender_for (choice_of a) old new b).left.heard (rerender_for (choice_of a) old new b).left.summary
   -- and leaves what lies before its start as it came
-  pub untouched : (a : Asked) (old new : List ℕ) (b : Buffers) (m : ℕ) → plan_of old new (samples_in b) ≡ From m → before m (rerender_for (choice_of a) old new b).left ≡ before m b
+  pub untouched : (a : Asked) (old new : List ℕ) (b : Buffers) (m : ℕ) → plan_of old new (samples_in b) ≡ Some m → before m (rerender_for (choice_of a) old new b).left ≡ before m b

@@ -26,6 +26,9 @@ const FAR: f64 = 1152921504606846976.0;
 // 2^52.
 const LARGE: f64 = 4503599627370496.0;
 
+// The whole wave that `sine` makes, or any table of as many numbers.
+type WholeWave = [f64; 4097];
+
 // Writes value * scale for each sample, and gives the phase after the last. That phase is not reduced: a render lends
 // parts of its output, and 01 says "The end of a caller's buffer reduces nothing".
 pub fn fill(
@@ -52,12 +55,9 @@ fn fill_sine(out: &mut [f64], start: Radians, step: Radians, scale: f64) -> Radi
 {
     let wave = sine::quarter_wave();
     let mut angle = start.0;
-    let mut i = 0;
-    while i < out.len() {
-        let t = normalised(Radians(angle));
-        out[i] = sine::reading_in(&wave, t) * scale;
-        angle = angle + step.0;
-        i += 1;
+    for sample in out.iter_mut() {
+        *sample = sine::reading_in(&wave, normalised(Radians(angle))) * scale;
+        angle += step.0;
     }
     Radians(angle)
 }
@@ -74,19 +74,24 @@ pub fn fill_in(
 ) -> Radians
     ensures { FilledBy (value_in wave.now waveform step.0) start.0 step.0 scale out.old out.new result }
 {
-    if wave.len() != 4097 {
+    let Ok(table) = <&WholeWave>::try_from(wave) else {
         return fill(out, waveform, start, step, scale);
-    }
+    };
     if let Waveform::Sine = waveform {
-        return fill_wave(wave, out, start, step, scale);
+        return fill_wave(table, out, start, step, scale);
     }
     fill(out, waveform, start, step, scale)
 }
 
 // First the remainders of the phases over TAU go into the output, as for a high note. Of phases that rise from 0 or
 // above, the remainders in cycles are from 0 to 1, and no reading has to be tested.
-fn fill_wave(wave: &[f64], out: &mut [f64], start: Radians, step: Radians, scale: f64) -> Radians
-    requires { length wave.now ≡ 4097 }
+fn fill_wave(
+    wave: &WholeWave,
+    out: &mut [f64],
+    start: Radians,
+    step: Radians,
+    scale: f64,
+) -> Radians
     ensures { FilledBy (λ (p : Float). whole_reading wave.now (normal_of p)) start.0 step.0 scale out.old out.new result }
 {
     let end = high_notes::fill_remainders(out, start, step);
@@ -99,44 +104,35 @@ fn fill_wave(wave: &[f64], out: &mut [f64], start: Radians, step: Radians, scale
 }
 
 // The readings of the remainders of phases.
-fn read_wave(wave: &[f64], out: &mut [f64], scale: f64)
+fn read_wave(wave: &WholeWave, out: &mut [f64], scale: f64)
     ensures { out.new ≡ made_of (λ (x : Float). whole_reading wave.now (x ⊗ inv_tau) ⊗ scale) out.old (length out.old) }
 {
-    let mut i = 0;
-    while i < out.len() {
-        let x = out[i];
-        let u = in_cycles(Radians(x));
-        out[i] = sine::whole_reading(wave, u) * scale;
-        i += 1;
+    for x in out.iter_mut() {
+        *x = sine::whole_reading(wave, in_cycles(Radians(*x))) * scale;
     }
 }
 
 // The readings of remainders that are from 0 to 1 in cycles, two at a time, which two lanes of a processor do at once.
-fn read_pairs(wave: &[f64], out: &mut [f64], scale: f64)
-    requires wave_len { length wave.now ≡ 4097 }
-    requires all_fractions { AllFractions out.old }
+fn read_pairs(wave: &WholeWave, out: &mut [f64], scale: f64)
+    requires { AllFractions out.old }
     ensures { out.new ≡ made_of (λ (x : Float). whole_reading wave.now (x ⊗ inv_tau) ⊗ scale) out.old (length out.old) }
 {
-    let mut i = 0;
-    while 1 < out.len() - i {
-        let x = out[i];
-        let y = out[i + 1];
-        let first = reading_at(wave, in_cycles(Radians(x))) * scale;
-        let second = reading_at(wave, in_cycles(Radians(y))) * scale;
+    for pair in 0..out.len() / 2 {
+        let i = pair * 2;
+        let first = reading_at(wave, in_cycles(Radians(out[i]))) * scale;
+        let second = reading_at(wave, in_cycles(Radians(out[i + 1]))) * scale;
         out[i] = first;
         out[i + 1] = second;
-        i += 2;
     }
-    if i < out.len() {
-        let x = out[i];
-        out[i] = reading_at(wave, in_cycles(Radians(x))) * scale;
+    if out.len() % 2 == 1 {
+        let last = out.len() - 1;
+        out[last] = reading_at(wave, in_cycles(Radians(out[last]))) * scale;
     }
 }
 
 // The reading at u cycles. The low digits of the sum are the table's point; point 4,096 is read as point 0.
-fn reading_at(wave: &[f64], u: f64) -> f64
-    requires wave_len { length wave.now ≡ 4097 }
-    requires t { T (within zero64 one u) }
+fn reading_at(wave: &WholeWave, u: f64) -> f64
+    requires { T (within zero64 one u) }
     ensures { result ≡ whole_reading wave.now u }
 {
     let p = u * 4096.0;

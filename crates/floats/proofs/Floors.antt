@@ -6,10 +6,10 @@ use Prim.Native.Nat.{ℕ, zero, suc, ◌+◌, ◌-◌, ◌*◌, ◌^◌, ◌≤�
 use native.Mathlib.Nat as nat
 use native.Mathlib.Omega.{arith}
 use lib.IntN.{pos}
-use lib.Dec.{T, lit<, le→leb}
+use lib.Dec.{T, lit<}
 use lib.Pow.{pow-add, pow_pos, pow_mono}
 use lib.Ieee.{Float, nan, inf, fin, Format, prec, emax, low, hid, ones}
-use lib.Ieee.{up, down, round, neg, fits, of_int, in_float}
+use lib.Ieee.{up, down, round, neg, fits, of_int}
 use lib.Ieee.Fits.{down_pos, round-fits}
 use lib.Ieee.Exact.{HasValue, round_exact}
 use lib.Ieee.Back.{whole_unique}
@@ -89,7 +89,3 @@ from-whole f n = refl
 pub from-whole-neg : (f : Format) (n : ℕ) → neg (of_int f (pos n)) ≡ round f true n 1
 unfolding of_int
 from-whole-neg f n = neg-round f false n 1
-
-pub casts : (f : Format) (n : ℕ) → n ≤ 2 ^ prec f → T (in_float f (pos n))
-unfolding in_float
-casts f n h = le→leb n (2 ^ prec f) h

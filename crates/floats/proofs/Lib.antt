@@ -42,12 +42,14 @@ pub mod Pattern
 pub mod Fields
 -- the floor from a fraction that equals the number
 pub mod Floors
--- what the tests of `floor_f32` and `floor_by_bits` show
+-- what the tests of `floor_by_bits` show
 pub mod Tests
 -- the floor of a number above 0 and below 2, by comparisons
 pub mod Low
 -- the floor is the greatest whole number not above x
 pub mod Greatest
+-- an f64 holds every f32, and has the same floor
+pub mod Widths
 -- x - floor(x) lies from 0 to 1
 pub mod Fraction
 -- a number is written in one way, and x * 1 is x

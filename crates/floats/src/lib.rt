@@ -1,19 +1,69 @@
-// The floor of an f32 and of an f64 ("`floor` is worked out from the bits", 01), and two tests of a float: that it is
-// in a range, and that it is finite. proofs/ has the laws of float arithmetic that the other crates cite, most of them
+// The floor of a float of either width ("`floor` is worked out from the bits", 01), and two tests: that an f64 is in a
+// range, and that a float is finite. proofs/ has the laws of float arithmetic that the other crates cite, most of them
 // for both widths at once. Left out: all other arithmetic, which is the language's own, and the C library.
 #![tactic(auto)]
 
-ghost use Rattle.std.specs.Prelude.{◌≡◌, Bool, ◌<◌, ◌≤◌, ◌^◌};
-ghost use Rattle.std.specs.Float.{binary32, binary64};
+ghost use Rattle.std.specs.Prelude.{◌≡◌, Bool, ◌<◌, ◌≤◌, ◌^◌, T};
+ghost use Rattle.std.specs.Float.{Float, Format, binary32, binary64};
+ghost use Rattle.std.specs.Float.Ieee.{fits};
 ghost use Rattle.std.specs.Float.Ieee.Scale.{finite};
 ghost use Rattle.floats.specs.Floor.{floor_of, whole_of};
 ghost use Rattle.floats.specs.Range.{within};
 
-// The largest finite f32, 2^128 - 2^104.
-const LARGEST_F32: f32 = 340282346638528859811704183484516925440.0;
+use std::num;
 
-// The largest finite f64, 2^1024 - 2^971.
-const LARGEST_F64: f64 = 1.7976931348623157e308;
+// A float of either width. An f64 holds every f32, so what is asked of an f32 is asked of an f64.
+pub trait Binary {
+    ghost format: { Format };
+
+    // The number that it is, as clauses on floats see it, and the float that is a number.
+    ghost number: { Self → Float };
+
+    ghost of_number: { Float → Self };
+
+    fn widened(self) -> f64
+        ensures same { result ≡ number self }
+        ensures held { T (fits format result) };
+
+    fn narrowed(x: f64) -> Self
+        requires { T (fits format x) }
+        ensures { result ≡ of_number x };
+}
+
+impl Binary for f32 {
+    ghost format = { binary32 };
+
+    ghost number = { λ x. x };
+
+    ghost of_number = { λ x. x };
+
+    fn widened(self) -> f64 {
+        num::f32_to_f64_with_nan(self)
+    }
+
+    fn narrowed(x: f64) -> f32 {
+        if x != x {
+            return 0.0 / 0.0;
+        }
+        x as f32
+    }
+}
+
+impl Binary for f64 {
+    ghost format = { binary64 };
+
+    ghost number = { λ x. x };
+
+    ghost of_number = { λ x. x };
+
+    fn widened(self) -> f64 {
+        self
+    }
+
+    fn narrowed(x: f64) -> f64 {
+        x
+    }
+}
 
 // Whether low <= x <= high; false for a NaN.
 pub fn is_within(low: f64, high: f64, x: f64) -> bool
@@ -23,50 +73,22 @@ pub fn is_within(low: f64, high: f64, x: f64) -> bool
 }
 
 // Whether x is neither an infinity nor a NaN.
-pub fn is_finite_f32(x: f32) -> bool
-    ensures { result ≡ finite x }
+pub fn is_finite<F: Binary>(x: F) -> bool
+    ensures { result ≡ finite (F.number x) }
 {
-    (-LARGEST_F32 <= x) & (x <= LARGEST_F32)
-}
-
-pub fn is_finite_f64(x: f64) -> bool
-    ensures { result ≡ finite x }
-{
-    (-LARGEST_F64 <= x) & (x <= LARGEST_F64)
+    let x = x.widened();
+    (-f64::MAX <= x) & (x <= f64::MAX)
 }
 
 // The greatest whole number not above x, with the sign of x: floor(-0) is -0. An infinity or a NaN comes back as it is.
-pub fn floor_f32(x: f32) -> f32
-    ensures { result ≡ floor_of binary32 x }
+pub fn floor<F: Binary>(x: F) -> F
+    ensures { result ≡ F.of_number (floor_of F.format (F.number x)) }
 {
-    if x != x {
-        return x;
-    }
-    let bits = f32::to_bits(x);
-    let size = bits % 0x8000_0000;
-    // |x| >= 2^23: the last digit counts 1 or more, so x is whole, or it is an infinity
-    if size >= 0x4b00_0000 {
-        return x;
-    }
-    if size == 0 {
-        return x;
-    }
-    let negative = bits >= 0x8000_0000;
-    // |x| < 1
-    if size < 0x3f80_0000 {
-        if negative {
-            return -1.0;
-        }
-        return 0.0;
-    }
-    let field = size / 0x80_0000;
-    let digits = 0x80_0000 + size % 0x80_0000;
-    let n = whole(digits as u64, 150 - field, negative);
-    if negative { -(n as f32) } else { n as f32 }
+    F::narrowed(floor_f64(x.widened()))
 }
 
-// The floor of an f64: by comparisons inside 0 < x < 2, where `polyblep` needs it most, and elsewhere from the bits.
-pub fn floor_f64(x: f64) -> f64
+// By comparisons inside 0 < x < 2, where `polyblep` needs it most, and elsewhere from the bits.
+fn floor_f64(x: f64) -> f64
     ensures { result ≡ floor_of binary64 x }
 {
     if (0.0 < x) & (x < 2.0) {

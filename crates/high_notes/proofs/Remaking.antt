@@ -3,12 +3,14 @@
 use mathlib.Core.Path.{◌≡◌, refl, sym, ap, subst, ◌∙◌}
 use mathlib.Core.Bool.{Bool, true, false, cond, ◌&&◌, ◌||◌}
 use mathlib.Core.List.{List}
+use mathlib.Core.Logic.{◌≢◌}
 use Prim.Native.Nat.{ℕ, ◌+◌, ◌<◌, ◌≤◌}
 use native.Mathlib.Numerals.{add-one}
 use native.Mathlib.Omega.{arith}
 use lib.Dec.{T}
 use lib.ListN.{length, take, get_or, set, length-set}
-use lib.Seq.{take-suc-set, take_all, get_or-set_other}
+use borrow.Author.Count.{below_more}
+use lib.Seq.{take-suc-set, take_all, get_or-set_same, get_or-set_other, ext_get_or}
 use lib.Ieee.{Float, nan, binary64, of_bits, add, sub, lt, le}
 use lib.Ieee.Bits.{is_true}
 use lib.Ieee.Fits.{and_i, and_l, and_r}
@@ -29,39 +31,11 @@ use Rattle.waveform.specs.declared.Waveform.{Waveform}
 use Rattle.waveform.specs.Waveform.{value_of, remainder_of, normal_of, inv_tau, radians}
 use Rattle.waveform.specs.Filled.{phase_from, samples_by, FilledBy, Filled}
 use Rattle.high_notes.specs.Remainders.{made_of, remainders_of}
-use Rattle.high_notes.specs.Inner.{least, most, AllFractions, is_near, knee_of}
+use Rattle.high_notes.specs.Inner.{least, most, EachMade, is_near, knee_of}
 use Rattle.waveform.proofs.Steps.{phase_more}
 
 -- ---- a list made anew
--- of a list that held xs the first i numbers are made so, and the others are as they were
-pub record Remade (value : Float → Float) (xs ys : List Float) (i : ℕ) : Type 0 where
-  pub long : length ys ≡ length xs
-  pub within : i ≤ length xs
-  pub first : take i ys ≡ made_of value xs i
-  pub others : (j : ℕ) → i ≤ j → get_or ys j nan ≡ get_or xs j nan
-
 module _ (value : Float → Float) (xs : List Float) where
-  pub remade_none : Remade value xs xs 0
-  unfolding made_of listed
-  remade_none = record { long = refl; within = omega arith; first = refl; others = λ j h. refl }
-
-  pub remade_more : (ys : List Float) (v : Float) (i : ℕ) → i < length ys → v ≡ value (get_or ys i nan) → Remade value xs ys i → Remade value xs (set ys i v) (i + 1)
-  unfolding made_of listed
-  remade_more ys v i h e b =
-      record {
-        long = simp length-set b.long;
-        within = omega (arith, b.long);
-        first = rw (add-one i, take-suc-set ys i v h, b.first, e, b.others i (omega arith)) refl;
-        others = λ j g. get_or-set_other ys i j _ nan (λ q. omega arith) ∙ b.others j (omega arith);
-      }
-
-  pub remade_all : (ys : List Float) (i : ℕ) → length ys ≤ i → Remade value xs ys i → ys ≡ made_of value xs (length xs)
-  remade_all ys i h b = let z : i ≡ length xs = omega (arith, b.long, b.within) in sym (take_all i ys h) ∙ b.first ∙ ap (made_of value xs) z
-
-  -- what is still to be made is a fraction of a cycle, where all were
-  pub still_fraction : (ys : List Float) (i : ℕ) → AllFractions xs → i < length ys → Remade value xs ys i → T (within zero64 one (get_or ys i nan ⊗ inv_tau))
-  still_fraction ys i a h b = subst (λ (x : Float). T (within zero64 one (x ⊗ inv_tau))) (sym (b.others i (omega arith))) (a i (omega (arith, b.long)))
-
   pub made-length : (k : ℕ) → length (made_of value xs k) ≡ k
   unfolding made_of
   made-length = listed-length _
@@ -69,6 +43,32 @@ module _ (value : Float → Float) (xs : List Float) where
   pub made_at : (k i : ℕ) → i < k → get_or (made_of value xs k) i nan ≡ value (get_or xs i nan)
   unfolding made_of
   made_at k i = listed_at _ k i nan
+
+-- of a list that held xs the first i numbers are made of those that stood there, and the others are as they were
+pub record MadeUpTo (made : Float → Float → Type 0) (xs ys : List Float) (i : ℕ) : Type 0 where
+  pub long : length ys ≡ length xs
+  pub first : (k : ℕ) → k < i → made (get_or xs k nan) (get_or ys k nan)
+  pub others : (k : ℕ) → i ≤ k → get_or ys k nan ≡ get_or xs k nan
+
+module _ (made : Float → Float → Type 0) (xs : List Float) where
+  pub made-none : MadeUpTo made xs xs 0
+  made-none = record { long = refl; first = λ k h. absurd (omega arith); others = λ k h. refl }
+
+  pub made-more : (ys : List Float) (v : Float) (i : ℕ) → i < length ys → made (get_or ys i nan) v → MadeUpTo made xs ys i → MadeUpTo made xs (set ys i v) (i + 1)
+  made-more ys v i h m b =
+      record {
+        long = simp length-set b.long;
+        first = below_more (λ k. made (get_or xs k nan) (get_or (set ys i v) k nan)) i (λ k l. let n : k ≢ i = omega arith in rw get_or-set_other (b.first k l))
+            (rw (get_or-set_same ys i v nan h, ← b.others i (omega arith)) m);
+        others = λ j g. get_or-set_other ys i j _ nan (λ q. omega arith) ∙ b.others j (omega arith);
+      }
+
+  pub made-all : (ys : List Float) (i : ℕ) → length ys ≤ i → MadeUpTo made xs ys i → EachMade made xs ys
+  made-all ys i h b = record { long = b.long; each = λ k l. b.first k (omega (arith, b.long)) }
+
+-- where what is made is a value of what was there
+pub made-values : (made : Float → Float → Type 0) (value : Float → Float) (xs ys : List Float) → EachMade made xs ys → ((i : ℕ) → i < length xs → (y : Float) → made (get_or xs i nan) y → y ≡ value (get_or xs i nan)) → ys ≡ made_of value xs (length xs)
+made-values made value xs ys m e = ext_get_or nan ys (made_of value xs (length xs)) (m.long ∙ sym (made-length value xs (length xs))) (λ i h. let l : i < length xs = omega (arith, m.long) in e i l _ (m.each i l) ∙ sym (made_at value xs (length xs) i l))
 
 -- made of what was made
 pub made-twice : (f g h : Float → Float) (xs ys zs : List Float) → ys ≡ made_of f xs (length xs) → zs ≡ made_of g ys (length ys) → ((i : ℕ) → i < length xs → g (f (get_or xs i nan)) ≡ h (get_or xs i nan)) → zs ≡ made_of h xs (length xs)

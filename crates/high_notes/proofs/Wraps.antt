@@ -3,12 +3,13 @@
 -- block keep below its end, and their remainders are fractions of a cycle. Assumes nothing.
 use mathlib.Core.Path.{◌≡◌, refl, sym, subst, ap, ◌∙◌}
 use mathlib.Core.Bool.{Bool, true, false, cond, not, ◌&&◌}
-use mathlib.Core.List.{List}
+use mathlib.Core.List.{List, [], ◌∷◌}
 use Prim.Native.Nat.{ℕ, zero, suc, ◌+◌, ◌-◌, ◌*◌, ◌%◌, ◌≤◌, ◌<◌}
 use native.Mathlib.Nat as nat
 use native.Mathlib.Omega.{arith}
 use lib.Dec.{T, ltb, ltb→lt, not_T}
 use lib.ListN.{length, get_or}
+use lib.Seq.{ext_get_or}
 use lib.Ieee.{Float, nan, inf, fin, binary64, of_bits, rem, lt, le, fits, sum, sub}
 use lib.Ieee.Bits.{is_false}
 use lib.Ieee.Exact.{HasValue}
@@ -23,7 +24,7 @@ use Rattle.floats.proofs.Literals.{zero_of-is}
 use Rattle.floats.proofs.Order.{fle_trans, fle_refl, le-lt-lt, lt_not_le, not-lt-le, cross→le, le→cross, nonneg→finite, positive-nonneg, signed, under}
 use Rattle.floats.proofs.Operations.{dens_pos, sub_is, rem_is}
 use Rattle.floats.proofs.OneWay.{self-is}
-use Rattle.floats.proofs.Ranges.{rem-ge0, rem-le, ge0-positive, add_grows, within-nonneg}
+use Rattle.floats.proofs.Ranges.{rem-ge0, rem-le, rem-le-first, ge0-positive, add_grows, within-nonneg}
 use Rattle.floats.proofs.Remainder.{mod_scale, rem_value, rem_lt}
 use Rattle.floats.proofs.Units.{rem_below, rem_once}
 use Rattle.waveform.specs.Waveform.{tau, two_tau, remainder_of}
@@ -150,38 +151,67 @@ pub wrapped_once : (y z : Float) → Double y z → (xs ys : List Float) → All
 unfolding made_of
 wrapped_once y z d xs ys all e = e ∙ listed_same _ _ (length xs) (λ i l. wrap_once-is y z d (get_or xs i nan) (all i l))
 
--- the remainder over y is below y, and has the same remainder over TAU where y is k times TAU
-module _ (y z : Float) (k : ℕ) (d : Double y z) (times : num y * den tau ≡ k * (num tau * den y)) (xs ys : List Float) (all : AllBelow z xs) (e : ys ≡ made_of (wrap_once_of y) xs (length xs)) where
-  pub all_below : AllBelow y ys
-  all_below i l =
-      let h = wrapped_once y z d xs ys all e in
-      let less : i < length xs = rw (ap length h ∙ made-length _ xs (length xs)) at l in
-      let b = all i less in
-      let x = get_or xs i nan in
-      rw (h, made_at (λ (x : Float). rem binary64 x y) xs (length xs) i less)
-      (record {
-        fit = rem-fits binary64 x y b.fit;
-        sign = under (rem binary64 x y) y (rem-ge0 binary64 x y b.sign d.above) (nonneg→finite y (positive-nonneg y d.above)) (rem-le binary64 x y d.fit b.sign d.above);
-        under = rem_lt binary64 x y b.fit d.fit b.sign d.above;
-      })
+-- ---- difference by difference, over fewer and fewer cycles
+-- y is k times TAU, and z is 2 y
+pub record Over (y z : Float) : Type 0 where
+  pub double : Double y z
+  pub cycles : ℕ
+  pub times : num y * den tau ≡ cycles * (num tau * den y)
 
-  pub wraps_on : (zs : List Float) → zs ≡ made_of remainder_of ys (length ys) → zs ≡ made_of remainder_of xs (length xs)
-  wraps_on zs h = made-twice (λ (x : Float). rem binary64 x y) remainder_of remainder_of xs ys zs (wrapped_once y z d xs ys all e) h (λ i l. remainder_of-remainder tau y k d.fit tau-positive d.above times (get_or xs i nan) (all i l).fit (all i l).sign)
+-- xs has become ys, whose numbers are below z and have the remainders of those of xs; where the end is below a bound,
+-- so are all numbers
+pub record WrappedBelow (end z : Float) (xs ys : List Float) : Type 0 where
+  pub under : AllBelow z ys
+  pub within : (bound : Float) → T (finite bound) → T (lt end bound) → AllBelow bound ys
+  pub same : made_of remainder_of ys (length ys) ≡ made_of remainder_of xs (length xs)
 
-pub one-two : Double tau two_tau
-one-two = record { fit = unfold of_bits in unfold fits in tt; above = unfold of_bits in tt; over = unfold of_bits in tt; double = unfold of_bits in refl }
+module _ (end y z : Float) (o : Over y z) (xs ys : List Float) (w : WrappedBelow end z xs ys) where
+  -- no difference is needed where the end is below y
+  pub wrapped-not : T (lt end y) → WrappedBelow end y xs ys
+  wrapped-not l = record { under = w.within y (nonneg→finite y (positive-nonneg y o.double.above)) l; within = w.within; same = w.same }
 
-pub two-four : Double two_tau four_tau
-two-four = record { fit = unfold of_bits in unfold fits in tt; above = unfold of_bits in tt; over = unfold of_bits in tt; double = unfold of_bits in refl }
+  pub wrapped-below : (zs : List Float) → zs ≡ made_of (wrap_once_of y) ys (length ys) → WrappedBelow end y xs zs
+  wrapped-below zs e =
+      record {
+        under = λ i l. at i l y (λ less. let b = w.under i less in rem_lt binary64 (get_or ys i nan) y b.fit o.double.fit b.sign o.double.above);
+        within = λ bound f t i l. at i l bound (λ less. let b = w.within bound f t i less in
+            le-lt-lt (rem binary64 (get_or ys i nan) y) (get_or ys i nan) bound (nonneg→finite (rem binary64 (get_or ys i nan) y) (kept _ b.sign)) f (rem-le-first binary64 (get_or ys i nan) y b.fit b.sign o.double.above) b.under);
+        same = made-twice (λ (x : Float). rem binary64 x y) remainder_of remainder_of ys zs _ made refl (λ i l. remainder_of-remainder tau y o.cycles o.double.fit tau-positive o.double.above o.times (get_or ys i nan) (w.under i l).fit (w.under i l).sign) ∙ w.same;
+      }
+    where
+      made : zs ≡ made_of (λ (x : Float). rem binary64 x y) ys (length ys)
+      made = wrapped_once y z o.double ys zs w.under e
 
-pub four-eight : Double four_tau eight_tau
-four-eight = record { fit = unfold of_bits in unfold fits in tt; above = unfold of_bits in tt; over = unfold of_bits in tt; double = unfold of_bits in refl }
+      kept : (x : Float) → T (nonneg x) → T (nonneg (rem binary64 x y))
+      kept x s = under (rem binary64 x y) y (rem-ge0 binary64 x y s o.double.above) (nonneg→finite y (positive-nonneg y o.double.above)) (rem-le binary64 x y o.double.fit s o.double.above)
 
-pub eight-sixteen : Double eight_tau sixteen_tau
-eight-sixteen = record { fit = unfold of_bits in unfold fits in tt; above = unfold of_bits in tt; over = unfold of_bits in tt; double = unfold of_bits in refl }
+      at : (i : ℕ) → i < length zs → (bound : Float) → (i < length ys → T (lt (rem binary64 (get_or ys i nan) y) bound)) → Below bound (get_or zs i nan)
+      at i l bound u =
+          let less : i < length ys = rw (ap length made ∙ made-length _ ys (length ys)) at l in
+          let b = w.under i less in
+          rw (made, made_at (λ (x : Float). rem binary64 x y) ys (length ys) i less) (record { fit = rem-fits binary64 (get_or ys i nan) y b.fit; sign = kept _ b.sign; under = u less })
 
-pub sixteen_thirty_two : Double sixteen_tau thirty_two_tau
-sixteen_thirty_two = record { fit = unfold of_bits in unfold fits in tt; above = unfold of_bits in tt; over = unfold of_bits in tt; double = unfold of_bits in refl }
+-- below TAU a number is its remainder
+pub wrapped-all : (end : Float) (xs ys : List Float) → WrappedBelow end tau xs ys → ys ≡ made_of remainder_of xs (length xs)
+wrapped-all end xs ys w =
+    ext_get_or nan ys (made_of remainder_of ys (length ys)) (sym (made-length remainder_of ys (length ys)))
+    (λ i l. let b = w.under i l in sym (rem_below binary64 (get_or ys i nan) tau b.fit b.sign tau-positive b.under) ∙ sym (made_at remainder_of ys (length ys) i l))
+    ∙ w.same
+
+-- the numbers of radians of the differences, and below what each leaves the phases
+abbrev pub overs : List Float
+overs = sixteen_tau ∷ eight_tau ∷ four_tau ∷ two_tau ∷ tau ∷ []
+
+abbrev pub bounds : List Float
+bounds = thirty_two_tau ∷ overs
+
+pub over_at : (i : ℕ) → i < 5 → Over (get_or overs i nan) (get_or bounds i nan)
+over_at zero h = record { double = record { fit = unfold of_bits in unfold fits in tt; above = unfold of_bits in tt; over = unfold of_bits in tt; double = unfold of_bits in refl }; cycles = 16; times = unfold of_bits in refl }
+over_at (suc zero) h = record { double = record { fit = unfold of_bits in unfold fits in tt; above = unfold of_bits in tt; over = unfold of_bits in tt; double = unfold of_bits in refl }; cycles = 8; times = unfold of_bits in refl }
+over_at (suc (suc zero)) h = record { double = record { fit = unfold of_bits in unfold fits in tt; above = unfold of_bits in tt; over = unfold of_bits in tt; double = unfold of_bits in refl }; cycles = 4; times = unfold of_bits in refl }
+over_at (suc (suc (suc zero))) h = record { double = record { fit = unfold of_bits in unfold fits in tt; above = unfold of_bits in tt; over = unfold of_bits in tt; double = unfold of_bits in refl }; cycles = 2; times = unfold of_bits in refl }
+over_at (suc (suc (suc (suc zero)))) h = record { double = record { fit = unfold of_bits in unfold fits in tt; above = unfold of_bits in tt; over = unfold of_bits in tt; double = unfold of_bits in refl }; cycles = 1; times = unfold of_bits in refl }
+over_at (suc (suc (suc (suc (suc i))))) h = absurd (omega arith)
 
 -- ---- the phases of a rising block
 module _ (step p : Float) (w : T (fits binary64 p)) (h : (within zero64 far p && within zero64 sixteen step) ≡ true) where

@@ -45,6 +45,11 @@ pub record Below (bound x : Float) : Type 0 where
 abbrev pub AllBelow : Float → List Float → Type 0
 AllBelow bound xs = (i : ℕ) → i < length xs → Below bound (get_or xs i nan)
 
+-- every number of ys is what is made of the number of xs in its place
+pub record EachMade (made : Float → Float → Type 0) (xs ys : List Float) : Type 0 where
+  pub long : length ys ≡ length xs
+  pub each : (i : ℕ) → i < length xs → made (get_or xs i nan) (get_or ys i nan)
+
 -- every number of a list, in cycles, is from 0 to 1
 abbrev pub AllFractions : List Float → Type 0
 AllFractions xs = (i : ℕ) → i < length xs → T (within zero64 one (get_or xs i nan ⊗ inv_tau))

@@ -2,7 +2,8 @@
 // go into the output, then their remainders over TAU, then the values with their corrections, by loops without branch.
 #![tactic(auto)]
 
-ghost use Rattle.std.specs.Prelude.{◌≡◌, true, cond, ◌&&◌, T, length, Float};
+ghost use Rattle.std.specs.Prelude.{◌≡◌, ℕ, ◌<◌, true, cond, ◌&&◌, T, length, get_or, Float};
+ghost use Rattle.std.specs.Float.{nan};
 ghost use Rattle.std.specs.Float.Ieee.{lt};
 ghost use Rattle.std.specs.Float.Ieee.Scale.{finite};
 ghost use Rattle.runs.specs.Runs.{listed};
@@ -13,10 +14,13 @@ ghost use Rattle.waveform.specs.Waveform.{value_of, remainder_of, inv_tau, radia
 ghost use Rattle.waveform.specs.Filled.{phase_from, Filled};
 ghost use Rattle.waveform.proofs.Values.{far, sixteen};
 ghost use Rattle.high_notes.specs.Remainders.{made_of, remainders_of};
-ghost use Rattle.high_notes.specs.Inner.{four_tau, eight_tau, thirty_two_tau, wrap_once_of, AllBelow, AllFractions, quarter, three_quarters, is_second, HalfApart, Apart, is_apart, is_near, knee_of, from_nearer_corner, with_nearer_corner};
+ghost use Rattle.high_notes.specs.Inner.{least, most, four_tau, eight_tau, thirty_two_tau, EachMade, wrap_once_of, AllBelow, AllFractions, quarter, three_quarters, is_second, HalfApart, Apart, is_apart, is_near, knee_of, from_nearer_corner, with_nearer_corner};
 ghost use Rattle.waveform.specs.declared.Waveform.TheVariants.{Pulse};
 
 use waveform::{Radians, TAU, TWO_TAU, Waveform, in_cycles, remainder, value_at};
+
+// 2^60 radians, beyond which no step of at most 16 takes a phase.
+const FAR: f64 = 1152921504606846976.0;
 
 const FOUR_TAU: f64 = 25.132741228718345;
 
@@ -63,13 +67,10 @@ pub fn fill_remainders(out: &mut [f64], start: Radians, step: Radians) -> Radian
 fn fill_phases(out: &mut [f64], start: Radians, step: Radians) -> Radians
     ensures { (out.new ≡ listed (phase_from step.0 start.0) (length out.old)) × (result ≡ radians (phase_from step.0 start.0 (length out.old))) }
 {
-    let by = step.0;
     let mut angle = start.0;
-    let mut i = 0;
-    while i < out.len() {
-        out[i] = angle;
-        angle = angle + by;
-        i += 1;
+    for x in out.iter_mut() {
+        *x = angle;
+        angle += step.0;
     }
     Radians(angle)
 }
@@ -78,69 +79,40 @@ fn fill_phases(out: &mut [f64], start: Radians, step: Radians) -> Radians
 fn is_rising(start: Radians, step: Radians) -> bool
     ensures { result ≡ (within zero64 far start.0 && within zero64 sixteen step.0) }
 {
-    ((0.0 <= start.0) & (start.0 <= 1152921504606846976.0)) & ((0.0 <= step.0) & (step.0 <= 16.0))
+    floats::is_within(0.0, FAR, start.0) & floats::is_within(0.0, 16.0, step.0)
 }
 
-// Makes remainders over TAU of phases, none of which is above the phase after the last.
+// Makes remainders over TAU of phases, none of which is above the phase after the last: below 32 TAU by differences,
+// over fewer and fewer cycles.
 fn wrap_phases(out: &mut [f64], end: Radians)
     requires { (bound : Float) → T (finite bound) → T (lt end.0 bound) → AllBelow bound out.old }
     ensures { out.new ≡ made_of remainder_of out.old (length out.old) }
 {
-    if end.0 < TWO_TAU {
-        wrap_once(out, Radians(TAU));
-        return;
-    }
-    if end.0 < FOUR_TAU {
-        wrap_below_4_cycles(out);
-        return;
-    }
-    if end.0 < EIGHT_TAU {
-        wrap_below_8_cycles(out);
-        return;
-    }
     if end.0 < THIRTY_TWO_TAU {
-        wrap_below_32_cycles(out);
+        for over in [SIXTEEN_TAU, EIGHT_TAU, FOUR_TAU, TWO_TAU, TAU] {
+            if end.0 < over {
+                continue;
+            }
+            wrap_once(out, Radians(over));
+        }
         return;
     }
     wrap_one_by_one(out);
 }
 
-// Phases below 4 TAU, by two differences.
-fn wrap_below_4_cycles(out: &mut [f64])
-    requires { AllBelow four_tau out.old }
-    ensures { out.new ≡ made_of remainder_of out.old (length out.old) }
-{
-    wrap_once(out, Radians(TWO_TAU));
-    wrap_once(out, Radians(TAU));
-}
-
-fn wrap_below_8_cycles(out: &mut [f64])
-    requires { AllBelow eight_tau out.old }
-    ensures { out.new ≡ made_of remainder_of out.old (length out.old) }
-{
-    wrap_once(out, Radians(FOUR_TAU));
-    wrap_below_4_cycles(out);
-}
-
-// Phases below 32 TAU, by five differences.
-fn wrap_below_32_cycles(out: &mut [f64])
-    requires { AllBelow thirty_two_tau out.old }
-    ensures { out.new ≡ made_of remainder_of out.old (length out.old) }
-{
-    wrap_once(out, Radians(SIXTEEN_TAU));
-    wrap_once(out, Radians(EIGHT_TAU));
-    wrap_below_8_cycles(out);
-}
-
 fn wrap_one_by_one(out: &mut [f64])
     ensures { out.new ≡ made_of remainder_of out.old (length out.old) }
 {
-    let mut i = 0;
-    while i < out.len() {
-        let x = out[i];
-        let rest = remainder(Radians(x));
-        out[i] = rest.0;
-        i += 1;
+    map_each(out, |x| remainder(Radians(x)).0);
+}
+
+// Each number is replaced by what `f` makes of it.
+fn map_each<F: Fn(f64) -> f64>(out: &mut [f64], f: F)
+    requires { (i : ℕ) → i < length out.old → F.pre f (get_or out.old i nan) }
+    ensures { EachMade (λ (x y : Float). F.post f x y) out.old out.new }
+{
+    for x in out.iter_mut() {
+        *x = f(*x);
     }
 }
 
@@ -149,43 +121,32 @@ fn wrap_once(out: &mut [f64], over: Radians)
     ensures { out.new ≡ made_of (wrap_once_of over.0) out.old (length out.old) }
 {
     let y = over.0;
-    let mut i = 0;
-    while i < out.len() {
-        let x = out[i];
-        out[i] = x - select(x < y, 0.0, y);
-        i += 1;
-    }
+    map_each(out, |x| x - select(x < y, 0.0, y));
 }
 
-// The values at remainders, which are from 0 to 1 in cycles: with one correction a sample where that suffices. The
-// rounded triangle has a loop of its own: with one case more the back end would leave the match in the loop.
+// The values at remainders, which are from 0 to 1 in cycles: with one correction a sample where the edges are so far
+// apart that no sample has two. The back end takes the match and the test out of each loop; with the rounded triangle
+// as one case more it would leave the match inside, so that this waveform has a loop of its own.
 fn fill_values(out: &mut [f64], waveform: Waveform, dt: f64, scale: f64)
     requires { AllFractions out.old }
     ensures { out.new ≡ made_of (λ (x : Float). value_of waveform (x ⊗ inv_tau) dt ⊗ scale) out.old (length out.old) }
 {
     if let Waveform::RoundedTriangle = waveform {
-        fill_rounded(out, dt, scale);
+        let apart = is_half_apart(dt);
+        map_each(out, |x| {
+            rounded_value(in_cycles(Radians(x)), dt, apart) * scale
+        });
         return;
     }
     if are_apart(waveform, dt) {
-        fill_values_apart(out, waveform, dt, scale);
+        map_each(out, |x| {
+            value_apart(waveform, in_cycles(Radians(x)), dt) * scale
+        });
         return;
     }
-    fill_values_any(out, waveform, dt, scale);
-}
-
-// The values with both corrections. The back end takes the match out of the loop.
-fn fill_values_any(out: &mut [f64], waveform: Waveform, dt: f64, scale: f64)
-    requires { AllFractions out.old }
-    ensures { out.new ≡ made_of (λ (x : Float). value_of waveform (x ⊗ inv_tau) dt ⊗ scale) out.old (length out.old) }
-{
-    let mut i = 0;
-    while i < out.len() {
-        let x = out[i];
-        let u = in_cycles(Radians(x));
-        out[i] = branchless_value(waveform, u, dt) * scale;
-        i += 1;
-    }
+    map_each(out, |x| {
+        branchless_value(waveform, in_cycles(Radians(x)), dt) * scale
+    });
 }
 
 // `value_at` of a fraction of a cycle, without a branch that depends on the fraction; a sine and a rounded triangle,
@@ -203,21 +164,6 @@ fn branchless_value(waveform: Waveform, u: f64, dt: f64) -> f64
     }
 }
 
-// The values of a rounded triangle. The back end takes the test out of the loop.
-fn fill_rounded(out: &mut [f64], dt: f64, scale: f64)
-    requires { AllFractions out.old }
-    ensures { out.new ≡ made_of (λ (x : Float). rounded_of (x ⊗ inv_tau) dt ⊗ scale) out.old (length out.old) }
-{
-    let apart = is_half_apart(dt);
-    let mut i = 0;
-    while i < out.len() {
-        let x = out[i];
-        let u = in_cycles(Radians(x));
-        out[i] = rounded_value(u, dt, apart) * scale;
-        i += 1;
-    }
-}
-
 // With the nearer corner's correction alone where the corners are apart, else with both.
 fn rounded_value(u: f64, dt: f64, apart: bool) -> f64
     requires { T (within zero64 one u) × (apart ≡ true → HalfApart dt) }
@@ -230,19 +176,6 @@ fn rounded_value(u: f64, dt: f64, apart: bool) -> f64
 }
 
 // ---- the two edges are so far apart that no sample has two corrections: the correction of the nearer edge alone
-fn fill_values_apart(out: &mut [f64], waveform: Waveform, dt: f64, scale: f64)
-    requires { AllFractions out.old × Apart waveform dt }
-    ensures { out.new ≡ made_of (λ (x : Float). value_of waveform (x ⊗ inv_tau) dt ⊗ scale) out.old (length out.old) }
-{
-    let mut i = 0;
-    while i < out.len() {
-        let x = out[i];
-        let u = in_cycles(Radians(x));
-        out[i] = value_apart(waveform, u, dt) * scale;
-        i += 1;
-    }
-}
-
 fn value_apart(waveform: Waveform, u: f64, dt: f64) -> f64
     requires { T (within zero64 one u) × Apart waveform dt }
     ensures { result ≡ value_of waveform u dt }
@@ -346,7 +279,15 @@ fn is_duty_apart(duty: f64, dt: f64) -> bool
         1.0 - duty + 1.0,
         dt,
     );
-    ((0.0009765625 <= duty) & (duty <= 0.9990234375)) & apart
+    is_wide(duty) & apart
+}
+
+// Whether a duty is far enough from 0 and 1 that the second edge's phase is above 0 and below 2: from 2^-10 to 1 -
+// 2^-10.
+fn is_wide(duty: f64) -> bool
+    ensures { result ≡ within least most duty }
+{
+    floats::is_within(0.0009765625, 0.9990234375, duty)
 }
 
 // Whether the first edge is near no fraction between `from` and `to`, and the second edge near no other. The second
@@ -355,7 +296,7 @@ fn is_apart(from: f64, to: f64, low: f64, before: f64, behind: f64, high: f64, d
     ensures { result ≡ is_apart from to low before behind high dt }
 {
     let far = 1.0 - dt;
-    let is_unit = ((0.0 <= from) & (from <= 1.0)) & ((0.0 <= to) & (to <= 1.0));
+    let is_unit = floats::is_within(0.0, 1.0, from) & floats::is_within(0.0, 1.0, to);
     let first = (0.0 < low) & (before < 1.0) & (dt <= low) & (before <= far);
     let last = (1.0 <= behind) & (high < 2.0) & (dt <= behind - 1.0) & (high - 1.0 <= far);
     is_unit & ((dt <= from) & (to <= far)) & (first & last)
@@ -382,7 +323,7 @@ fn pulse(u: f64, dt: f64, duty: f64) -> f64
     requires { T (within zero64 one u) }
     ensures { result ≡ pulse_of u dt duty }
 {
-    if !((0.0009765625 <= duty) & (duty <= 0.9990234375)) {
+    if !is_wide(duty) {
         return polyblep::pulse(u, dt, duty);
     }
     let rise = blep(u, dt);
@@ -456,8 +397,5 @@ fn fract(x: f64) -> f64
 fn select(test: bool, a: f64, b: f64) -> f64
     ensures { result ≡ cond test a b }
 {
-    if test {
-        return a;
-    }
-    b
+    if test { a } else { b }
 }

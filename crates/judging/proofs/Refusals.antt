@@ -1,62 +1,26 @@
 -- The refusals case by case, and what is true of a call that has none of them. Assumes nothing.
-use mathlib.Core.Path.{◌≡◌, refl, sym, subst, ◌∙◌}
+use Rattle.std.specs.Prelude.{Err, Ok}
+use mathlib.Core.Path.{◌≡◌, refl, subst}
 use mathlib.Core.Bool.{Bool, true, false, ◌&&◌}
 use mathlib.Core.List.{List, [], ◌∷◌, ◌++◌, map}
-use Prim.Native.Nat.{ℕ, ◌+◌, ◌-◌, ◌≤◌, ◌<◌}
-use native.Mathlib.Omega.{arith}
+use Prim.Native.Nat.{ℕ}
 use lib.Dec.{leb, eqb}
-use borrow.Author.Tests.{le-leb, lt-leb, leb-true, leb-false, eq-eqb, eqb-true}
-use Rattle.answers.specs.Order.{unless, first_of}
-use Rattle.answers.specs.declared.Answer.{Answer}
-use Rattle.answers.specs.declared.Answer.TheVariants.{Refused}
+use borrow.Author.Tests.{le-leb, leb-true, eq-eqb, eqb-true}
+use Rattle.answers.specs.Order.{unless}
 use Rattle.answers.specs.declared.Refusal.{Refusal}
 use Rattle.answers.specs.declared.Refusal.TheVariants.{Score, NewScore, Setting, Size}
 use Rattle.answers.specs.declared.ScoreFault.{ScoreFault}
-use Rattle.answers.proofs.Order.{first-map, passed, none_both, none-map, Leads, map_leads}
-use Rattle.score.specs.declared.Verdict.TheVariants.{Accepted, Faulty}
+use Rattle.answers.proofs.Order.{passed, none_both, none-map, Leads, map_leads}
 use Rattle.score.specs.Record.{count_of}
 use Rattle.score.specs.Score.{faults_of, verdict_of}
 use Rattle.score.specs.Below.{Sorted}
 use Rattle.score.proofs.Codec.{both}
 use Rattle.score.proofs.Cuts.{accepted-sorted}
-use Rattle.score.proofs.Verdicts.{accepted_faults, none-accepted, faulty_faults, accepted-first, faulty-first}
+use Rattle.score.proofs.Verdicts.{accepted_faults, none-accepted, faulty_faults}
 use Rattle.shelf.specs.Shelf.{entries_for, words_for}
 use Rattle.state.specs.declared.Settings.{Settings}
 use Rattle.state.specs.Settings.{settings_ok}
-use Rattle.judging.specs.Judging.{refusals_of, Passed, new_refusals_of, most_samples, sizes_fit, Roomy, part_fits}
-
--- ---- the first refusal in each case of settings, room and score
-module _ (g : Settings) (room : Bool) (s : List ℕ) (rest : Answer) where
-  pub no_settings : settings_ok g ≡ false → Refused Setting ≡ first_of (refusals_of g room s) Refused rest
-  unfolding refusals_of
-  no_settings e = rw e refl
-
-  pub no_room : settings_ok g ≡ true → room ≡ false → Refused Size ≡ first_of (refusals_of g room s) Refused rest
-  unfolding refusals_of
-  no_room e f = rw (e, f) refl
-
-  module _ (e : settings_ok g ≡ true) (f : room ≡ true) where
-    by_score : first_of (faults_of s) (λ fault. Refused (Score fault)) rest ≡ first_of (refusals_of g room s) Refused rest
-    unfolding refusals_of
-    by_score = rw (e, f) (sym (first-map Score (faults_of s) Refused rest))
-
-    pub score-taken : (n : ℕ) → verdict_of s ≡ Accepted n → rest ≡ first_of (refusals_of g room s) Refused rest
-    score-taken n h = sym (accepted-first s n h (λ fault. Refused (Score fault)) rest) ∙ by_score
-
-    pub score-faulty : (fault : ScoreFault) → verdict_of s ≡ Faulty fault → Refused (Score fault) ≡ first_of (refusals_of g room s) Refused rest
-    score-faulty fault h = sym (faulty-first s fault h (λ x. Refused (Score x)) rest) ∙ by_score
-
--- the new score alone
-module _ (s : List ℕ) (rest : Answer) where
-  by_new : first_of (faults_of s) (λ fault. Refused (NewScore fault)) rest ≡ first_of (new_refusals_of s) Refused rest
-  unfolding new_refusals_of
-  by_new = sym (first-map NewScore (faults_of s) Refused rest)
-
-  pub new-taken : (n : ℕ) → verdict_of s ≡ Accepted n → rest ≡ first_of (new_refusals_of s) Refused rest
-  new-taken n h = sym (accepted-first s n h (λ fault. Refused (NewScore fault)) rest) ∙ by_new
-
-  pub new-faulty : (fault : ScoreFault) → verdict_of s ≡ Faulty fault → Refused (NewScore fault) ≡ first_of (new_refusals_of s) Refused rest
-  new-faulty fault h = sym (faulty-first s fault h (λ x. Refused (NewScore x)) rest) ∙ by_new
+use Rattle.judging.specs.Judging.{refusals_of, Passed, new_refusals_of, most_samples, sizes_fit, Roomy}
 
 -- ---- no refusal
 pub all_passed : (g : Settings) (room : Bool) (s : List ℕ) → refusals_of g room s ≡ [] → Passed g room s
@@ -66,15 +30,15 @@ all_passed g room s e =
     let a = none_both (unless (settings_ok g) Setting) (unless room Size) b.0 in
     record { settings = passed _ _ a.0; sized = passed _ _ a.1; accepted = none-accepted s (none-map Score (faults_of s) b.1) }
 
-pub none-refused : (g : Settings) (room : Bool) (s : List ℕ) (n : ℕ) → settings_ok g ≡ true → room ≡ true → verdict_of s ≡ Accepted n → refusals_of g room s ≡ []
+pub none-refused : (g : Settings) (room : Bool) (s : List ℕ) (n : ℕ) → settings_ok g ≡ true → room ≡ true → verdict_of s ≡ Ok n → refusals_of g room s ≡ []
 unfolding refusals_of
 none-refused g room s n e f h = rw (e, f, accepted_faults s n h) refl
 
-pub new-passed : (s : List ℕ) → new_refusals_of s ≡ [] → verdict_of s ≡ Accepted (count_of s)
+pub new-passed : (s : List ℕ) → new_refusals_of s ≡ [] → verdict_of s ≡ Ok (count_of s)
 unfolding new_refusals_of
 new-passed s e = none-accepted s (none-map NewScore (faults_of s) e)
 
-pub none_newly : (s : List ℕ) (n : ℕ) → verdict_of s ≡ Accepted n → new_refusals_of s ≡ []
+pub none_newly : (s : List ℕ) (n : ℕ) → verdict_of s ≡ Ok n → new_refusals_of s ≡ []
 unfolding new_refusals_of
 none_newly s n h = rw (accepted_faults s n h) refl
 
@@ -84,7 +48,7 @@ passed-sorted g room s e = accepted-sorted s (count_of s) (all_passed g room s e
 -- ---- the first refusal, in both directions
 module _ (g : Settings) (room : Bool) (s : List ℕ) where
   -- P holds of the first refusal where P holds of each refusal under the condition that makes it the first
-  pub judged-first : (P : Refusal → Type 0) → (settings_ok g ≡ false → P Setting) → (settings_ok g ≡ true → room ≡ false → P Size) → (settings_ok g ≡ true → room ≡ true → (fault : ScoreFault) → verdict_of s ≡ Faulty fault → P (Score fault))
+  pub judged-first : (P : Refusal → Type 0) → (settings_ok g ≡ false → P Setting) → (settings_ok g ≡ true → room ≡ false → P Size) → (settings_ok g ≡ true → room ≡ true → (fault : ScoreFault) → verdict_of s ≡ Err fault → P (Score fault))
       → (why : Refusal) → Leads why (refusals_of g room s) → P why
   unfolding refusals_of verdict_of
   judged-first P six seven score why h = go (settings_ok g) refl room refl (faults_of s) refl h
@@ -103,12 +67,12 @@ module _ (g : Settings) (room : Bool) (s : List ℕ) where
   unfolding refusals_of
   seven_first e f = rw (e, f) refl
 
-  pub score-first : settings_ok g ≡ true → room ≡ true → (fault : ScoreFault) → verdict_of s ≡ Faulty fault → Leads (Score fault) (refusals_of g room s)
+  pub score-first : settings_ok g ≡ true → room ≡ true → (fault : ScoreFault) → verdict_of s ≡ Err fault → Leads (Score fault) (refusals_of g room s)
   unfolding refusals_of
   score-first e f fault h = rw (e, f) (map_leads Score fault (faults_of s) (faulty_faults s fault h))
 
 module _ (s : List ℕ) where
-  pub newly_first : (P : Refusal → Type 0) → ((fault : ScoreFault) → verdict_of s ≡ Faulty fault → P (NewScore fault)) → (why : Refusal) → Leads why (new_refusals_of s) → P why
+  pub newly_first : (P : Refusal → Type 0) → ((fault : ScoreFault) → verdict_of s ≡ Err fault → P (NewScore fault)) → (why : Refusal) → Leads why (new_refusals_of s) → P why
   unfolding new_refusals_of verdict_of
   newly_first P score why h = go (faults_of s) refl h
     where
@@ -116,7 +80,7 @@ module _ (s : List ℕ) where
       go [] q h = absurd h
       go (x ∷ fs) q h = subst P h (score x (rw q refl))
 
-  pub new-first : (fault : ScoreFault) → verdict_of s ≡ Faulty fault → Leads (NewScore fault) (new_refusals_of s)
+  pub new-first : (fault : ScoreFault) → verdict_of s ≡ Err fault → Leads (NewScore fault) (new_refusals_of s)
   unfolding new_refusals_of
   new-first fault h = map_leads NewScore fault (faults_of s) (faulty_faults s fault h)
 
@@ -131,14 +95,3 @@ roomy n words magnitudes numbers h =
 pub fits-roomy : (n words magnitudes numbers : ℕ) → Roomy n words magnitudes numbers → sizes_fit n words magnitudes numbers ≡ true
 fits-roomy n words magnitudes numbers r =
     rw (le-leb n most_samples r.short, eq-eqb words (words_for n) r.fits, eq-eqb magnitudes (entries_for n) r.magnitudes-fit, eq-eqb numbers (entries_for n) r.numbers_fit) refl
-
--- p + n <= most is tested as p <= most and n <= most - p, so that no sum overflows
-pub stretch-late : (p n : ℕ) → most_samples < p → false ≡ part_fits p n
-stretch-late p n h = sym (lt-leb (p + n) most_samples (omega arith))
-
-pub stretch_in : (p n : ℕ) → p ≤ most_samples → leb n (most_samples - p) ≡ part_fits p n
-stretch_in p n h = go (leb n (most_samples - p)) refl
-  where
-    go : (t : Bool) → leb n (most_samples - p) ≡ t → t ≡ part_fits p n
-    go true e = let q : n ≤ most_samples - p = leb-true n (most_samples - p) e in sym (le-leb (p + n) most_samples (omega arith))
-    go false e = let q : most_samples - p < n = leb-false n (most_samples - p) e in sym (lt-leb (p + n) most_samples (omega arith))

@@ -1,18 +1,18 @@
 -- Two outcomes that meet a public function's statement are equal. Assumes nothing.
+use Rattle.std.specs.Prelude.{Err, Ok}
 use mathlib.Core.Path.{◌≡◌, sym, ◌∙◌}
 use mathlib.Core.Bool.{Bool}
 use mathlib.Core.List.{List}
 use Prim.Native.Nat.{ℕ}
 use Rattle.answers.specs.Order.{first_of}
-use Rattle.answers.specs.declared.Answer.{Answer}
-use Rattle.answers.specs.declared.Answer.TheVariants.{Done, Refused}
+use Rattle.answers.specs.Answer.{Answer}
 use Rattle.state.specs.declared.Settings.{Settings}
 use Rattle.judging.specs.Judging.{refusals_of, new_refusals_of, sizes_fit, part_fits}
 
-pub judged_unique : (g : Settings) (room : Bool) (s : List ℕ) (rest r t : Answer) → r ≡ first_of (refusals_of g room s) Refused rest → t ≡ first_of (refusals_of g room s) Refused rest → r ≡ t
+pub judged_unique : (g : Settings) (room : Bool) (s : List ℕ) (rest r t : Answer) → r ≡ first_of (refusals_of g room s) Err rest → t ≡ first_of (refusals_of g room s) Err rest → r ≡ t
 judged_unique g room s rest r t p q = p ∙ sym q
 
-pub judged_new_unique : (s : List ℕ) (r t : Answer) → r ≡ first_of (new_refusals_of s) Refused (Done 0) → t ≡ first_of (new_refusals_of s) Refused (Done 0) → r ≡ t
+pub judged_new_unique : (s : List ℕ) (r t : Answer) → r ≡ first_of (new_refusals_of s) Err (Ok 0) → t ≡ first_of (new_refusals_of s) Err (Ok 0) → r ≡ t
 judged_new_unique s r t p q = p ∙ sym q
 
 pub sizes_fit_unique : (n words magnitudes numbers : ℕ) (r t : Bool) → r ≡ sizes_fit n words magnitudes numbers → t ≡ sizes_fit n words magnitudes numbers → r ≡ t

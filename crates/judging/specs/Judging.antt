@@ -4,11 +4,10 @@
 -- entry"; "A continuing call that would pass 16,777,216 is 7". 02, R-7: "6 covers the new settings, 7 asks for 13 words
 -- an entry". 02, R-3: "7 also when the summary has not one entry a section".
 -- The first of a call's refusals decides its outcome (`first_of` of `answers`). Definitions only.
-use Rattle.std.specs.Prelude.{◌≡◌, Bool, true, ◌&&◌, List, ◌++◌, map, ℕ, ◌+◌, ◌≤◌, leb, eqb}
+use Rattle.std.specs.Prelude.{◌≡◌, Bool, true, ◌&&◌, List, ◌++◌, map, ℕ, ◌+◌, ◌≤◌, leb, eqb, Ok}
 use Rattle.answers.specs.Order.{unless}
 use Rattle.answers.specs.declared.Refusal.{Refusal}
 use Rattle.answers.specs.declared.Refusal.TheVariants.{Score, NewScore, Setting, Size}
-use Rattle.score.specs.declared.Verdict.TheVariants.{Accepted}
 use Rattle.score.specs.Record.{count_of}
 use Rattle.score.specs.Score.{faults_of, verdict_of}
 use Rattle.shelf.specs.Shelf.{entries_for, words_for}
@@ -24,7 +23,7 @@ refusals_of g room s = unless (settings_ok g) Setting ++ unless room Size ++ map
 pub record Passed (g : Settings) (room : Bool) (s : List ℕ) : Type 0 where
   pub settings : settings_ok g ≡ true
   pub sized : room ≡ true
-  pub accepted : verdict_of s ≡ Accepted (count_of s)
+  pub accepted : verdict_of s ≡ Ok (count_of s)
 
 -- the faults of the new score
 unfoldable pub new_refusals_of : List ℕ → List Refusal

@@ -4,40 +4,35 @@
 
 ghost use Rattle.std.specs.Prelude.{◌≡◌};
 ghost use Rattle.answers.specs.Order.{first_of};
-ghost use Rattle.answers.specs.declared.Answer.TheVariants.{Done, Refused};
 ghost use Rattle.judging.specs.Judging.{refusals_of, new_refusals_of, sizes_fit, part_fits};
 
 use answers::{Answer, Refusal};
-use score::Verdict;
 use state::Settings;
 
 // The most samples of an output, 2^24.
 const MOST_SAMPLES: u64 = 16_777_216;
 
 // 6, 7 and the faults of the old or only score, in that order; `rest` where there is none.
+#[tactic(auto, unfolding(crate::specs::Judging::refusals_of))]
 pub fn judged(settings: Settings, room: bool, score: &[u8], rest: Answer) -> Answer
-    ensures { result ≡ first_of (refusals_of settings room score.now) Refused rest }
+    ensures { result ≡ first_of (refusals_of settings room score.now) Err rest }
 {
     if !state::is_settings(settings) {
-        return Answer::Refused(Refusal::Setting);
+        return Err(Refusal::Setting);
     }
     if !room {
-        return Answer::Refused(Refusal::Size);
+        return Err(Refusal::Size);
     }
-    match score::judge(score) {
-        Verdict::Accepted(_) => rest,
-        Verdict::Faulty(fault) => Answer::Refused(Refusal::Score(fault)),
-    }
+    score::judge(score).map_err(Refusal::Score)?;
+    rest
 }
 
 // The new score's fault, or done with a count of 0.
 pub fn judged_new(new: &[u8]) -> Answer
-    ensures { result ≡ first_of (new_refusals_of new.now) Refused (Done 0) }
+    ensures { result ≡ first_of (new_refusals_of new.now) Err (Ok 0) }
 {
-    match score::judge(new) {
-        Verdict::Accepted(_) => Answer::Done(0),
-        Verdict::Faulty(fault) => Answer::Refused(Refusal::NewScore(fault)),
-    }
+    score::judge(new).map_err(Refusal::NewScore)?;
+    Ok(0)
 }
 
 // Whether samples <= 16,777,216, and the shelf has thirteen words, and the summary one magnitude and one number, for
@@ -52,12 +47,9 @@ pub fn sizes_fit(samples: usize, words: usize, magnitudes: usize, numbers: usize
         & (numbers == sections)
 }
 
-// Whether position + samples <= 16,777,216, tested without overflow.
+// Whether position + samples <= 16,777,216; a sum that saturates is more.
 pub fn part_fits(position: u64, samples: usize) -> bool
     ensures { result ≡ part_fits position samples }
 {
-    if position > MOST_SAMPLES {
-        return false;
-    }
-    samples as u64 <= MOST_SAMPLES - position
+    position.saturating_add(samples as u64) <= MOST_SAMPLES
 }

@@ -1,9 +1,9 @@
 -- Worked examples, computed on the definitions. Assumes nothing.
+use Rattle.std.specs.Prelude.{Err}
 use Rattle.std.proofs.Common.{◌≡◌, ℕ, true, List, [], ◌∷◌, map, refl}
 use lib.Ieee.{Float, nan, inf, binary64, of_bits, neg, add, sub, mul, div, lt, le}
 use Rattle.floats.specs.Double.{zero64, half, one, two, three, four}
 use Rattle.floats.specs.Floor.{floor_of}
-use Rattle.answers.specs.declared.Answer.TheVariants.{Refused}
 use Rattle.answers.specs.declared.Refusal.TheVariants.{Argument}
 use Rattle.polyblep.specs.Polyblep.{blep_of, blamp_of}
 use Rattle.lanes.specs.declared.Lanes.{Lanes}
@@ -129,7 +129,7 @@ rise-first = refl
 
 -- ---- refusals
 abbrev refused : List Float → Lanes
-refused values = record { answer = Refused Argument; values = values }
+refused values = record { answer = Err Argument; values = values }
 
 -- one lane at 1.5, the others inside: four +0
 abbrev last_outside : List Float

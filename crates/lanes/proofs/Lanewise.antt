@@ -1,4 +1,5 @@
 -- The calls, lane by lane: what holds of all four lanes holds of each, and the other way round. Assumes nothing.
+use Rattle.std.specs.Prelude.{Err, Ok}
 use Rattle.std.proofs.Common.{◌≡◌, ℕ, zero, suc, ◌<◌, Bool, true, false, not, ◌&&◌, T, List, refl, ap, ◌∙◌, arith}
 use lib.Dec.{not_T}
 use lib.Ieee.{Float}
@@ -7,7 +8,6 @@ use lib.Ieee.Scale.{finite}
 use Rattle.floats.specs.Double.{zero64, eight}
 use Rattle.domain.specs.Domain.{is_phase, is_duty}
 use Rattle.answers.specs.Order.{unless}
-use Rattle.answers.specs.declared.Answer.TheVariants.{Done, Refused}
 use Rattle.answers.specs.declared.Refusal.TheVariants.{Argument}
 use Rattle.polyblep.specs.Polyblep.{saw_by, square_by, pulse_by, triangle_by}
 use Rattle.polyblep.proofs.Clear.{four_pass}
@@ -40,11 +40,11 @@ each_of f t =
     by_four (λ (i : ℕ). T (f i)) a b c d
 
 -- ---- a call whose test passes exactly where every lane is inside
-pub is-done : (ok : Bool) (kept values : List Float) → T ok → lanes_or (unless ok Argument) kept values ≡ record { answer = Done 0; values = values }
+pub is-done : (ok : Bool) (kept values : List Float) → T ok → lanes_or (unless ok Argument) kept values ≡ record { answer = Ok 0; values = values }
 is-done true kept values t = refl
 is-done false kept values t = elim t [ ]
 
-is-refused : (ok : Bool) (kept values : List Float) → T (not ok) → lanes_or (unless ok Argument) kept values ≡ record { answer = Refused Argument; values = kept }
+is-refused : (ok : Bool) (kept values : List Float) → T (not ok) → lanes_or (unless ok Argument) kept values ≡ record { answer = Err Argument; values = kept }
 is-refused false kept values t = refl
 is-refused true kept values t = elim t [ ]
 

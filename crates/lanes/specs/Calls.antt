@@ -5,12 +5,11 @@
 --
 -- A refused correction gives four +0. A refused apply call gives its samples as they came: the original is lent them to
 -- change, and a refusal leaves what is lent as it was. Definitions only.
-use Rattle.std.specs.Prelude.{ℕ, Bool, ◌&&◌, List, Float}
+use Rattle.std.specs.Prelude.{ℕ, Bool, ◌&&◌, List, Float, Err, Ok}
 use Rattle.std.specs.Float.Ieee.Scale.{finite}
 use Rattle.floats.specs.Double.{zero64}
 use Rattle.domain.specs.Domain.{is_phase, is_duty}
 use Rattle.answers.specs.Order.{unless, first_of}
-use Rattle.answers.specs.declared.Answer.TheVariants.{Done, Refused}
 use Rattle.answers.specs.declared.Refusal.{Refusal}
 use Rattle.answers.specs.declared.Refusal.TheVariants.{Argument}
 use Rattle.lanes.specs.declared.Lanes.{Lanes}
@@ -37,7 +36,7 @@ are_taken samples phases dt = are_phases phases (spread dt) && are_finite sample
 -- ---- the calls
 -- done, with the values, unless the call is refused: then with what is kept
 abbrev pub lanes_or : List Refusal → List Float → List Float → Lanes
-lanes_or refusals kept values = first_of refusals (λ (why : Refusal). record { answer = Refused why; values = kept }) (record { answer = Done 0; values = values })
+lanes_or refusals kept values = first_of refusals (λ (why : Refusal). record { answer = Err why; values = kept }) (record { answer = Ok 0; values = values })
 
 abbrev pub poly_blep_simd_of : List Float → List Float → Lanes
 poly_blep_simd_of t dt = lanes_or (unless (are_phases t dt) Argument) (spread zero64) (both blep_lane t dt)

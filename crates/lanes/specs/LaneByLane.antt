@@ -2,11 +2,10 @@
 -- calls, if any lane is outside or a given sample is not finite."
 --
 -- The claim, which proofs/Lanewise.antt proves of the definitions in Calls.antt. Definitions only.
-use Rattle.std.specs.Prelude.{◌≡◌, ℕ, ◌<◌, Bool, not, ◌&&◌, T, List, Float}
+use Rattle.std.specs.Prelude.{◌≡◌, ℕ, ◌<◌, Bool, not, ◌&&◌, T, List, Float, Err, Ok}
 use Rattle.std.specs.Float.Ieee.Scale.{finite}
 use Rattle.floats.specs.Double.{◌⊕◌, ◌⊖◌, ◌⊗◌, zero64, half, one, eight}
 use Rattle.domain.specs.Domain.{is_phase, is_duty}
-use Rattle.answers.specs.declared.Answer.TheVariants.{Done, Refused}
 use Rattle.answers.specs.declared.Refusal.TheVariants.{Argument}
 use Rattle.polyblep.specs.Polyblep.{fract_of}
 use Rattle.lanes.specs.declared.Lanes.{Lanes}
@@ -15,8 +14,8 @@ use Rattle.lanes.specs.Calls.{spread, poly_blep_simd_of, poly_blamp_simd_of, app
 
 -- done with each lane's value where every lane is inside; refused with what is kept where any one is not
 pub record EachLane (inside : ℕ → Bool) (value : ℕ → Float) (kept : List Float) (r : Lanes) : Type 0 where
-  pub done : ((i : ℕ) → i < 4 → T (inside i)) → (r.answer ≡ Done 0) × ((i : ℕ) → i < 4 → lane r.values i ≡ value i)
-  pub refused : (i : ℕ) → i < 4 → T (not (inside i)) → r ≡ record { answer = Refused Argument; values = kept }
+  pub done : ((i : ℕ) → i < 4 → T (inside i)) → (r.answer ≡ Ok 0) × ((i : ℕ) → i < 4 → lane r.values i ≡ value i)
+  pub refused : (i : ℕ) → i < 4 → T (not (inside i)) → r ≡ record { answer = Err Argument; values = kept }
 
 -- one lane of an apply call: the phase p and the sample x
 abbrev pub is_taken : Float → Float → Float → Bool

@@ -28,14 +28,14 @@ blamp_lane t dt = value_at (blamp_after dt) (blamp_before dt) (lane_side t dt)
 abbrev pub lane : List Float → ℕ → Float
 lane x i = slice_index_or x i nan
 
-abbrev pub four_of : (ℕ → Float) → List Float
+abbrev pub four_of : {A : Type 0} → (ℕ → A) → List A
 four_of f = f 0 ∷ f 1 ∷ f 2 ∷ f 3 ∷ []
 
 -- a function of each number, and of the numbers of two arrays
 abbrev pub each : (Float → Float) → List Float → List Float
 each f x = four_of (λ (i : ℕ). f (lane x i))
 
-abbrev pub both : (Float → Float → Float) → List Float → List Float → List Float
+abbrev pub both : {A : Type 0} → (Float → Float → A) → List Float → List Float → List A
 both f x y = four_of (λ (i : ℕ). f (lane x i) (lane y i))
 
 -- ---- four samples, corrected

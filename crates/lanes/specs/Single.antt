@@ -3,14 +3,13 @@
 -- where the single form gives -0.25. State that rule exactly and put it on file."
 --
 -- The claims, which proofs/ proves. Definitions only.
-use Rattle.std.specs.Prelude.{◌≡◌, ℕ, ◌<◌, Bool, not, ◌&&◌, T, List, Float}
+use Rattle.std.specs.Prelude.{◌≡◌, ℕ, ◌<◌, Bool, not, ◌&&◌, T, List, Float, Ok}
 use Rattle.std.specs.Float.{binary64}
 use Rattle.std.specs.Float.Ieee.{lt, fits}
 use Rattle.std.specs.Float.Ieee.Scale.{finite}
 use Rattle.floats.specs.Range.{within}
 use Rattle.floats.specs.Double.{◌⊖◌, ◌⊘◌, zero64, half, one}
 use Rattle.domain.specs.Domain.{is_duty}
-use Rattle.answers.specs.declared.Answer.TheVariants.{Done}
 use Rattle.polyblep.specs.Polyblep.{blep_after, blep_before, blamp_after, blamp_before, blep_of, blamp_of, naive_saw_of, naive_pulse_of, naive_triangle_of, saw_of, square_of, pulse_of, triangle_of}
 use Rattle.lanes.specs.declared.Lanes.{Lanes}
 use Rattle.lanes.specs.Lanes.{lane, each, blep_lane, blamp_lane}
@@ -43,7 +42,7 @@ Bound dt = T (fits binary64 dt) → T (finite dt) → T (lt half dt) → T (both
 
 -- ---- the calls, for dt at most 0.5
 abbrev pub done : List Float → Lanes
-done values = record { answer = Done 0; values = values }
+done values = record { answer = Ok 0; values = values }
 
 -- a lane of the corrections whose own dt is at most 0.5, whatever the others are, has the single correction
 pub record SameCorrections (t dt : List Float) (i : ℕ) : Type 0 where

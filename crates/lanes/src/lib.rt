@@ -5,14 +5,12 @@
 #![tactic(auto)]
 
 ghost use Rattle.std.specs.Prelude.{◌≡◌, if◌then◌else◌, Float};
-ghost use Rattle.std.specs.Float.{binary64};
 ghost use Rattle.std.specs.Float.Ieee.{lt};
-ghost use Rattle.floats.specs.Floor.{floor_of};
-ghost use Rattle.floats.specs.Double.{◌⊕◌, ◌⊖◌, ◌⊗◌, ◌⊘◌, half, one, eight};
+ghost use Rattle.floats.specs.Double.{◌⊖◌, ◌⊘◌, one};
 ghost use Rattle.answers.specs.Order.{unless};
 ghost use Rattle.answers.specs.declared.Refusal.TheVariants.{Argument};
 ghost use Rattle.polyblep.specs.Polyblep.{value_at, fract_of};
-ghost use Rattle.lanes.specs.Lanes.{lane_side, blep_lane, blamp_lane, each, both};
+ghost use Rattle.lanes.specs.Lanes.{lane_side, blep_lane, blamp_lane, both};
 ghost use Rattle.lanes.specs.Calls.{are_phases, are_finite, are_taken, lanes_or, poly_blep_simd_of, poly_blamp_simd_of, apply_polyblep_saw_of, apply_polyblep_square_of, apply_polyblep_pulse_of, apply_polyblamp_triangle_of};
 
 use answers::{Answer, Refusal};
@@ -28,34 +26,34 @@ pub struct Lanes {
 pub fn poly_blep_simd(t: [f64; 4], dt: [f64; 4]) -> Lanes
     ensures { result ≡ poly_blep_simd_of t dt }
 {
-    lanes_if(are_phases(t, dt), [0.0; 4], bleps(t, dt))
+    lanes_if(are_phases(t, dt), [0.0; 4], both(t, dt, blep_lane))
 }
 
 // The corrections at a corner.
 pub fn poly_blamp_simd(t: [f64; 4], dt: [f64; 4]) -> Lanes
     ensures { result ≡ poly_blamp_simd_of t dt }
 {
-    lanes_if(are_phases(t, dt), [0.0; 4], blamps(t, dt))
+    lanes_if(are_phases(t, dt), [0.0; 4], both(t, dt, blamp_lane))
 }
 
 // Four samples of a sawtooth, corrected at its step.
 pub fn apply_polyblep_saw(samples: [f64; 4], phases: [f64; 4], phase_inc: f64) -> Lanes
     ensures { result ≡ apply_polyblep_saw_of samples phases phase_inc }
 {
-    let dt = [phase_inc; 4];
     let ok = are_taken(samples, phases, phase_inc);
-    lanes_if(ok, samples, minus(samples, bleps(phases, dt)))
+    let corrected = both(samples, phases, |x, p| x - blep_lane(p, phase_inc));
+    lanes_if(ok, samples, corrected)
 }
 
 // Four samples of a square, corrected where it rises and where it falls, half a cycle on.
 pub fn apply_polyblep_square(samples: [f64; 4], phases: [f64; 4], phase_inc: f64) -> Lanes
     ensures { result ≡ apply_polyblep_square_of samples phases phase_inc }
 {
-    let dt = [phase_inc; 4];
     let ok = are_taken(samples, phases, phase_inc);
-    let rise = bleps(phases, dt);
-    let fall = bleps(from_half(phases), dt);
-    lanes_if(ok, samples, minus(plus(samples, rise), fall))
+    let corrected = both(samples, phases, |x, p| {
+        x + blep_lane(p, phase_inc) - blep_lane(fract(p + 0.5), phase_inc)
+    });
+    lanes_if(ok, samples, corrected)
 }
 
 // Four samples of a pulse, corrected where it rises and where it falls, at the duty.
@@ -67,22 +65,22 @@ pub fn apply_polyblep_pulse(
 ) -> Lanes
     ensures { result ≡ apply_polyblep_pulse_of samples phases phase_inc duty_cycle }
 {
-    let dt = [phase_inc; 4];
     let ok = are_taken(samples, phases, phase_inc) & domain::is_duty(duty_cycle);
-    let rise = bleps(phases, dt);
-    let fall = bleps(from_duty(phases, duty_cycle), dt);
-    lanes_if(ok, samples, minus(plus(samples, rise), fall))
+    let corrected = both(samples, phases, |x, p| {
+        x + blep_lane(p, phase_inc) - blep_lane(fract(p - duty_cycle + 1.0), phase_inc)
+    });
+    lanes_if(ok, samples, corrected)
 }
 
 // Four samples of a triangle, corrected at its lower corner and at its upper one, half a cycle on.
 pub fn apply_polyblamp_triangle(samples: [f64; 4], phases: [f64; 4], phase_inc: f64) -> Lanes
     ensures { result ≡ apply_polyblamp_triangle_of samples phases phase_inc }
 {
-    let dt = [phase_inc; 4];
     let ok = are_taken(samples, phases, phase_inc);
-    let low = eightfold(blamps(phases, dt));
-    let high = eightfold(blamps(from_half(phases), dt));
-    lanes_if(ok, samples, minus(plus(samples, low), high))
+    let corrected = both(samples, phases, |x, p| {
+        x + 8.0 * blamp_lane(p, phase_inc) - 8.0 * blamp_lane(fract(p + 0.5), phase_inc)
+    });
+    lanes_if(ok, samples, corrected)
 }
 
 // One lane of a correction at a step.
@@ -122,76 +120,19 @@ fn chosen(t: f64, dt: f64, after: f64, before: f64) -> f64
     if t > 1.0 - dt { before } else { earlier }
 }
 
-fn bleps(t: [f64; 4], dt: [f64; 4]) -> [f64; 4]
-    ensures { result ≡ both blep_lane t dt }
+// The lanes' own floor, that of each lane, is under it.
+fn fract(x: f64) -> f64
+    ensures { result ≡ fract_of x }
 {
-    [
-        blep_lane(t[0], dt[0]),
-        blep_lane(t[1], dt[1]),
-        blep_lane(t[2], dt[2]),
-        blep_lane(t[3], dt[3]),
-    ]
+    x - floats::floor(x)
 }
 
-fn blamps(t: [f64; 4], dt: [f64; 4]) -> [f64; 4]
-    ensures { result ≡ both blamp_lane t dt }
+// What f gives of the two numbers in each lane.
+fn both<R: Copy, F: Fn(f64, f64) -> R>(x: [f64; 4], y: [f64; 4], f: F) -> [R; 4]
+    requires { F.IsAlwaysCallable f }
+    ensures { (g : Float → Float → R) → ((a b : Float) (r : R) → F.post f a b r → r ≡ g a b) → result ≡ both g x y }
 {
-    [
-        blamp_lane(t[0], dt[0]),
-        blamp_lane(t[1], dt[1]),
-        blamp_lane(t[2], dt[2]),
-        blamp_lane(t[3], dt[3]),
-    ]
-}
-
-// The phases from the edge half a cycle on.
-fn from_half(phases: [f64; 4]) -> [f64; 4]
-    ensures { result ≡ each (λ (p : Float). fract_of (p ⊕ half)) phases }
-{
-    fracts(plus(phases, [0.5; 4]))
-}
-
-// The phases from the edge at the duty.
-fn from_duty(phases: [f64; 4], duty: f64) -> [f64; 4]
-    ensures { result ≡ each (λ (p : Float). fract_of (p ⊖ duty ⊕ one)) phases }
-{
-    fracts(plus(minus(phases, [duty; 4]), [1.0; 4]))
-}
-
-fn fracts(x: [f64; 4]) -> [f64; 4]
-    ensures { result ≡ each fract_of x }
-{
-    minus(x, floors(x))
-}
-
-// The lanes' own floor, that of each lane.
-fn floors(x: [f64; 4]) -> [f64; 4]
-    ensures { result ≡ each (floor_of binary64) x }
-{
-    [
-        floats::floor_f64(x[0]),
-        floats::floor_f64(x[1]),
-        floats::floor_f64(x[2]),
-        floats::floor_f64(x[3]),
-    ]
-}
-
-fn plus(x: [f64; 4], y: [f64; 4]) -> [f64; 4]
-    ensures { result ≡ both ◌⊕◌ x y }
-{
-    [x[0] + y[0], x[1] + y[1], x[2] + y[2], x[3] + y[3]]
-}
-
-fn minus(x: [f64; 4], y: [f64; 4]) -> [f64; 4]
-    ensures { result ≡ both ◌⊖◌ x y }
-{
-    [x[0] - y[0], x[1] - y[1], x[2] - y[2], x[3] - y[3]]
-}
-
-fn eightfold(x: [f64; 4]) -> [f64; 4]
-    ensures { result ≡ each (λ (a : Float). eight ⊗ a) x }
-{
-    [8.0 * x[0], 8.0 * x[1], 8.0 * x[2], 8.0 * x[3]]
+    [f(x[0], y[0]), f(x[1], y[1]), f(x[2], y[2]), f(x[3], y[3])]
 }
 
 // Whether an apply call takes the samples and phases, with one dt for all lanes.
@@ -205,19 +146,13 @@ fn are_taken(samples: [f64; 4], phases: [f64; 4], dt: f64) -> bool
 fn are_phases(t: [f64; 4], dt: [f64; 4]) -> bool
     ensures { result ≡ are_phases t dt }
 {
-    domain::is_phase(t[0], dt[0])
-        & domain::is_phase(t[1], dt[1])
-        & domain::is_phase(t[2], dt[2])
-        & domain::is_phase(t[3], dt[3])
+    both(t, dt, domain::is_phase) == [true; 4]
 }
 
 fn are_finite(x: [f64; 4]) -> bool
     ensures { result ≡ are_finite x }
 {
-    floats::is_finite_f64(x[0])
-        & floats::is_finite_f64(x[1])
-        & floats::is_finite_f64(x[2])
-        & floats::is_finite_f64(x[3])
+    x.iter().all(|x| floats::is_finite(*x))
 }
 
 // Done, with the values, where ok is true; else refused, with what is kept.
@@ -225,13 +160,14 @@ fn lanes_if(ok: bool, kept: [f64; 4], values: [f64; 4]) -> Lanes
     ensures { result ≡ lanes_or (unless ok Argument) kept values }
 {
     if ok {
-        return Lanes {
-            answer: Answer::Done(0),
+        Lanes {
+            answer: Ok(0),
             values,
-        };
-    }
-    Lanes {
-        answer: Answer::Refused(Refusal::Argument),
-        values: kept,
+        }
+    } else {
+        Lanes {
+            answer: Err(Refusal::Argument),
+            values: kept,
+        }
     }
 }

@@ -44,29 +44,29 @@ impl LfoBlock {
     pub fn reset(self) -> LfoBlock
         ensures { result ≡ with_phase self (radians zero64) }
     {
-        let start = Radians(0.0);
-        let mut block = self;
-        block.phase = start;
-        block
+        LfoBlock {
+            phase: Radians(0.0),
+            ..self
+        }
     }
 
     // Writes a value of the waveform times the depth into every element of out, then reduces the phase.
     pub fn process(self, rate: u32, out: &mut [f64]) -> Processed
         ensures { leaves result out.new ≡ process_of self rate out.old }
     {
-        let phase = self.phase;
-        let waveform = self.waveform;
         let tone = Tone {
             frequency: self.frequency,
             depth: self.depth,
-            phase,
-            waveform,
+            phase: self.phase,
+            waveform: self.waveform,
         };
         let ran = blocks::run(tone, domain::HIGHEST_LFO, rate, out);
-        let answer = ran.answer;
-        let phase = ran.phase;
-        let mut block = self;
-        block.phase = phase;
-        Processed { answer, block }
+        Processed {
+            answer: ran.answer,
+            block: LfoBlock {
+                phase: ran.phase,
+                ..self
+            },
+        }
     }
 }

@@ -2,8 +2,7 @@
 -- reset's line ends `reset 0 0`; a refused score prints only one line with `refused`, number and place, as
 -- `refused 2 0`." 01's example prints `records 2`, `0 on 69 127` and `100 off 69 0`.
 -- A text is a list of ASCII codes, and every line ends with a newline. Definitions only.
-use Rattle.std.specs.Prelude.{cond, List, [], ◌∷◌, ◌++◌, ℕ, zero, suc, ◌+◌, ◌/◌, ◌%◌, ltb}
-use Rattle.answers.specs.declared.Answer.TheVariants.{Refused}
+use Rattle.std.specs.Prelude.{cond, List, [], ◌∷◌, ◌++◌, ℕ, zero, suc, ◌+◌, ◌/◌, ◌%◌, ltb, Err}
 use Rattle.answers.specs.declared.Refusal.TheVariants.{Score}
 use Rattle.answers.specs.declared.ScoreFault.{ScoreFault}
 use Rattle.answers.specs.Numbers.{numbers_of}
@@ -59,7 +58,7 @@ accepted_text s n = records_word ++ decimal_of n ++ newline ++ lines_to s n
 
 abbrev pub refused_text : ScoreFault → List ℕ
 refused_text fault =
-    let numbers = numbers_of (Refused (Score fault)) in
+    let numbers = numbers_of (Err (Score fault)) in
     refused_word ++ decimal_of numbers.number ++ space ++ decimal_of numbers.place ++ newline
 
 -- the listing of a score: its first fault, or its records

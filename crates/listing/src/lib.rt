@@ -2,13 +2,13 @@
 // writing the bytes to a file are the tasks of the program `lister`.
 #![tactic(auto)]
 
-ghost use Rattle.std.specs.Prelude.{◌≡◌, ◌+◌, ◌*◌, ◌≤◌, length};
-ghost use Rattle.listing.specs.Listing.{decimal_of, kind_word, line_of, lines_to, accepted_text, refused_text};
+ghost use Rattle.std.specs.Prelude.{◌≡◌, ◌+◌, ◌≤◌, length};
+ghost use Rattle.listing.specs.Listing.{decimal_of, kind_word, line_of, accepted_text, refused_text};
 ghost use Rattle.listing.specs.Outcome.{Listed};
-ghost use Rattle.listing.specs.Inner.{Put};
+ghost use Rattle.listing.specs.Inner.{HasRoom, Put};
 
-use answers::{Answer, Refusal, ScoreFault};
-use score::{Kind, Record, Verdict};
+use answers::{Numbers, Refusal, ScoreFault};
+use score::{Kind, Record};
 
 // Room for every listing: a first line of at most 13 bytes, then 4,096 lines of at most 25 bytes.
 const ROOM: usize = 102413;
@@ -21,92 +21,88 @@ pub fn list(score: &[u8], out: &mut [u8]) -> usize
     if out.len() < ROOM {
         return 0;
     }
+    let mut text = Text { out, len: 0 };
     match score::judge(score) {
-        Verdict::Accepted(n) => put_accepted(score, n, out),
-        Verdict::Faulty(fault) => put_refused(fault, out),
+        Ok(n) => text.put_accepted(score, n),
+        Err(fault) => text.put_refused(fault),
+    }
+    text.len
+}
+
+// A text that grows from the front of a buffer.
+#[derive(Drop)]
+struct Text<'a> {
+    out: &'a mut [u8],
+    len: usize,
+}
+
+impl<'a> Text<'a> {
+    // The number of records, and the line of each.
+    fn put_accepted(&mut self, score: &[u8], n: usize)
+        requires few { n ≤ 4096 }
+        requires room { HasRoom 102413 self.old }
+        ensures { Put (accepted_text score.now n) self.old self.new }
+    {
+        self.put(b"records ");
+        self.put_number(n as u64);
+        self.put(b"\n");
+        for i in 0..n {
+            self.put_line(score::record_at(score, i));
+        }
+    }
+
+    fn put_refused(&mut self, fault: ScoreFault)
+        requires { HasRoom 102413 self.old }
+        ensures { Put (refused_text fault) self.old self.new }
+    {
+        let numbers = Numbers::from(Err(Refusal::Score(fault)));
+        self.put(b"refused ");
+        self.put_number(numbers.number as u64);
+        self.put(b" ");
+        self.put_number(numbers.place as u64);
+        self.put(b"\n");
+    }
+
+    // The line of one record, at most 25 bytes.
+    fn put_line(&mut self, given: Record)
+        requires { HasRoom 25 self.old }
+        ensures { Put (line_of given) self.old self.new × (self.new.len ≤ self.old.len + 25) }
+    {
+        self.put_number(given.position as u64);
+        self.put(kind_word(given.kind));
+        self.put_number(given.note as u64);
+        self.put(b" ");
+        self.put_number(given.velocity as u64);
+        self.put(b"\n");
+    }
+
+    // The decimal digits of n.
+    fn put_number(&mut self, n: u64)
+        requires { HasRoom (length (decimal_of n)) self.old }
+        ensures { Put (decimal_of n) self.old self.new }
+    {
+        let mut digits = [0u8; 20];
+        let k = io::decimal(n, &mut digits);
+        self.put(&digits[..k]);
+    }
+
+    fn put(&mut self, text: &[u8])
+        requires { HasRoom (length text.now) self.old }
+        ensures { Put text.now self.old self.new }
+    {
+        let end = self.len + text.len();
+        let out = &mut *self.out;
+        out[self.len..end].copy_from_slice(text);
+        self.len = end;
     }
 }
 
-fn put_accepted(score: &[u8], n: usize, out: &mut [u8]) -> usize
-    requires { (n ≤ 4096) × (102413 ≤ length out.old) }
-    ensures { Put (accepted_text score.now n) out.old 0 out.new result }
-{
-    let a = put(b"records ", out, 0);
-    let b = put_number(n as u64, out, a);
-    let c = put(b"\n", out, b);
-    put_lines(score, n, out, c)
-}
-
-fn put_refused(fault: ScoreFault, out: &mut [u8]) -> usize
-    requires { 102413 ≤ length out.old }
-    ensures { Put (refused_text fault) out.old 0 out.new result }
-{
-    let numbers = answers::in_numbers(Answer::Refused(Refusal::Score(fault)));
-    let a = put(b"refused ", out, 0);
-    let b = put_number(numbers.number as u64, out, a);
-    let c = put(b" ", out, b);
-    let d = put_number(numbers.place as u64, out, c);
-    put(b"\n", out, d)
-}
-
-// The lines of the first n records.
-fn put_lines(score: &[u8], n: usize, out: &mut [u8], from: usize) -> usize
-    requires { from + n * 25 ≤ length out.old }
-    ensures { Put (lines_to score.now n) out.old from out.new result }
-{
-    let mut i = 0;
-    let mut at = from;
-    while i < n {
-        at = put_line(score::record_at(score, i), out, at);
-        i += 1;
-    }
-    at
-}
-
-// The line of one record, at most 25 bytes.
-fn put_line(given: Record, out: &mut [u8], at: usize) -> usize
-    requires { at + 25 ≤ length out.old }
-    ensures { (Put (line_of given) out.old at out.new result) × (result ≤ at + 25) }
-{
-    let kind = given.kind;
-    let a = put_number(given.position as u64, out, at);
-    let b = put_kind(kind, out, a);
-    let c = put_number(given.note as u64, out, b);
-    let d = put(b" ", out, c);
-    let e = put_number(given.velocity as u64, out, d);
-    put(b"\n", out, e)
-}
-
-fn put_kind(kind: Kind, out: &mut [u8], at: usize) -> usize
-    requires { at + length (kind_word kind) ≤ length out.old }
-    ensures { Put (kind_word kind) out.old at out.new result }
+fn kind_word(kind: Kind) -> &'static [u8]
+    ensures { result.now ≡ kind_word kind }
 {
     match kind {
-        Kind::On => put(b" on ", out, at),
-        Kind::Off => put(b" off ", out, at),
-        Kind::Reset => put(b" reset ", out, at),
+        Kind::On => b" on ",
+        Kind::Off => b" off ",
+        Kind::Reset => b" reset ",
     }
-}
-
-// The decimal digits of n.
-fn put_number(n: u64, out: &mut [u8], at: usize) -> usize
-    requires { at + length (decimal_of n) ≤ length out.old }
-    ensures { Put (decimal_of n) out.old at out.new result }
-{
-    let mut digits = [0u8; 20];
-    let k = io::decimal(n, &mut digits);
-    put(&digits[..k], out, at)
-}
-
-// The bytes of text, written from index `at` on; returns the index after them.
-fn put(text: &[u8], out: &mut [u8], at: usize) -> usize
-    requires { at + length text.now ≤ length out.old }
-    ensures { Put text.now out.old at out.new result }
-{
-    let mut j = 0;
-    while j < text.len() {
-        out[at + j] = text[j];
-        j += 1;
-    }
-    at + j
 }

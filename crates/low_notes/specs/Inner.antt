@@ -1,7 +1,7 @@
 -- What private functions are held to: the lines that a waveform is made of between two corrections, the phases of a
 -- segment, on which it is one line, and how far an inner loop has come. No public statement cites these definitions.
 -- Phases and steps are in radians, fractions and dt in cycles. Definitions only.
-use Rattle.std.specs.Prelude.{Bool, true, cond, ◌&&◌, List, ◌≡◌, T, Float}
+use Rattle.std.specs.Prelude.{Bool, cond, ◌&&◌, List, ◌≡◌, T, Float}
 use Rattle.std.specs.Float.{binary64}
 use Rattle.std.specs.Float.Ieee.{neg, lt, le, fits}
 use Rattle.floats.specs.Range.{within}
@@ -59,17 +59,17 @@ abbrev pub Straight : (Float → Float) → Segment → Type 0
 Straight value s = (q : Float) → Inside s.from.0 s.to.0 q → value q ≡ line_of s.line (fraction_of s.base.0 q)
 
 -- ---- a guess
--- where the guess passes its tests, each of its phases has the fraction that its base gives; the fraction lies between
--- those of its two ends, where no correction is due for the ends of the cycle
+-- each of a guess's phases has the fraction that its base gives; the fraction lies between those of its two ends, where
+-- no correction is due for the ends of the cycle
 abbrev pub Guessed : Float → Guess → Type 0
-Guessed dt g = g.holds ≡ true → (q : Float) → Inside g.from.0 g.to.0 q → (normal_of q ≡ fraction_of g.base.0 q) × Lies (fraction_of g.base.0 q) g.fraction g.end_fraction dt
+Guessed dt g = (q : Float) → Inside g.from.0 g.to.0 q → (normal_of q ≡ fraction_of g.base.0 q) × Lies (fraction_of g.base.0 q) g.fraction g.end_fraction dt
 
 abbrev pub segment_of : Guess → Line → Segment
 segment_of g line = record { from = g.from; to = g.to; base = g.base; line = line }
 
--- where a guess is clear of a second edge, the value at each of its fractions t is that of the line on t's side
-abbrev pub TwoSides : (Float → Float) → Float → Guess → Float → Bool → Line → Line → Type 0
-TwoSides value dt g edge clear before behind = clear ≡ true → (t : Float) → Lies t g.fraction g.end_fraction dt → value t ≡ line_of (cond (lt t edge) before behind) t
+-- the value at each of a guess's fractions t is that of the line on t's side of a second edge
+abbrev pub TwoSides : (Float → Float) → Float → Guess → Float → Line → Line → Type 0
+TwoSides value dt g edge before behind = (t : Float) → Lies t g.fraction g.end_fraction dt → value t ≡ line_of (cond (lt t edge) before behind) t
 
 -- with a second edge at 0.5: where neither correction is due, the value is that of the line on its side of 0.5
 abbrev pub TwoLines : (Float → Float) → Float → Line → Line → Type 0

@@ -1,5 +1,6 @@
 -- The oscillator is a run at depth 1: x * 1 is x, so its samples are the values of the waveform. So the laws of a run
 -- that is done hold for it. Assumes nothing.
+use Rattle.std.specs.Prelude.{Ok}
 use mathlib.Core.Path.{◌≡◌, refl}
 use mathlib.Core.Bool.{true}
 use mathlib.Core.List.{List}
@@ -12,7 +13,6 @@ use Rattle.floats.specs.Double.{◌⊗◌, one}
 use Rattle.floats.proofs.Literals.{one_of-is}
 use Rattle.floats.proofs.OneWay.{times_one}
 use Rattle.domain.specs.Domain.{highest_tone, is_depth}
-use Rattle.answers.specs.declared.Answer.TheVariants.{Done}
 use Rattle.waveform.specs.declared.Waveform.{Waveform}
 use Rattle.waveform.specs.Waveform.{inv_tau, normal_of, increment_of}
 use Rattle.waveform.specs.Filled.{phase_from, value_at, samples_by, samples_from}
@@ -43,7 +43,7 @@ unfolding run_of is_tone ran_of
 run_is b rate xs = rw (one_in, samples-are_values b.waveform (increment_of (played_of b) rate) b.phase.0 (length xs)) refl
 
 -- a call that is done: every sample is finite, and the phase after the call is at least 0 and below TAU
-pub process_sound : (b : OscillatorBlock) (rate : ℕ) (xs : List Float) → T (fits binary64 b.phase.0) → (n : ℕ) → (process_of b rate xs).result.answer ≡ Done n →
+pub process_sound : (b : OscillatorBlock) (rate : ℕ) (xs : List Float) → T (fits binary64 b.phase.0) → (n : ℕ) → (process_of b rate xs).result.answer ≡ Ok n →
     Sound (process_of b rate xs).lent (process_of b rate xs).result.block.phase
 process_sound b rate xs w n e =
     rw (← run_is b rate xs) (run_sound (tone_of b) highest_tone rate xs w (unfold of_bits in unfold le in tt) n (rw (run_is b rate xs) e))

@@ -1,5 +1,6 @@
 -- Two outcomes that meet a public function's statement are equal: each statement is an equation with one definition of
 -- specs/. Assumes nothing.
+use Rattle.std.specs.Prelude.{None, Some}
 use mathlib.Core.Path.{◌≡◌, sym, ◌∙◌}
 use mathlib.Core.List.{List}
 use Prim.Native.Nat.{ℕ}
@@ -10,17 +11,16 @@ use Rattle.answers.proofs.Unique.{same_left}
 use Rattle.waveform.specs.declared.Waveform.{Waveform}
 use Rattle.waveform.specs.Waveform.{radians}
 use Rattle.oscillator.specs.Oscillator.{new_of, with_midi, with_waveform, with_phase, process_of}
-use Rattle.oscillator.specs.declared.MidiFrequency.TheVariants.{Unset, Set}
 use Rattle.oscillator.specs.declared.OscillatorBlock.{OscillatorBlock}
 use Rattle.oscillator.specs.declared.Processed.{Processed}
 
 pub new_unique : (f : Float) (w : Waveform) (r t : OscillatorBlock) → r ≡ new_of f w → t ≡ new_of f w → r ≡ t
 new_unique f w r t p q = p ∙ sym q
 
-pub set_midi_frequency_unique : (b : OscillatorBlock) (f : Float) (r t : OscillatorBlock) → r ≡ with_midi b (Set f) → t ≡ with_midi b (Set f) → r ≡ t
+pub set_midi_frequency_unique : (b : OscillatorBlock) (f : Float) (r t : OscillatorBlock) → r ≡ with_midi b (Some f) → t ≡ with_midi b (Some f) → r ≡ t
 set_midi_frequency_unique b f r t p q = p ∙ sym q
 
-pub clear_midi_frequency_unique : (b r t : OscillatorBlock) → r ≡ with_midi b Unset → t ≡ with_midi b Unset → r ≡ t
+pub clear_midi_frequency_unique : (b r t : OscillatorBlock) → r ≡ with_midi b None → t ≡ with_midi b None → r ≡ t
 clear_midi_frequency_unique b r t p q = p ∙ sym q
 
 pub set_waveform_unique : (b : OscillatorBlock) (w : Waveform) (r t : OscillatorBlock) → r ≡ with_waveform b w → t ≡ with_waveform b w → r ≡ t

@@ -6,7 +6,7 @@
 -- rest: a note's frequency, where it is set, sounds in place of the block's own, and the frequency that does not sound
 -- is not judged. Only `process` uses a setting, so only `process` judges one; the other calls refuse nothing.
 -- Definitions only.
-use Rattle.std.specs.Prelude.{◌&&◌, List, ◌++◌, ℕ, length, Float}
+use Rattle.std.specs.Prelude.{◌&&◌, List, ◌++◌, ℕ, length, Float, None, Option, Some}
 use Rattle.runs.specs.Runs.{listed}
 use Rattle.floats.specs.Double.{zero64}
 use Rattle.domain.specs.Domain.{highest_tone, is_frequency, is_radians}
@@ -19,16 +19,14 @@ use Rattle.waveform.specs.Waveform.{increment_of, radians}
 use Rattle.waveform.specs.Filled.{phase_from, value_at}
 use Rattle.blocks.specs.declared.Ran.{Ran}
 use Rattle.blocks.specs.Block.{is_setting, outcome_or, phase_after}
-use Rattle.oscillator.specs.declared.MidiFrequency.{MidiFrequency}
-use Rattle.oscillator.specs.declared.MidiFrequency.TheVariants.{Unset, Set}
 use Rattle.oscillator.specs.declared.OscillatorBlock.{OscillatorBlock}
 use Rattle.oscillator.specs.declared.Processed.{Processed}
 
 -- ---- the calls that refuse nothing
 abbrev pub new_of : Float → Waveform → OscillatorBlock
-new_of frequency w = record { frequency = frequency; midi_frequency = Unset; phase = radians zero64; waveform = w }
+new_of frequency w = record { frequency = frequency; midi_frequency = None; phase = radians zero64; waveform = w }
 
-abbrev pub with_midi : OscillatorBlock → MidiFrequency → OscillatorBlock
+abbrev pub with_midi : OscillatorBlock → Option Float → OscillatorBlock
 with_midi b m = record { frequency = b.frequency; midi_frequency = m; phase = b.phase; waveform = b.waveform }
 
 abbrev pub with_waveform : OscillatorBlock → Waveform → OscillatorBlock
@@ -39,9 +37,9 @@ with_phase b p = record { frequency = b.frequency; midi_frequency = b.midi_frequ
 
 -- ---- the block call
 -- the frequency that sounds: the note's where it is set, else the block's own
-abbrev pub sounds_at : MidiFrequency → Float → Float
-sounds_at Unset own = own
-sounds_at (Set frequency) own = frequency
+abbrev pub sounds_at : Option Float → Float → Float
+sounds_at None own = own
+sounds_at (Some frequency) own = frequency
 
 unfoldable pub played_of : OscillatorBlock → Float
 played_of b = sounds_at b.midi_frequency b.frequency

@@ -5,8 +5,7 @@
 
 ghost use Rattle.std.specs.Prelude.{◌≡◌};
 ghost use Rattle.answers.specs.Outcome.{leaves};
-ghost use Rattle.oscillator.specs.Oscillator.{new_of, with_midi, with_waveform, with_phase, played_of, process_of};
-ghost use Rattle.oscillator.specs.declared.MidiFrequency.TheVariants.{Unset, Set};
+ghost use Rattle.oscillator.specs.Oscillator.{new_of, with_midi, with_waveform, with_phase, process_of};
 ghost use Rattle.waveform.specs.Waveform.{radians};
 ghost use Rattle.floats.specs.Double.{zero64};
 
@@ -14,17 +13,10 @@ use answers::Answer;
 use blocks::Tone;
 use waveform::{Radians, Waveform};
 
-// The frequency of a note in Hz, or none.
-#[derive(Clone, Copy)]
-pub enum MidiFrequency {
-    Unset,
-    Set(f64),
-}
-
 #[derive(Clone, Copy)]
 pub struct OscillatorBlock {
     pub frequency: f64,
-    pub midi_frequency: MidiFrequency,
+    pub midi_frequency: Option<f64>,
     pub phase: Radians,
     pub waveform: Waveform,
 }
@@ -43,7 +35,7 @@ impl OscillatorBlock {
     {
         OscillatorBlock {
             frequency,
-            midi_frequency: MidiFrequency::Unset,
+            midi_frequency: None,
             phase: Radians(0.0),
             waveform,
         }
@@ -51,81 +43,57 @@ impl OscillatorBlock {
 
     // Sets a note's frequency in Hz, which sounds in place of the block's own.
     pub fn set_midi_frequency(self, frequency: f64) -> OscillatorBlock
-        ensures { result ≡ with_midi self (Set frequency) }
+        ensures { result ≡ with_midi self (Some frequency) }
     {
-        with_midi(self, MidiFrequency::Set(frequency))
+        OscillatorBlock {
+            midi_frequency: Some(frequency),
+            ..self
+        }
     }
 
     pub fn clear_midi_frequency(self) -> OscillatorBlock
-        ensures { result ≡ with_midi self Unset }
+        ensures { result ≡ with_midi self None }
     {
-        with_midi(self, MidiFrequency::Unset)
+        OscillatorBlock {
+            midi_frequency: None,
+            ..self
+        }
     }
 
     pub fn set_waveform(self, waveform: Waveform) -> OscillatorBlock
         ensures { result ≡ with_waveform self waveform }
     {
-        let midi_frequency = self.midi_frequency;
-        let phase = self.phase;
-        OscillatorBlock {
-            frequency: self.frequency,
-            midi_frequency,
-            phase,
-            waveform,
-        }
+        OscillatorBlock { waveform, ..self }
     }
 
     // Sets the phase to 0; the settings and the note's frequency stay.
     pub fn reset(self) -> OscillatorBlock
         ensures { result ≡ with_phase self (radians zero64) }
     {
-        let start = Radians(0.0);
-        let mut block = self;
-        block.phase = start;
-        block
+        OscillatorBlock {
+            phase: Radians(0.0),
+            ..self
+        }
     }
 
-    // Writes a value of the waveform into every element of out, then reduces the phase.
+    // Writes a value of the waveform into every element of out, then reduces the phase. A note's frequency sounds where
+    // it is set, else the block's own.
     pub fn process(self, rate: u32, out: &mut [f64]) -> Processed
         ensures { leaves result out.new ≡ process_of self rate out.old }
     {
-        let phase = self.phase;
-        let waveform = self.waveform;
         let tone = Tone {
-            frequency: played(self),
+            frequency: self.midi_frequency.unwrap_or(self.frequency),
             depth: 1.0,
-            phase,
-            waveform,
+            phase: self.phase,
+            waveform: self.waveform,
         };
         let ran = blocks::run(tone, domain::HIGHEST_TONE, rate, out);
-        let answer = ran.answer;
-        let phase = ran.phase;
-        let mut block = self;
-        block.phase = phase;
-        Processed { answer, block }
-    }
-}
-
-// The frequency that sounds, in Hz: the note's where it is set, else the block's own.
-fn played(block: OscillatorBlock) -> f64
-    ensures { result ≡ played_of block }
-{
-    let midi_frequency = block.midi_frequency;
-    match midi_frequency {
-        MidiFrequency::Unset => block.frequency,
-        MidiFrequency::Set(frequency) => frequency,
-    }
-}
-
-fn with_midi(block: OscillatorBlock, midi_frequency: MidiFrequency) -> OscillatorBlock
-    ensures { result ≡ with_midi block midi_frequency }
-{
-    let phase = block.phase;
-    let waveform = block.waveform;
-    OscillatorBlock {
-        frequency: block.frequency,
-        midi_frequency,
-        phase,
-        waveform,
+        Processed {
+            answer: ran.answer,
+            block: OscillatorBlock {
+                phase: ran.phase,
+                ..self
+            },
+        }
     }
 }

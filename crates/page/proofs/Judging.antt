@@ -1,23 +1,19 @@
 -- The record of an edit, judged as a score of one record: its faults are those of the record alone, with the index of
 -- the edit in place of 0. Assumes nothing.
-use mathlib.Core.Path.{◌≡◌, refl, sym}
+use mathlib.Core.Path.{◌≡◌, refl, ap, ◌∙◌}
 use mathlib.Core.Bool.{Bool, true, false}
-use mathlib.Core.List.{List, [], ◌++◌, map}
+use mathlib.Core.List.{List, [], ◌∷◌, ◌++◌, map}
 use Prim.Native.Nat.{ℕ, ◌+◌, ◌*◌, ◌<◌}
 use native.Mathlib.Omega.{arith}
 use lib.ListN.{length, drop, length-drop}
 use lib.Seq.{length-take-le}
-use Rattle.answers.specs.Order.{unless, first_of}
-use Rattle.answers.specs.declared.Answer.TheVariants.{Done, Refused}
+use Rattle.answers.specs.Order.{unless}
 use Rattle.answers.specs.declared.Refusal.{Refusal}
-use Rattle.answers.specs.declared.Refusal.TheVariants.{EditFrame, Edit}
+use Rattle.answers.specs.declared.Refusal.TheVariants.{Edit}
 use Rattle.answers.specs.declared.ScoreFault.{ScoreFault}
 use Rattle.answers.specs.declared.ScoreFault.TheVariants.{Mark, Kind, Field}
-use Rattle.answers.proofs.Order.{leads_first, map_leads}
-use Rattle.score.specs.declared.Verdict.TheVariants.{Accepted, Faulty}
-use Rattle.score.specs.Score.{mark_right, kind_right, fields_right, in_order, faults_at, faults_from, faults_of, verdict_of}
-use Rattle.score.proofs.Verdicts.{accepted-none, faulty_leads}
-use Rattle.page.specs.Page.{edits_in, frame_right, record_of, record_faults}
+use Rattle.score.specs.Score.{mark_right, kind_right, fields_right, in_order, faults_at, faults_from, faults_of}
+use Rattle.page.specs.Page.{edits_in, record_of, record_faults}
 use Rattle.page.specs.Inner.{placed_at}
 
 -- an edit that is there has a record of ten bytes
@@ -40,23 +36,10 @@ faults_placed r i ten = rw ten (go (mark_right r 0) (kind_right r 0) (fields_rig
     go false false true = refl
     go false false false = refl
 
--- 33, then 50 to 52
-module _ (es : List ℕ) (i : ℕ) where
-  abbrev judged : List Refusal
-  judged = unless (frame_right es i) (EditFrame i) ++ map Edit (record_faults (record_of es i) i)
+-- an accepted record has none, and the first of those of another is that of its score
+map-twice : (i : ℕ) (fs : List ScoreFault) → map Edit (map (λ (f : ScoreFault). placed_at f i) fs) ≡ map (λ (f : ScoreFault). Edit (placed_at f i)) fs
+map-twice i [] = refl
+map-twice i (f ∷ fs) = ap (λ (xs : List Refusal). Edit (placed_at f i) ∷ xs) (map-twice i fs)
 
-  pub bad_frame : frame_right es i ≡ false → Refused (EditFrame i) ≡ first_of judged Refused (Done 0)
-  bad_frame e = rw e refl
-
-  module _ (ten : length (record_of es i) ≡ 10) (framed : frame_right es i ≡ true) where
-    pub good_record : (n : ℕ) → verdict_of (record_of es i) ≡ Accepted n → Done 0 ≡ first_of judged Refused (Done 0)
-    unfolding verdict_of
-    good_record n e = rw (framed, faults_placed (record_of es i) i ten, (accepted-none (faults_of (record_of es i)) _ n e).0) refl
-
-    pub bad_record : (f : ScoreFault) → verdict_of (record_of es i) ≡ Faulty f → Refused (Edit (placed_at f i)) ≡ first_of judged Refused (Done 0)
-    unfolding verdict_of
-    bad_record f e =
-        let faults = faults_of (record_of es i) in
-        let here = map (λ (f : ScoreFault). placed_at f i) faults in
-        let leads = map_leads Edit (placed_at f i) here (map_leads (λ (f : ScoreFault). placed_at f i) f faults (faulty_leads faults _ f e)) in
-        rw (framed, faults_placed (record_of es i) i ten) (sym (leads_first (Edit (placed_at f i)) (map Edit here) Refused (Done 0) leads))
+pub refused_as : (r : List ℕ) (i : ℕ) → length r ≡ 10 → map Edit (record_faults r i) ≡ map (λ (f : ScoreFault). Edit (placed_at f i)) (faults_of r)
+refused_as r i ten = ap (map Edit) (faults_placed r i ten) ∙ map-twice i (faults_of r)

@@ -1,13 +1,11 @@
 -- Laws on what this crate defines, in the order to read them.
 -- an edit of an accepted score leaves an accepted score
 pub mod Taken
--- bytes moved by ten in a buffer
-pub mod Shifts
--- the score at the front of the room after an insert or a remove
+-- the score in a room after an insert or a remove
 pub mod Fronts
 -- the record of an edit, judged as a score of one record
 pub mod Judging
--- the edits on the room, one after the other
+-- the edits, one after the other
 pub mod Steps
 -- the call, refusal by refusal, beside a re-render
 pub mod Calls

@@ -1,5 +1,6 @@
 -- What a list of one edit does to a score, said of records: an insert puts its record behind those at its position or
 -- lower, a remove takes out the first record that is the same. Assumes nothing.
+use Rattle.std.specs.Prelude.{Ok}
 use mathlib.Core.Path.{◌≡◌, refl, sym, ap, ◌∙◌}
 use mathlib.Core.List.{List, [], ◌∷◌, ◌++◌, append_assoc}
 use mathlib.Core.Logic.{⊎_elim}
@@ -9,7 +10,6 @@ use lib.ListN.{length, get_or, take, length-append, get_or-append}
 use lib.Seq.{take_at, drop_at, drop-append-add, get_or-append-add, get_or_at}
 use borrow.Author.Tests.{lt-ltb}
 use Rattle.score.specs.declared.Record.{Record}
-use Rattle.score.specs.declared.Verdict.TheVariants.{Accepted}
 use Rattle.score.specs.Record.{count_of, position_at, decode_of, encode_of, Valid, blank, encode_all}
 use Rattle.score.specs.Score.{faults_of, verdict_of, IsScore}
 use Rattle.score.specs.Below.{count_below, Sorted, Cut}
@@ -65,7 +65,7 @@ in_back : (front back : List Record) (i : ℕ) → length front ≤ i → get_or
 in_back front back i h = let e : i ≡ length front + (i - length front) = omega arith in ap (λ (k : ℕ). get_or (front ++ back) k blank) e ∙ get_or-append-add front back (i - length front) blank
 
 module _ (old : List ℕ) (rs : List Record) (g : IsScore old rs) where
-  taken : verdict_of old ≡ Accepted (length rs)
+  taken : verdict_of old ≡ Ok (length rs)
   taken = encoding_accepted old rs g
 
   as_many : count_of old ≡ length rs

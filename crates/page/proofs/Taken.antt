@@ -1,5 +1,6 @@
 -- An accepted score with a right record inserted, or a record removed, is accepted; so is the score after any number of
 -- edits that are not refused, and it fits the room. No list need hold bytes. Assumes nothing.
+use Rattle.std.specs.Prelude.{Ok}
 use mathlib.Core.Path.{◌≡◌, refl, sym, ap, subst, ◌∙◌}
 use mathlib.Core.Bool.{Bool, true, false, cond, ◌&&◌}
 use mathlib.Core.List.{List, [], ◌++◌, map}
@@ -15,7 +16,6 @@ use Rattle.answers.specs.Order.{unless}
 use Rattle.answers.specs.declared.Refusal.TheVariants.{EditFrame, NotThere, Full, Edit}
 use Rattle.answers.specs.declared.ScoreFault.TheVariants.{Mark, Kind, Field}
 use Rattle.answers.proofs.Order.{passed, none_both, none-map}
-use Rattle.score.specs.declared.Verdict.TheVariants.{Accepted}
 use Rattle.score.specs.Record.{count_of, byte_at, position_at}
 use Rattle.score.specs.Score.{mark_right, kind_right, fields_right, all_right, in_order, verdict_of}
 use Rattle.score.specs.Below.{count_below, Sorted, Cut}
@@ -56,13 +56,13 @@ record Risen (t : List ℕ) (n : ℕ) : Type 0 where
 
 risen_accepted : (t : List ℕ) (n : ℕ) → Risen t n → IsAccepted t
 unfolding in_order
-risen_accepted t n r = subst (λ (m : ℕ). verdict_of t ≡ Accepted m) (accepted-count t n all) all
+risen_accepted t n r = subst (λ (m : ℕ). verdict_of t ≡ Ok m) (accepted-count t n all) all
   where
     ordered : (i : ℕ) → i < n → in_order t i ≡ true
     ordered zero h = refl
     ordered (suc i) h = le-leb (position_at t i) (position_at t (suc i)) (r.rising i h)
 
-    all : verdict_of t ≡ Accepted n
+    all : verdict_of t ≡ Ok n
     all = all_accepted t n (record { size = r.size; few = r.few; fine = λ i h. record { right = r.right i h; ordered = ordered i h } })
 
 accepted-right : (s : List ℕ) → IsAccepted s → (i : ℕ) → i < count_of s → Right s i

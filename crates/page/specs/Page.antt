@@ -11,10 +11,9 @@
 -- Wider than 02: mark, code and filler can be read at any index, where a byte past the end of the list is 0; a record
 -- there has fewer bytes. No call reads past its list: one that has a part of an edit is refused with 36.
 -- Definitions only.
-use Rattle.std.specs.Prelude.{◌≡◌, Bool, cond, ◌&&◌, ◌||◌, List, [], ◌++◌, map, ℕ, zero, suc, ◌+◌, ◌*◌, ◌/◌, ◌%◌, ◌<◌, ltb, eqb, length, get_or, take, drop}
+use Rattle.std.specs.Prelude.{◌≡◌, Bool, cond, ◌&&◌, ◌||◌, List, [], ◌++◌, map, ℕ, zero, suc, ◌+◌, ◌*◌, ◌/◌, ◌%◌, ◌<◌, ltb, eqb, length, get_or, take, drop, Err}
 use Rattle.answers.specs.Order.{unless, first_of}
-use Rattle.answers.specs.declared.Answer.{Answer}
-use Rattle.answers.specs.declared.Answer.TheVariants.{Refused}
+use Rattle.answers.specs.Answer.{Answer}
 use Rattle.answers.specs.declared.Refusal.{Refusal}
 use Rattle.answers.specs.declared.Refusal.TheVariants.{EditFrame, NotThere, Full, Page, Edit}
 use Rattle.answers.specs.declared.ScoreFault.{ScoreFault}
@@ -24,6 +23,8 @@ use Rattle.score.specs.Score.{mark_right, kind_right, fields_right}
 use Rattle.score.specs.Below.{count_below}
 use Rattle.score.specs.Apart.{first_equal}
 use Rattle.state.specs.declared.Settings.{Settings}
+use Rattle.sections.specs.declared.Buffers as lent
+use Rattle.sections.specs.Lending.{filled}
 use Rattle.sections.specs.Outcome.{Buffers, samples_in, room_in, Outcome}
 use Rattle.judging.specs.Judging.{refusals_of}
 use Rattle.rerender.specs.Rerender.{plan_of, start_refusals, outcome_of}
@@ -105,6 +106,18 @@ pub record Rewritten (R : Type 0) : Type 0 where
 abbrev pub rewrites : {R : Type 0} → R → Buffers → List ℕ → Rewritten R
 rewrites r b space = record { result = r; left = b; space = space }
 
+-- the same, with output, shelf and summary in the slices that were lent as one
+pub record RewrittenIn (R : Type 0) : Type 0 where
+  pub result : R
+  pub left : lent.Buffers
+  pub space : List ℕ
+
+abbrev pub rewrites_in : {R : Type 0} → R → lent.Buffers → List ℕ → RewrittenIn R
+rewrites_in r b space = record { result = r; left = b; space = space }
+
+abbrev pub rewritten_in : {R : Type 0} → lent.Buffers → Rewritten R → RewrittenIn R
+rewritten_in b o = rewrites_in o.result (filled b o.left) o.space
+
 abbrev pub paged : Answer → ℕ → Paged
 paged answer bytes = record { answer = answer; bytes = bytes }
 
@@ -124,7 +137,7 @@ page_refusals g old es b space =
 
 -- a refusal leaves all as it came, and says 0 bytes
 abbrev pub kept_of : Buffers → List ℕ → Refusal → Rewritten Paged
-kept_of b space why = rewrites (paged (Refused why) 0) b space
+kept_of b space why = rewrites (paged (Err why) 0) b space
 
 -- what one re-render of the old score into the new one leaves, with the new score at the front of the lent buffer
 abbrev pub turned_over : Outcome Answer → List ℕ → List ℕ → Rewritten Paged

@@ -3,16 +3,24 @@
 use mathlib.Core.Path.{◌≡◌, refl, sym, ap}
 use mathlib.Core.Bool.{Bool, true, false, cond, true≢false}
 use mathlib.Core.List.{List}
-use Prim.Native.Nat.{ℕ, zero, suc, ◌-◌, ◌≤◌, ◌<◌}
+use Prim.Native.Nat.{ℕ, zero, suc, ◌+◌, ◌-◌, ◌≤◌, ◌<◌}
 use native.Mathlib.Omega.{arith}
 use lib.Dec.{T}
 use lib.ListN.{length}
 use lib.Ieee.{Float, of_bits, lt, le, neg}
+use Rattle.std.proofs.lemmas.Float.{T_from_true}
 use Rattle.floats.specs.Double.{zero64}
 use Rattle.floats.proofs.Order.{signed, fle_trans, lt-le, lt_not_le}
 use Rattle.peaks.specs.declared.Peak.{Peak}
-use Rattle.peaks.specs.Peaks.{magnitude_at, stands, peak_to, peak_of}
-use Rattle.peaks.proofs.Magnitudes.{of_true}
+use Rattle.peaks.specs.Peaks.{magnitude_at, stands, higher, peak_to, peak_of}
+use Rattle.peaks.specs.Inner.{peak_after}
+
+least-higher : (p : Peak) (a : Float) (i : ℕ) → T (le zero64 p.magnitude) → T (le zero64 (higher p a i).magnitude)
+least-higher p a i h = go (lt p.magnitude a) refl
+  where
+    go : (t : Bool) → lt p.magnitude a ≡ t → T (le zero64 (cond t (stands a i) p).magnitude)
+    go true e = fle_trans zero64 p.magnitude a h (lt-le p.magnitude a (T_from_true _ e))
+    go false e = h
 
 module _ (xs : List Float) where
   -- ---- of the first k samples
@@ -28,11 +36,12 @@ module _ (xs : List Float) where
   pub least-to : (k : ℕ) → T (le zero64 (peak_to xs k).magnitude)
   unfolding peak_to
   least-to zero = unfold of_bits le in tt
-  least-to (suc k) = go (peak_to xs k) (least-to k) (lt (peak_to xs k).magnitude (magnitude_at xs k)) refl
-    where
-      go : (p : Peak) → T (le zero64 p.magnitude) → (t : Bool) → lt p.magnitude (magnitude_at xs k) ≡ t → T (le zero64 (cond t (stands (magnitude_at xs k) k) p).magnitude)
-      go p h true e = fle_trans zero64 p.magnitude (magnitude_at xs k) h (lt-le p.magnitude (magnitude_at xs k) (of_true _ e))
-      go p h false e = h
+  least-to (suc k) = least-higher (peak_to xs k) (magnitude_at xs k) k (least-to k)
+
+  pub least-after : (p : Peak) (n k : ℕ) → T (le zero64 p.magnitude) → T (le zero64 (peak_after p xs n k).magnitude)
+  unfolding peak_after
+  least-after p n zero h = h
+  least-after p n (suc k) h = least-higher (peak_after p xs n k) (magnitude_at xs k) (n + k) (least-after p n k h)
 
   not-minus-to : (k : ℕ) → (peak_to xs k).magnitude ≡ neg zero64 → ⊥
   unfolding peak_to
@@ -40,7 +49,7 @@ module _ (xs : List Float) where
   not-minus-to (suc k) = go (peak_to xs k) (least-to k) (not-minus-to k) (lt (peak_to xs k).magnitude (magnitude_at xs k)) refl
     where
       go : (p : Peak) → T (le zero64 p.magnitude) → (p.magnitude ≡ neg zero64 → ⊥) → (t : Bool) → lt p.magnitude (magnitude_at xs k) ≡ t → (cond t (stands (magnitude_at xs k) k) p).magnitude ≡ neg zero64 → ⊥
-      go p z h true e q = lt_not_le p.magnitude (magnitude_at xs k) (of_true _ e) (rw q (fle_trans (neg zero64) zero64 p.magnitude (unfold of_bits neg le in tt) z))
+      go p z h true e q = lt_not_le p.magnitude (magnitude_at xs k) (T_from_true _ e) (rw q (fle_trans (neg zero64) zero64 p.magnitude (unfold of_bits neg le in tt) z))
       go p z h false e q = h q
 
 -- ---- of all

@@ -3,7 +3,7 @@
 pub mod Magnitudes
 -- what holds of the peak of every list
 pub mod Bounds
--- samples that are passed over together
+-- a group of samples: passed over, or looked at one by one
 pub mod Groups
 -- what the peak of finite samples means, and that there is no other
 pub mod Meaning

@@ -1,13 +1,15 @@
 -- Magnitudes beside zero and beside the peak so far, which is at least +0: the code compares sizes, with -0 for -0,
 -- and finds the same samples larger. Assumes nothing.
-use mathlib.Core.Path.{◌≡◌, refl, sym, subst}
-use mathlib.Core.Bool.{Bool, true, false, not, cond, ◌&&◌, ◌||◌, true≢false}
+use mathlib.Core.Path.{◌≡◌, refl, sym}
+use mathlib.Core.Bool.{Bool, true, false, not, cond, ◌||◌, true≢false}
 use Prim.Native.Nat.{ℕ, ◌+◌, ◌*◌}
 use native.Mathlib.Omega.{arith}
 use lib.Dec.{T, T_not, eqb}
 use lib.Ieee.{Float, nan, inf, fin, binary64, of_bits, lt, le, eq, neg, up, down}
 use lib.Ieee.Bits.{is_true}
 use borrow.Author.Tests.{le-ltb, eqb-true}
+use Rattle.std.proofs.lemmas.Bool.{and_parts}
+use Rattle.std.proofs.lemmas.Float.{T_from_true, T_from_false}
 use lib.Ieee.Scale.{finite}
 use Rattle.floats.specs.Range.{plus_zero}
 use Rattle.floats.specs.Double.{zero64}
@@ -19,16 +21,6 @@ use Rattle.peaks.specs.Peaks.{magnitude_of, higher, IsMagnitude}
 use Rattle.peaks.specs.Inner.{size_of}
 
 -- ---- tests
-pub of_true : (b : Bool) → b ≡ true → T b
-of_true b e = subst T (sym e) tt
-
-pub of_false : (b : Bool) → b ≡ false → T (not b)
-of_false b e = subst (λ (c : Bool). T (not c)) (sym e) tt
-
-pub both_true : (a b : Bool) → a && b ≡ true → (a ≡ true) × (b ≡ true)
-both_true true b e = (refl, e)
-both_true false b e = absurd (true≢false (sym e))
-
 -- x ≤ a: not a < x
 pub not-above : (a x : Float) → T (le x a) → lt a x ≡ false
 not-above a x h = go (lt a x) (λ (l : T (lt a x)). lt_not_le a x l h)
@@ -52,11 +44,11 @@ level-not-below : (x : Float) → eq x plus_zero ≡ true → lt x plus_zero ≡
 unfolding lt eq
 level-not-below nan e = refl
 level-not-below (inf s) e = absurd (true≢false (sym e))
-level-not-below (fin false m e) q = let a = m * up e * 1 in let b = 0 * 1 * down e in le-ltb a b (omega (arith, eqb-true a b (both_true (eqb a b) _ q).0))
+level-not-below (fin false m e) q = let a = m * up e * 1 in let b = 0 * 1 * down e in le-ltb a b (omega (arith, eqb-true a b (and_parts (eqb a b) _ q).0))
 level-not-below (fin true m e) q =
     let a = m * up e * 1 in
     let b = 0 * 1 * down e in
-    let h = both_true (eqb a b) (eqb a 0) q in
+    let h = and_parts (eqb a b) (eqb a 0) q in
     le-ltb 0 (a + b) (omega (arith, eqb-true a b h.0, eqb-true a 0 h.1))
 
 pub magnitude_is : (x : Float) → IsMagnitude x (magnitude_of x)
@@ -116,9 +108,9 @@ rest_above x f l e = by_contra (lt zero64 x) (λ (n : T (not (lt zero64 x))). rw
 
 -- a magnitude that is not above 0 is +0
 pub magnitude_none : (x : Float) → T (finite x) → lt zero64 (magnitude_of x) ≡ false → magnitude_of x ≡ zero64
-magnitude_none x f h = go (lt x zero64) refl (eq x zero64) refl (of_false (lt zero64 (magnitude_of x)) h)
+magnitude_none x f h = go (lt x zero64) refl (eq x zero64) refl (T_from_false (lt zero64 (magnitude_of x)) h)
   where
     go : (t : Bool) → lt x zero64 ≡ t → (u : Bool) → eq x zero64 ≡ u → T (not (lt zero64 (cond t (neg x) (cond u zero64 x)))) → cond t (neg x) (cond u zero64 x) ≡ zero64
-    go true l u e n = absurd (T_not (lt zero64 (neg x)) n (neg-above x f (of_true (lt x zero64) l)))
+    go true l u e n = absurd (T_not (lt zero64 (neg x)) n (neg-above x f (T_from_true (lt x zero64) l)))
     go false l true e n = refl
     go false l false e n = absurd (T_not (lt zero64 x) n (rest_above x f l e))

@@ -12,11 +12,12 @@ use lib.ListN.{length}
 use lib.Ieee.{Float, lt, le}
 use lib.Ieee.Scale.{finite}
 use borrow.Author.Tests.{ltb-true, ltb-false}
+use Rattle.std.proofs.lemmas.Float.{T_from_true, T_from_false}
 use Rattle.floats.specs.Double.{zero64}
 use Rattle.floats.proofs.Order.{lt-le, lt_not_le, not-lt-le, fle_refl, fle_trans, le-lt-lt}
 use Rattle.peaks.specs.declared.Peak.{Peak}
 use Rattle.peaks.specs.Peaks.{sample_at, magnitude_at, stands, higher, peak_to, peak_of, IsPeak}
-use Rattle.peaks.proofs.Magnitudes.{of_true, of_false, magnitude_finite, magnitude_none}
+use Rattle.peaks.proofs.Magnitudes.{magnitude_finite, magnitude_none}
 
 -- ---- p is the peak of the first k samples
 record PeakUpTo (xs : List Float) (k : ℕ) (p : Peak) : Type 0 where
@@ -54,7 +55,7 @@ module _ (xs : List Float) (all : (i : ℕ) → i < length xs → T (finite (sam
 
       go : (t : Bool) → lt p.magnitude (magnitude_at xs (suc k)) ≡ t → PeakUpTo xs (suc (suc k)) (cond t (stands (magnitude_at xs (suc k)) (suc k)) p)
       go true e =
-          let above : T (lt p.magnitude (magnitude_at xs (suc k))) = of_true _ e in
+          let above : T (lt p.magnitude (magnitude_at xs (suc k))) = T_from_true _ e in
           record {
             there = omega arith;
             here = refl;
@@ -69,7 +70,7 @@ module _ (xs : List Float) (all : (i : ℕ) → i < length xs → T (finite (sam
             there = omega (arith, u.there);
             here = u.here;
             largest = λ i l. ⊎_elim
-                (λ q. rw q (not-lt-le p.magnitude (magnitude_at xs (suc k)) best new (of_false _ e)))
+                (λ q. rw q (not-lt-le p.magnitude (magnitude_at xs (suc k)) best new (T_from_false _ e)))
                 (λ q. u.largest i q)
                 (eq-or-lt_of_le (le_of_suc-le-suc l));
             first = u.first;

@@ -3,11 +3,11 @@
 // processor makes two at a time.
 #![tactic(auto)]
 
-ghost use Rattle.std.specs.Prelude.{◌≡◌, ◌+◌, ◌≤◌, T, length};
+ghost use Rattle.std.specs.Prelude.{◌≡◌, ◌+◌, ◌<◌, ◌^◌, T, length};
 ghost use Rattle.std.specs.Float.Ieee.{le};
 ghost use Rattle.floats.specs.Double.{zero64};
-ghost use Rattle.peaks.specs.Peaks.{magnitude_of, higher, peak_to, peak_of};
-ghost use Rattle.peaks.specs.Inner.{group_size, size_of, is_quiet};
+ghost use Rattle.peaks.specs.Peaks.{magnitude_of, higher, peak_of};
+ghost use Rattle.peaks.specs.Inner.{group_size, size_of, is_quiet, peak_after};
 
 // How many samples are a group. Larger ones took longer where the sound rises, and were hardly faster elsewhere.
 const GROUP: usize = 16;
@@ -23,41 +23,28 @@ pub struct Peak {
 pub fn peak_of(section: &[f64]) -> Peak
     ensures { result ≡ peak_of section.now }
 {
+    let (groups, rest) = section.as_chunks::<GROUP>();
     let mut best = Peak {
         magnitude: 0.0,
         offset: 0,
     };
-    let mut i = 0;
-    while GROUP <= section.len() - i {
-        best = after_group(section, best, i);
-        i += GROUP;
+    for (n, group) in groups.iter().enumerate() {
+        if !is_quiet(group, best.magnitude) {
+            best = one_by_one(group, best, n * GROUP);
+        }
     }
-    one_by_one(section, best, i, section.len())
+    one_by_one(rest, best, groups.len() * GROUP)
 }
 
-// The peak after the group from sample i on.
-fn after_group(section: &[f64], best: Peak, i: usize) -> Peak
-    requires group_size_in_bounds { i + group_size ≤ length section.now }
-    requires best_value { best ≡ peak_to section.now i }
-    ensures { result ≡ peak_to section.now (i + group_size) }
-{
-    if is_quiet(section, i, best.magnitude) {
-        return best;
-    }
-    one_by_one(section, best, i, i + GROUP)
-}
-
-// The peak after the samples up to the end, each looked at by itself.
-fn one_by_one(section: &[f64], start: Peak, from: usize, end: usize) -> Peak
-    requires from_le_end { (from ≤ end) × (end ≤ length section.now) }
-    requires start_value { start ≡ peak_to section.now from }
-    ensures { result ≡ peak_to section.now end }
+// The peak after more samples, the first of which is sample `from`: each is looked at by itself.
+fn one_by_one(samples: &[f64], start: Peak, from: usize) -> Peak
+    requires start_least { T (le zero64 start.magnitude) }
+    requires fits { from + length samples.now < 2 ^ 64 }
+    ensures { result ≡ peak_after start samples.now from (length samples.now) }
 {
     let mut best = start;
-    let mut i = from;
-    while i < end {
-        best = after(best, section[i], i);
-        i += 1;
+    for (i, x) in samples.iter().enumerate() {
+        best = after(best, *x, from + i);
     }
     best
 }
@@ -77,18 +64,14 @@ fn after(peak: Peak, x: f64, i: usize) -> Peak
     peak
 }
 
-// Whether each sample of the group from `start` on is at most `most` in size: a loop without a branch.
-fn is_quiet(section: &[f64], start: usize, most: f64) -> bool
-    requires { start + group_size ≤ length section.now }
-    ensures { result ≡ is_quiet section.now start most group_size }
+// Whether each sample of a group is at most `most` in size: a loop without a branch.
+fn is_quiet(group: &[f64; GROUP], most: f64) -> bool
+    ensures { result ≡ is_quiet group.now most group_size }
 {
     let mut quiet = true;
-    let mut j = 0;
-    while j < GROUP {
-        let x = section[start + j];
-        let size = size_of(x);
+    for x in group {
+        let size = size_of(*x);
         quiet = quiet & (size <= most);
-        j += 1;
     }
     quiet
 }

@@ -14,6 +14,7 @@ use Rattle.floats.specs.Floor.{floor_of}
 use Rattle.floats.proofs.Literals.{zero_of-is, one_of-is}
 use Rattle.floats.proofs.Fraction.{fraction_in}
 use Rattle.floats.proofs.Largest.{add-finite_unit}
+use Rattle.answers.specs.declared.Changed.{Changed}
 use Rattle.answers.specs.declared.Refusal.TheVariants.{Argument}
 use Rattle.answers.specs.Order.{unless}
 use Rattle.answers.proofs.Order.{held, first_keeps}
@@ -21,7 +22,6 @@ use Rattle.phase.specs.Phase.{is_state, wrap_of, with_phase, with_increment}
 use Rattle.phase.specs.Phase.{new_of, set_frequency_of, set_increment_of, next_of, set_phase_of, reset_of}
 use Rattle.phase.specs.declared.Cycles.{Cycles}
 use Rattle.phase.specs.declared.PhaseAccumulator.{PhaseAccumulator}
-use Rattle.phase.specs.declared.Changed.{Changed}
 use Rattle.phase.specs.declared.Stepped.{Stepped}
 
 pub record Good (a : PhaseAccumulator) : Type 0 where
@@ -59,25 +59,25 @@ module _ (a : PhaseAccumulator) (g : Good a) where
   at-wrap : (x : Float) → T (fits binary32 x) → T (finite x) → Good (with_phase a (wrap_of x))
   at-wrap x w p = at-phase (wrap_of x) (sub-fits binary32 x (floor_of binary32 x)) (wrap_in x w p)
 
-  pub set_frequency_keeps : (f r : Float) → Good (set_frequency_of a f r).accumulator
+  pub set_frequency_keeps : (f r : Float) → Good (set_frequency_of a f r).state
   set_frequency_keeps f r =
       let q = div binary32 f r in
       let before = is_state a && finite f && finite r && lt (zero_of binary32) r in
-      first_keeps (unless (before && finite q) Argument) _ _ (λ (s : Changed). Good s.accumulator) (λ why. g) (λ e. at-increment q (div-fits binary32 f r) (and_r before (finite q) (held (before && finite q) Argument e)))
+      first_keeps (unless (before && finite q) Argument) _ _ (λ (s : Changed PhaseAccumulator). Good s.state) (λ why. g) (λ e. at-increment q (div-fits binary32 f r) (and_r before (finite q) (held (before && finite q) Argument e)))
 
-  pub set_increment_keeps : (x : Cycles) → T (fits binary32 x.0) → Good (set_increment_of a x).accumulator
-  set_increment_keeps x w = first_keeps (unless (is_state a && finite x.0) Argument) _ _ (λ (r : Changed). Good r.accumulator) (λ why. g) (λ e. at-increment x.0 w (and_r (is_state a) (finite x.0) (held (is_state a && finite x.0) Argument e)))
+  pub set_increment_keeps : (x : Cycles) → T (fits binary32 x.0) → Good (set_increment_of a x).state
+  set_increment_keeps x w = first_keeps (unless (is_state a && finite x.0) Argument) _ _ (λ (r : Changed PhaseAccumulator). Good r.state) (λ why. g) (λ e. at-increment x.0 w (and_r (is_state a) (finite x.0) (held (is_state a && finite x.0) Argument e)))
 
   pub next_keeps : Good (next_of a).accumulator
   next_keeps =
       let sum = add binary32 a.phase.0 a.increment.0 in
       first_keeps (unless (is_state a) Argument) _ _ (λ (r : Stepped). Good r.accumulator) (λ why. g) (λ e. at-wrap sum (add-fits binary32 a.phase.0 a.increment.0) sum-finite)
 
-  pub set_phase_keeps : (x : Cycles) → T (fits binary32 x.0) → Good (set_phase_of a x).accumulator
-  set_phase_keeps x w = first_keeps (unless (is_state a && finite x.0) Argument) _ _ (λ (r : Changed). Good r.accumulator) (λ why. g) (λ e. at-wrap x.0 w (and_r (is_state a) (finite x.0) (held (is_state a && finite x.0) Argument e)))
+  pub set_phase_keeps : (x : Cycles) → T (fits binary32 x.0) → Good (set_phase_of a x).state
+  set_phase_keeps x w = first_keeps (unless (is_state a && finite x.0) Argument) _ _ (λ (r : Changed PhaseAccumulator). Good r.state) (λ why. g) (λ e. at-wrap x.0 w (and_r (is_state a) (finite x.0) (held (is_state a && finite x.0) Argument e)))
 
-  pub reset_keeps : Good (reset_of a).accumulator
-  reset_keeps = first_keeps (unless (is_state a) Argument) _ _ (λ (r : Changed). Good r.accumulator) (λ why. g) (λ e. at-phase (zero_of binary32) (of_bits-fits binary32 0) (unfold of_bits in unfold le in tt))
+  pub reset_keeps : Good (reset_of a).state
+  reset_keeps = first_keeps (unless (is_state a) Argument) _ _ (λ (r : Changed PhaseAccumulator). Good r.state) (λ why. g) (λ e. at-phase (zero_of binary32) (of_bits-fits binary32 0) (unfold of_bits in unfold le in tt))
 
 -- ---- any calls, one after the other
 pub data Call : Type 0 where
@@ -87,11 +87,11 @@ pub data Call : Type 0 where
 
 -- the state after a call
 abbrev pub after : PhaseAccumulator → Call → PhaseAccumulator
-after a (frequency f r) = (set_frequency_of a f r).accumulator
-after a (increment x) = (set_increment_of a x).accumulator
-after a (to x) = (set_phase_of a x).accumulator
+after a (frequency f r) = (set_frequency_of a f r).state
+after a (increment x) = (set_increment_of a x).state
+after a (to x) = (set_phase_of a x).state
 after a step = (next_of a).accumulator
-after a reset = (reset_of a).accumulator
+after a reset = (reset_of a).state
 
 -- the cycles that a call is given are values of an f32
 abbrev pub Given : Call → Type 0

@@ -5,20 +5,20 @@
 --
 -- Every call judges the whole state that it is given, also where it reads or replaces one field only. The count is 0:
 -- no samples are written. Definitions only.
-use Rattle.std.specs.Prelude.{Bool, ◌&&◌, List, Float}
+use Rattle.std.specs.Prelude.{Bool, ◌&&◌, List, Float, Result, Err, Ok}
 use Rattle.std.specs.Float.{binary32}
 use Rattle.std.specs.Float.Ieee.{add, sub, div, lt}
 use Rattle.std.specs.Float.Ieee.Scale.{finite}
 use Rattle.floats.specs.Range.{zero_of, one_of, within}
 use Rattle.floats.specs.Floor.{floor_of}
-use Rattle.answers.specs.declared.Answer.TheVariants.{Done, Refused}
+use Rattle.answers.specs.declared.Changed.{Changed}
 use Rattle.answers.specs.declared.Refusal.{Refusal}
 use Rattle.answers.specs.declared.Refusal.TheVariants.{Argument}
+use Rattle.answers.specs.Changed.{changed_or}
 use Rattle.answers.specs.Order.{unless, first_of}
+use Rattle.answers.specs.Value.{value_or}
 use Rattle.phase.specs.declared.Cycles.{Cycles}
 use Rattle.phase.specs.declared.PhaseAccumulator.{PhaseAccumulator}
-use Rattle.phase.specs.declared.Changed.{Changed}
-use Rattle.phase.specs.declared.Shown.{Shown}
 use Rattle.phase.specs.declared.Stepped.{Stepped}
 
 abbrev pub cycles_of : Float → Cycles
@@ -40,15 +40,9 @@ abbrev pub with_increment : PhaseAccumulator → Float → PhaseAccumulator
 with_increment a x = record { phase = a.phase; increment = cycles_of x }
 
 -- ---- what a call leaves, unless it is refused: then the state as it came, and +0 for a number of cycles
-abbrev pub changed_or : List Refusal → PhaseAccumulator → PhaseAccumulator → Changed
-changed_or refusals before after = first_of refusals (λ (why : Refusal). record { answer = Refused why; accumulator = before }) (record { answer = Done 0; accumulator = after })
-
-abbrev pub shown_or : List Refusal → Float → Shown
-shown_or refusals x = first_of refusals (λ (why : Refusal). record { answer = Refused why; cycles = cycles_of (zero_of binary32) }) (record { answer = Done 0; cycles = cycles_of x })
-
 abbrev pub stepped_or : List Refusal → Float → PhaseAccumulator → PhaseAccumulator → Stepped
 stepped_or refusals x before after =
-    first_of refusals (λ (why : Refusal). record { answer = Refused why; cycles = cycles_of (zero_of binary32); accumulator = before }) (record { answer = Done 0; cycles = cycles_of x; accumulator = after })
+    first_of refusals (λ (why : Refusal). record { answer = Err why; cycles = cycles_of (zero_of binary32); accumulator = before }) (record { answer = Ok 0; cycles = cycles_of x; accumulator = after })
 
 -- ---- the calls
 -- phase 0 and increment 0
@@ -56,28 +50,28 @@ abbrev pub new_of : PhaseAccumulator
 new_of = record { phase = cycles_of (zero_of binary32); increment = cycles_of (zero_of binary32) }
 
 -- the increment is frequency / rate, both in Hz
-abbrev pub set_frequency_of : PhaseAccumulator → Float → Float → Changed
+abbrev pub set_frequency_of : PhaseAccumulator → Float → Float → Changed PhaseAccumulator
 set_frequency_of a f r =
     let increment = div binary32 f r in
     changed_or (unless (is_state a && finite f && finite r && lt (zero_of binary32) r && finite increment) Argument) a (with_increment a increment)
 
-abbrev pub set_increment_of : PhaseAccumulator → Cycles → Changed
+abbrev pub set_increment_of : PhaseAccumulator → Cycles → Changed PhaseAccumulator
 set_increment_of a x = changed_or (unless (is_state a && finite x.0) Argument) a (with_increment a x.0)
 
-abbrev pub increment_of : PhaseAccumulator → Shown
-increment_of a = shown_or (unless (is_state a) Argument) a.increment.0
+abbrev pub increment_of : PhaseAccumulator → Result Cycles Refusal
+increment_of a = value_or (unless (is_state a) Argument) a.increment
 
 -- the phase before the step, and the state after it
 abbrev pub next_of : PhaseAccumulator → Stepped
 next_of a = stepped_or (unless (is_state a) Argument) a.phase.0 a (with_phase a (wrap_of (add binary32 a.phase.0 a.increment.0)))
 
-abbrev pub phase_of : PhaseAccumulator → Shown
-phase_of a = shown_or (unless (is_state a) Argument) a.phase.0
+abbrev pub phase_of : PhaseAccumulator → Result Cycles Refusal
+phase_of a = value_or (unless (is_state a) Argument) a.phase
 
 -- the phase is set to any finite number of cycles, wrapped
-abbrev pub set_phase_of : PhaseAccumulator → Cycles → Changed
+abbrev pub set_phase_of : PhaseAccumulator → Cycles → Changed PhaseAccumulator
 set_phase_of a x = changed_or (unless (is_state a && finite x.0) Argument) a (with_phase a (wrap_of x.0))
 
 -- the phase is set to 0; the increment stays
-abbrev pub reset_of : PhaseAccumulator → Changed
+abbrev pub reset_of : PhaseAccumulator → Changed PhaseAccumulator
 reset_of a = changed_or (unless (is_state a) Argument) a (with_phase a (zero_of binary32))

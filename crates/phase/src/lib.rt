@@ -6,10 +6,10 @@
 ghost use Rattle.std.specs.Prelude.{◌≡◌};
 ghost use Rattle.answers.specs.Order.{unless};
 ghost use Rattle.answers.specs.declared.Refusal.TheVariants.{Argument};
-ghost use Rattle.phase.specs.Phase.{is_state, wrap_of, with_phase, with_increment, changed_or, shown_or, stepped_or};
+ghost use Rattle.phase.specs.Phase.{is_state, wrap_of, stepped_or};
 ghost use Rattle.phase.specs.Phase.{new_of, set_frequency_of, set_increment_of, increment_of, next_of, phase_of, set_phase_of, reset_of};
 
-use answers::{Answer, Refusal};
+use answers::{Answer, Changed, Refusal};
 
 // A number of cycles, with a type of its own so that cycles and radians stay apart.
 #[derive(Clone, Copy)]
@@ -20,20 +20,6 @@ pub struct Cycles(pub f32);
 pub struct PhaseAccumulator {
     pub phase: Cycles,
     pub increment: Cycles,
-}
-
-// The answer of a call that changes the state, and the state after the call.
-#[derive(Clone, Copy)]
-pub struct Changed {
-    pub answer: Answer,
-    pub accumulator: PhaseAccumulator,
-}
-
-// The answer of a call that reads the phase or the increment, and the cycles that it read.
-#[derive(Clone, Copy)]
-pub struct Shown {
-    pub answer: Answer,
-    pub cycles: Cycles,
 }
 
 // The answer of a step, the phase before the step, and the state after it.
@@ -56,59 +42,75 @@ impl PhaseAccumulator {
     }
 
     // Sets the increment to frequency / sample_rate, both in Hz. A negative frequency runs the phase backwards.
-    pub fn set_frequency(self, frequency: f32, sample_rate: f32) -> Changed
+    pub fn set_frequency(self, frequency: f32, sample_rate: f32) -> Changed<PhaseAccumulator>
         ensures { result ≡ set_frequency_of self frequency sample_rate }
     {
         let increment = frequency / sample_rate;
         let ok = is_state(self)
-            & floats::is_finite_f32(frequency)
-            & floats::is_finite_f32(sample_rate)
+            & floats::is_finite(frequency)
+            & floats::is_finite(sample_rate)
             & (0.0 < sample_rate)
-            & floats::is_finite_f32(increment);
-        changed_if(ok, self, with_increment(self, increment))
+            & floats::is_finite(increment);
+        let after = PhaseAccumulator {
+            increment: Cycles(increment),
+            ..self
+        };
+        answers::changed_if(ok, Refusal::Argument, self, after)
     }
 
     // Sets the increment, in cycles a sample.
-    pub fn set_increment(self, increment: Cycles) -> Changed
+    pub fn set_increment(self, increment: Cycles) -> Changed<PhaseAccumulator>
         ensures { result ≡ set_increment_of self increment }
     {
-        let ok = is_state(self) & floats::is_finite_f32(increment.0);
-        changed_if(ok, self, with_increment(self, increment.0))
+        let ok = is_state(self) & floats::is_finite(increment.0);
+        let after = PhaseAccumulator { increment, ..self };
+        answers::changed_if(ok, Refusal::Argument, self, after)
     }
 
-    pub fn increment(self) -> Shown
+    pub fn increment(self) -> Result<Cycles, Refusal>
         ensures { result ≡ increment_of self }
     {
-        shown_if(is_state(self), self.increment.0)
+        answers::value_if(is_state(self), Refusal::Argument, self.increment)
     }
 
     // Hands out the phase before the step, and the state after it.
     pub fn next(self) -> Stepped
         ensures { result ≡ next_of self }
     {
-        let after = with_phase(self, wrap(self.phase.0 + self.increment.0));
-        stepped_if(is_state(self), self.phase.0, self, after)
+        let after = PhaseAccumulator {
+            phase: Cycles(wrap(self.phase.0 + self.increment.0)),
+            ..self
+        };
+        stepped_if(is_state(self), self.phase, self, after)
     }
 
-    pub fn phase(self) -> Shown
+    pub fn phase(self) -> Result<Cycles, Refusal>
         ensures { result ≡ phase_of self }
     {
-        shown_if(is_state(self), self.phase.0)
+        answers::value_if(is_state(self), Refusal::Argument, self.phase)
     }
 
     // Sets the phase to any finite number of cycles, wrapped.
-    pub fn set_phase(self, phase: Cycles) -> Changed
+    pub fn set_phase(self, phase: Cycles) -> Changed<PhaseAccumulator>
         ensures { result ≡ set_phase_of self phase }
     {
-        let ok = is_state(self) & floats::is_finite_f32(phase.0);
-        changed_if(ok, self, with_phase(self, wrap(phase.0)))
+        let ok = is_state(self) & floats::is_finite(phase.0);
+        let after = PhaseAccumulator {
+            phase: Cycles(wrap(phase.0)),
+            ..self
+        };
+        answers::changed_if(ok, Refusal::Argument, self, after)
     }
 
     // Sets the phase to 0; the increment stays.
-    pub fn reset(self) -> Changed
+    pub fn reset(self) -> Changed<PhaseAccumulator>
         ensures { result ≡ reset_of self }
     {
-        changed_if(is_state(self), self, with_phase(self, 0.0))
+        let after = PhaseAccumulator {
+            phase: Cycles(0.0),
+            ..self
+        };
+        answers::changed_if(is_state(self), Refusal::Argument, self, after)
     }
 }
 
@@ -117,81 +119,29 @@ fn is_state(a: PhaseAccumulator) -> bool
     ensures { result ≡ is_state a }
 {
     let phase = a.phase.0;
-    (0.0 <= phase) & (phase <= 1.0) & floats::is_finite_f32(a.increment.0)
+    (0.0 <= phase) & (phase <= 1.0) & floats::is_finite(a.increment.0)
 }
 
 // x - floor(x), which for a finite x is 0 to 1, both ends reached.
 fn wrap(x: f32) -> f32
     ensures { result ≡ wrap_of x }
 {
-    x - floats::floor_f32(x)
-}
-
-fn with_phase(a: PhaseAccumulator, phase: f32) -> PhaseAccumulator
-    ensures { result ≡ with_phase a phase }
-{
-    let increment = a.increment;
-    PhaseAccumulator {
-        phase: Cycles(phase),
-        increment,
-    }
-}
-
-fn with_increment(a: PhaseAccumulator, increment: f32) -> PhaseAccumulator
-    ensures { result ≡ with_increment a increment }
-{
-    let phase = a.phase;
-    PhaseAccumulator {
-        phase,
-        increment: Cycles(increment),
-    }
-}
-
-// Done, with the state after, where ok is true; else a refusal with the state as it came.
-fn changed_if(ok: bool, before: PhaseAccumulator, after: PhaseAccumulator) -> Changed
-    ensures { result ≡ changed_or (unless ok Argument) before after }
-{
-    if ok {
-        return Changed {
-            answer: Answer::Done(0),
-            accumulator: after,
-        };
-    }
-    Changed {
-        answer: Answer::Refused(Refusal::Argument),
-        accumulator: before,
-    }
-}
-
-// Done, with the cycles, where ok is true; else a refusal with +0.
-fn shown_if(ok: bool, cycles: f32) -> Shown
-    ensures { result ≡ shown_or (unless ok Argument) cycles }
-{
-    if ok {
-        return Shown {
-            answer: Answer::Done(0),
-            cycles: Cycles(cycles),
-        };
-    }
-    Shown {
-        answer: Answer::Refused(Refusal::Argument),
-        cycles: Cycles(0.0),
-    }
+    x - floats::floor(x)
 }
 
 // Done, with the cycles and the state moved, where ok is true; else a refusal with +0 and the state as it came.
-fn stepped_if(ok: bool, cycles: f32, came: PhaseAccumulator, moved: PhaseAccumulator) -> Stepped
-    ensures { result ≡ stepped_or (unless ok Argument) cycles came moved }
+fn stepped_if(ok: bool, cycles: Cycles, came: PhaseAccumulator, moved: PhaseAccumulator) -> Stepped
+    ensures { result ≡ stepped_or (unless ok Argument) cycles.0 came moved }
 {
     if ok {
         return Stepped {
-            answer: Answer::Done(0),
-            cycles: Cycles(cycles),
+            answer: Ok(0),
+            cycles,
             accumulator: moved,
         };
     }
     Stepped {
-        answer: Answer::Refused(Refusal::Argument),
+        answer: Err(Refusal::Argument),
         cycles: Cycles(0.0),
         accumulator: came,
     }

@@ -8,7 +8,7 @@ use borrow.Author.Tests.{ltb-true, ltb-false}
 use lib.Dec.{T, ltb, leb, ltb→lt, leb→le}
 use lib.ListN.{length, get_or, get_or-eq_default}
 use lib.Ieee.{Float, nan, inf, fin, binary32, binary64, of_bits, lt, le, fits, is_nan}
-use lib.Ieee.Fits.{and_i, and_l, and_r, fits_widens}
+use lib.Ieee.Fits.{and_i, and_l, and_r}
 use lib.Ieee.Bits.{of_bits-fits}
 use lib.Ieee.Positive.{num, den}
 use lib.Ieee.Scale.{finite}
@@ -143,8 +143,3 @@ frequency-no_nan note = go (ltb note 128) refl
     go : (t : Bool) → ltb note 128 ≡ t → T (not (is_nan (frequency_of note)))
     go true e = above_no_nan (frequency_of note) (and_l (lt zero64 (frequency_of note)) (le (frequency_of note) (highest_pitch binary64)) (frequency_in note (ltb-true note 128 e)))
     go false e = rw (frequency-past note (ltb-false note 128 e)) zero-no_nan
-
--- the cast of a pitch to an f64 loses nothing
-pub frequency_widens : (note : ℕ) → T (fits binary64 (frequency_of note) && not (is_nan (frequency_of note)))
-frequency_widens note =
-    and_i (fits binary64 (frequency_of note)) (not (is_nan (frequency_of note))) (fits_widens (frequency_of note) (frequency-fits note)) (frequency-no_nan note)

@@ -3,30 +3,23 @@
 --
 -- A value of an f32 is the same number as an f64, so both widths have one definition. The count is 0: no samples are
 -- written. Definitions only.
-use Rattle.std.specs.Prelude.{List, ℕ, get_or, Float}
+use Rattle.std.specs.Prelude.{ℕ, get_or, Float, Result}
 use Rattle.std.specs.Float.{binary32}
 use Rattle.std.specs.Float.Ieee.{of_bits}
 use Rattle.domain.specs.Domain.{is_midi}
-use Rattle.answers.specs.declared.Answer.TheVariants.{Done, Refused}
 use Rattle.answers.specs.declared.Refusal.{Refusal}
 use Rattle.answers.specs.declared.Refusal.TheVariants.{Argument}
-use Rattle.answers.specs.declared.Value.{Value}
-use Rattle.answers.specs.Order.{unless, first_of}
+use Rattle.answers.specs.Order.{unless}
 use Rattle.answers.specs.Value.{value_or}
 use Rattle.pitch.specs.Patterns.{patterns}
-use Rattle.pitch.specs.declared.Frequency.{Frequency}
 
 -- the pitch of a note in Hz, from the table; +0 above 127
 unfoldable pub frequency_of : ℕ → Float
 frequency_of note = of_bits binary32 (get_or patterns note 0)
 
--- done, with the number x, unless the call is refused: then +0
-abbrev pub frequency_or : List Refusal → Float → Frequency
-frequency_or refusals x = first_of refusals (λ (why : Refusal). record { answer = Refused why; value = of_bits binary32 0 }) (record { answer = Done 0; value = x })
-
 -- ---- the calls, in f32 and in f64
-abbrev pub midi_note_to_frequency_of : ℕ → Frequency
-midi_note_to_frequency_of note = frequency_or (unless (is_midi note) Argument) (frequency_of note)
+abbrev pub midi_note_to_frequency_of : ℕ → Result Float Refusal
+midi_note_to_frequency_of note = value_or (unless (is_midi note) Argument) (frequency_of note)
 
-abbrev pub midi_note_to_frequency_f64_of : ℕ → Value
+abbrev pub midi_note_to_frequency_f64_of : ℕ → Result Float Refusal
 midi_note_to_frequency_f64_of note = value_or (unless (is_midi note) Argument) (frequency_of note)

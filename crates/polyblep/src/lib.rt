@@ -8,7 +8,7 @@ ghost use Rattle.std.specs.Prelude.{◌≡◌};
 ghost use Rattle.polyblep.specs.Polyblep.{side_of, knee_after, knee_before, blep_of, blamp_of, rounded_blamp_of, fract_of, naive_pulse_of, naive_saw_of, rise_of, fall_of, naive_triangle_of, saw_of, square_of, pulse_of, triangle_of, rounded_of};
 ghost use Rattle.polyblep.specs.Calls.{poly_blep_of, poly_blamp_of, polyblep_saw_of, polyblep_square_of, polyblep_pulse_of, polyblamp_triangle_of};
 
-use answers::{Refusal, Value};
+use answers::Refusal;
 
 // 1.0 / 3.0
 pub const THIRD: f64 = 0.3333333333333333;
@@ -27,20 +27,20 @@ pub enum Side {
 }
 
 // The correction at a step: t is the phase from the step and dt the phase of one sample, both in cycles.
-pub fn poly_blep(t: f64, dt: f64) -> Value
+pub fn poly_blep(t: f64, dt: f64) -> Result<f64, Refusal>
     ensures { result ≡ poly_blep_of t dt }
 {
     answers::value_if(domain::is_phase(t, dt), Refusal::Argument, blep(t, dt))
 }
 
 // The correction at a corner, that at a step integrated but for its constant; t and dt are in cycles.
-pub fn poly_blamp(t: f64, dt: f64) -> Value
+pub fn poly_blamp(t: f64, dt: f64) -> Result<f64, Refusal>
     ensures { result ≡ poly_blamp_of t dt }
 {
     answers::value_if(domain::is_phase(t, dt), Refusal::Argument, blamp(t, dt))
 }
 
-pub fn polyblep_saw(phase: f64, dt: f64) -> Value
+pub fn polyblep_saw(phase: f64, dt: f64) -> Result<f64, Refusal>
     ensures { result ≡ polyblep_saw_of phase dt }
 {
     answers::value_if(
@@ -50,7 +50,7 @@ pub fn polyblep_saw(phase: f64, dt: f64) -> Value
     )
 }
 
-pub fn polyblep_square(phase: f64, dt: f64) -> Value
+pub fn polyblep_square(phase: f64, dt: f64) -> Result<f64, Refusal>
     ensures { result ≡ polyblep_square_of phase dt }
 {
     answers::value_if(
@@ -60,7 +60,7 @@ pub fn polyblep_square(phase: f64, dt: f64) -> Value
     )
 }
 
-pub fn polyblep_pulse(phase: f64, dt: f64, duty: f64) -> Value
+pub fn polyblep_pulse(phase: f64, dt: f64, duty: f64) -> Result<f64, Refusal>
     ensures { result ≡ polyblep_pulse_of phase dt duty }
 {
     answers::value_if(
@@ -70,7 +70,7 @@ pub fn polyblep_pulse(phase: f64, dt: f64, duty: f64) -> Value
     )
 }
 
-pub fn polyblamp_triangle(phase: f64, dt: f64) -> Value
+pub fn polyblamp_triangle(phase: f64, dt: f64) -> Result<f64, Refusal>
     ensures { result ≡ polyblamp_triangle_of phase dt }
 {
     answers::value_if(
@@ -173,22 +173,19 @@ fn side_of(t: f64, dt: f64) -> Side
     ensures { result ≡ side_of t dt }
 {
     if t < dt {
-        return Side::After(t / dt);
+        Side::After(t / dt)
+    } else if t > 1.0 - dt {
+        Side::Before((t - 1.0) / dt)
+    } else {
+        Side::Away
     }
-    if t > 1.0 - dt {
-        return Side::Before((t - 1.0) / dt);
-    }
-    Side::Away
 }
 
 // 1 before the edge, -1 from the edge on.
 pub fn naive_pulse(phase: f64, edge: f64) -> f64
     ensures { result ≡ naive_pulse_of phase edge }
 {
-    if phase < edge {
-        return HIGH;
-    }
-    LOW
+    if phase < edge { HIGH } else { LOW }
 }
 
 // The naive triangle: from -1 at phase 0 up to 1 at phase 0.5, and down to -1 at phase 1.
@@ -196,9 +193,10 @@ pub fn naive_triangle(phase: f64) -> f64
     ensures { result ≡ naive_triangle_of phase }
 {
     if phase < 0.5 {
-        return rise(phase);
+        rise(phase)
+    } else {
+        fall(phase)
     }
-    fall(phase)
 }
 
 // The naive sawtooth: from -1 at phase 0 up to 1 at phase 1.
@@ -225,5 +223,5 @@ pub fn fall(phase: f64) -> f64
 fn fract(x: f64) -> f64
     ensures { result ≡ fract_of x }
 {
-    x - floats::floor_f64(x)
+    x - floats::floor(x)
 }

@@ -1,4 +1,5 @@
 -- What a render and a continuing call leave where they are done, and where they are refused. Assumes nothing.
+use Rattle.std.specs.Prelude.{Err, Ok}
 use mathlib.Core.Path.{◌≡◌, refl, sym, ap, ◌∙◌}
 use mathlib.Core.Bool.{Bool, true, false, ◌&&◌}
 use mathlib.Core.List.{List, []}
@@ -14,7 +15,6 @@ use borrow.Author.Tests.{leb-true}
 use Rattle.runs.specs.Runs.{first_passing}
 use Rattle.runs.proofs.First.{first_passing_lem}
 use Rattle.answers.specs.Order.{unless, first_of}
-use Rattle.answers.specs.declared.Answer.TheVariants.{Done, Refused}
 use Rattle.answers.specs.declared.Refusal.{Refusal}
 use Rattle.answers.specs.declared.Refusal.TheVariants.{GivenState}
 use Rattle.answers.proofs.Order.{first_append, leads_first, done_none, refused_leads, Decided, decided}
@@ -48,12 +48,12 @@ module _ (g : Settings) (s : List ℕ) (b : Buffers) where
   abbrev refusals : List Refusal
   refusals = refusals_of g (room_in b) s
 
-  pub render-refused : (why : Refusal) → first_of refusals Refused (Done n) ≡ Refused why → leaves (says (Refused why) (fresh_of 0)) b ≡ render_of g s b
+  pub render-refused : (why : Refusal) → first_of refusals Err (Ok n) ≡ Err why → leaves (says (Err why) (fresh_of 0)) b ≡ render_of g s b
   unfolding render_of
   render-refused why e = sym (leads_first why refusals _ (made_of g s n) (refused_leads refusals n why e))
 
   -- the list of refusals decides the answer, and the answer decides what is left
-  pub render-decided : Decided (λ (o : Outcome Rendered). o.result.answer) refusals (λ (why : Refusal). leaves (says (Refused why) (fresh_of 0)) b) (made_of g s n) n (render_of g s b)
+  pub render-decided : Decided (λ (o : Outcome Rendered). o.result.answer) refusals (λ (why : Refusal). leaves (says (Err why) (fresh_of 0)) b) (made_of g s n) n (render_of g s b)
   unfolding render_of
   render-decided = decided (λ (o : Outcome Rendered). o.result.answer) refusals _ (made_of g s n) n (λ why. refl) refl
 
@@ -70,11 +70,11 @@ module _ (g : Settings) (s : List ℕ) (b : Buffers) where
       (λ l. omega (arith, l))
       (lt_or_ge (first_passing (λ (k : ℕ). leb n k && passes k) (entries_for n - 1) 1) (1 + (entries_for n - 1)))
 
-  pub render-done : (m : ℕ) → first_of refusals Refused (Done n) ≡ Done m → (r : End) (c : Buffers) → leaves r c ≡ play_on_of g s 0 (place_of (fresh_of 0) 0) m b → leaves (says (Done m) r.place.state) c ≡ render_of g s b
+  pub render-done : (m : ℕ) → first_of refusals Err (Ok n) ≡ Ok m → (r : End) (c : Buffers) → leaves r c ≡ play_on_of g s 0 (place_of (fresh_of 0) 0) m b → leaves (says (Ok m) r.place.state) c ≡ render_of g s b
   unfolding render_of
   render-done m e r c x =
       let none : refusals ≡ [] = done_none refusals n m e in
-      let k : n ≡ m = (let q : Done n ≡ Done m = rw none at e in cc) in
+      let k : n ≡ m = (let q : Ok n ≡ Ok m = rw none at e in cc) in
       let d = rw (← x) at (made g s (passed-sorted g (room_in b) s none) 0 0 (fresh_of 0) at_zero m b (all_passed g (room_in b) s none).sized) in
       let stop : r.sample ≡ n = d.stop_is ∙ rw (← k) (never_stops _) in
       let samples = samples_from g s 0 (fresh_of 0) n in
@@ -85,7 +85,7 @@ module _ (g : Settings) (s : List ℕ) (b : Buffers) where
       ∙ ap (λ (e : ℕ). made_between 0 n samples (shelf_of (entries_from g s 0 (fresh_of 0) e)) b) (sub-zero (entries_for n)) in
       let v : r.place.state ≡ state_from g s 0 (fresh_of 0) n = rw (stop, sub-zero n) at d.state-is in
       rw (none, ← k, v)
-      (ap (leaves (says (Done n) (state_from g s 0 (fresh_of 0) n))) (left ∙ made-whole samples words b (in_room b (all_passed g (room_in b) s none).sized) (samples-length g s 0 (fresh_of 0) n)))
+      (ap (leaves (says (Ok n) (state_from g s 0 (fresh_of 0) n))) (left ∙ made-whole samples words b (in_room b (all_passed g (room_in b) s none).sized) (samples-length g s 0 (fresh_of 0) n)))
 
 module _ (g : Settings) (s : List ℕ) (v : State) (p : ℕ) (part : List Float) where
   abbrev room : Bool
@@ -104,10 +104,10 @@ module _ (g : Settings) (s : List ℕ) (v : State) (p : ℕ) (part : List Float)
   continue_decided = decided (λ (o : PartOutcome). o.result.answer) _ (kept_part v part) (made_part g s v p (length part)) (length part) (λ why. refl) refl
 
   module _ (n : ℕ) where
-    pub continue_refused : (why : Refusal) → first_of (refusals_of g room s) Refused (Done n) ≡ Refused why → kept_part v part why ≡ continue_of g s v p part
+    pub continue_refused : (why : Refusal) → first_of (refusals_of g room s) Err (Ok n) ≡ Err why → kept_part v part why ≡ continue_of g s v p part
     continue_refused why e = sym (in_turn ∙ leads_first why (refusals_of g room s) (kept_part v part) rest (refused_leads (refusals_of g room s) n why e))
 
-    pub continue_goes : (m : ℕ) → first_of (refusals_of g room s) Refused (Done n) ≡ Done m → rest ≡ continue_of g s v p part
+    pub continue_goes : (m : ℕ) → first_of (refusals_of g room s) Err (Ok n) ≡ Ok m → rest ≡ continue_of g s v p part
     continue_goes m e = sym (in_turn ∙ rw (done_none (refusals_of g room s) n m e) refl)
 
   -- in a sorted score two records tell whether as many acted as lie below p
@@ -118,7 +118,7 @@ module _ (g : Settings) (s : List ℕ) (v : State) (p : ℕ) (part : List Float)
     pub goes_refused : is_state v && is_count_below s v.acted p ≡ false → kept_part v part GivenState ≡ rest
     goes_refused e = rw (← given, e) refl
 
-    pub goes_on : is_state v && is_count_below s v.acted p ≡ true → (r : Place) (ys : List Float) → Played g s p (place_of v v.acted) part ys r → leaves_part (says (Done (length part)) r.state) ys ≡ rest
+    pub goes_on : is_state v && is_count_below s v.acted p ≡ true → (r : Place) (ys : List Float) → Played g s p (place_of v v.acted) part ys r → leaves_part (says (Ok (length part)) r.state) ys ≡ rest
     goes_on e r ys x =
         let c : Cut s p v.acted = parts_cut s o v.acted p (both (is_state v) (is_count_below s v.acted p) e).1 in
         let w : r.state ≡ state_from g s p v (length part) = ap (λ (q : Place). q.state) x.place ∙ (kept g s o p v.acted v c (length part)).state-is in

@@ -10,12 +10,11 @@
 -- first sample where it stands".
 -- The samples, states and entries are those of `state`'s specs/Heart.antt, the summary is that of `sections`'
 -- specs/Summary.antt. Definitions only.
-use Rattle.std.specs.Prelude.{Bool, ◌&&◌, List, ◌++◌, ℕ, eqb, length, Float}
+use Rattle.std.specs.Prelude.{Bool, ◌&&◌, List, ◌++◌, ℕ, eqb, length, Float, Err, Ok}
 use Rattle.sections.specs.Outcome.{Buffers, samples_in, room_in, Outcome, leaves}
 use Rattle.sections.specs.Summary.{summary_of}
 use Rattle.answers.specs.Order.{unless, first_of}
-use Rattle.answers.specs.declared.Answer.{Answer}
-use Rattle.answers.specs.declared.Answer.TheVariants.{Done, Refused}
+use Rattle.answers.specs.Answer.{Answer}
 use Rattle.answers.specs.declared.Refusal.{Refusal}
 use Rattle.answers.specs.declared.Refusal.TheVariants.{GivenState}
 use Rattle.score.specs.Below.{count_below}
@@ -37,12 +36,12 @@ abbrev pub made_of : Settings → List ℕ → ℕ → Outcome Rendered
 made_of g s n =
     let heard = samples_from g s 0 (fresh_of 0) n in
     leaves
-    (says (Done n) (state_from g s 0 (fresh_of 0) n))
+    (says (Ok n) (state_from g s 0 (fresh_of 0) n))
     (record { heard = heard; stored = shelf_of (entries_from g s 0 (fresh_of 0) (entries_for n)); summary = summary_of heard })
 
 -- a refusal leaves output, shelf and summary as they came
 unfoldable pub render_of : Settings → List ℕ → Buffers → Outcome Rendered
-render_of g s b = first_of (refusals_of g (room_in b) s) (λ (why : Refusal). leaves (says (Refused why) (fresh_of 0)) b) (made_of g s (samples_in b))
+render_of g s b = first_of (refusals_of g (room_in b) s) (λ (why : Refusal). leaves (says (Err why) (fresh_of 0)) b) (made_of g s (samples_in b))
 
 -- ---- continue: from a given state v at position p
 pub record PartOutcome : Type 0 where
@@ -62,11 +61,11 @@ continue_refusals g s given p n = refusals_of g (part_fits p n) s ++ unless give
 
 -- n samples, and the state after them
 abbrev pub made_part : Settings → List ℕ → State → ℕ → ℕ → PartOutcome
-made_part g s v p n = leaves_part (says (Done n) (state_from g s p v n)) (samples_from g s p v n)
+made_part g s v p n = leaves_part (says (Ok n) (state_from g s p v n)) (samples_from g s p v n)
 
 -- a refusal leaves the state and the part as they came
 abbrev pub kept_part : State → List Float → Refusal → PartOutcome
-kept_part v part why = leaves_part (says (Refused why) v) part
+kept_part v part why = leaves_part (says (Err why) v) part
 
 unfoldable pub continue_of : Settings → List ℕ → State → ℕ → List Float → PartOutcome
 continue_of g s v p part = first_of (continue_refusals g s (is_given s p v) p (length part)) (kept_part v part) (made_part g s v p (length part))

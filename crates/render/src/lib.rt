@@ -6,12 +6,13 @@
 
 ghost use Rattle.std.specs.Prelude.{◌≡◌, length};
 ghost use Rattle.score.specs.Below.{Sorted};
-ghost use Rattle.sections.specs.Outcome.{lends, leaves};
+ghost use Rattle.sections.specs.Lending.{held, leaves_in, left_in};
 ghost use Rattle.answers.specs.Order.{unless, first_of};
 ghost use Rattle.answers.specs.declared.Refusal.TheVariants.{GivenState};
 ghost use Rattle.render.specs.Calls.{render_of, leaves_part, is_given, kept_part, made_part, continue_of};
 
 use answers::{Answer, Refusal};
+use sections::Buffers;
 use spans::Place;
 use state::{Settings, State};
 
@@ -25,37 +26,20 @@ pub struct Rendered {
 
 // Every sample of the output, every entry of the shelf and every peak of the summary, from the fresh state at sample
 // zero.
-pub fn render(
-    settings: Settings,
-    score: &[u8],
-    out: &mut [f64],
-    shelf: &mut [u64],
-    magnitudes: &mut [f64],
-    numbers: &mut [u64],
-) -> Rendered
-    ensures { leaves result (lends out.new shelf.new magnitudes.new numbers.new) ≡ render_of settings score.now (lends out.old shelf.old magnitudes.old numbers.old) }
+pub fn render(settings: Settings, score: &[u8], lent: &mut Buffers) -> Rendered
+    ensures { leaves_in result lent.new ≡ left_in lent.old (render_of settings score.now (held lent.old)) }
 {
-    let room = judging::sizes_fit(out.len(), shelf.len(), magnitudes.len(), numbers.len());
-    let answer = judging::judged(settings, room, score, Answer::Done(out.len()));
-    match answer {
-        Answer::Refused(why) => Rendered {
-            answer: Answer::Refused(why),
-            state: state::fresh(),
-        },
-        Answer::Done(n) => {
-            let state = state::fresh();
-            let next = 0;
-            let start = Place { state, next };
-            // No section has the number n: nothing stops a render.
-            let end = sections::play_on(
-                settings, score, 0, start, n, out, shelf, magnitudes, numbers,
-            );
-            let after = end.place;
-            let state = after.state;
-            let answer = Answer::Done(n);
-            Rendered { answer, state }
-        }
-    }
+    let state = state::fresh();
+    let room = lent.fits();
+    let answer = judging::judged(settings, room, score, Ok(lent.heard.len()));
+    let Ok(n) = answer else {
+        return Rendered { answer, state };
+    };
+    let start = Place { state, next: 0 };
+    // No section has the number n: nothing stops a render.
+    let end = sections::play_on(settings, score, 0, start, n, lent);
+    let state = end.place.state;
+    Rendered { answer, state }
 }
 
 // The next part of the output, from a given state before the sample at `position` is begun.
@@ -69,14 +53,11 @@ pub fn continue_render(
     ensures { leaves_part result part.new ≡ continue_of settings score.now state position part.old }
 {
     let stretch = judging::part_fits(position, part.len());
-    let answer = judging::judged(settings, stretch, score, Answer::Done(part.len()));
-    match answer {
-        Answer::Refused(why) => Rendered {
-            answer: Answer::Refused(why),
-            state,
-        },
-        Answer::Done(_) => continue_from(settings, score, state, position, part),
-    }
+    let answer = judging::judged(settings, stretch, score, Ok(part.len()));
+    let Ok(_) = answer else {
+        return Rendered { answer, state };
+    };
+    continue_from(settings, score, state, position, part)
 }
 
 // From the given state, or refusal 10. In a sorted score two records tell whether as many acted as lie below
@@ -92,18 +73,13 @@ fn continue_from(
     ensures { leaves_part result part.new ≡ first_of (unless (is_given score.now position state) GivenState) (kept_part state part.old) (made_part settings score.now state position (length part.old)) }
 {
     let acted = state.acted;
-    let samples = part.len();
     if !(state::is_state(state) & score::is_count_below(score, acted, position)) {
-        return Rendered {
-            answer: Answer::Refused(Refusal::GivenState),
-            state,
-        };
+        let answer = Err(Refusal::GivenState);
+        return Rendered { answer, state };
     }
     let next = acted as usize;
+    let answer = Ok(part.len());
     let end = spans::play(settings, score, Place { state, next }, position, part);
-    let after = end.state;
-    Rendered {
-        answer: Answer::Done(samples),
-        state: after,
-    }
+    let state = end.state;
+    Rendered { answer, state }
 }

@@ -2,6 +2,7 @@
 // answer, the phase after the call and every sample are compared bit for bit; but the samples of a sine, which is ours,
 // must lie within 0.000001 of the original's, times the depth.
 use crate::fields;
+use crate::fields::Words;
 use crate::nearness::Finding;
 use lfo::LfoBlock;
 use oscillator::OscillatorBlock;
@@ -19,16 +20,21 @@ const UNHEARD: f64 = -1.0;
 // As many samples are lent as the row says, at most 1,000.
 pub fn compared(row: &[u8]) -> Finding {
     let mut out = [fields::UNWRITTEN; 1000];
-    let lent = fields::at_most(words::u64_at(row, MORE), 1000);
+    let lent = words::u64_at(row, MORE).min(1000) as usize;
     judged(row, &mut out[0..lent])
 }
 
-// The depth scales the allowed difference of every sample: step 0.
+// The depth scales the allowed difference of every sample. A call that was refused has left every number as it was: no
+// sine is heard.
 fn judged(row: &[u8], out: &mut [f64]) -> Finding {
-    let told = is_called(row, out);
-    let equal = told & (out.len() as u64 == words::u64_at(row, MORE));
+    let told = is_called(row, out) & (out.len() as u64 == words::u64_at(row, MORE));
     let has_sine = (words::u64_at(row, 8) == 0) & (words::u64_at(row, 64) % 256 == 0);
-    fields::compared(equal, row, has_sine, ROW, 40, 0, out)
+    let heard = if has_sine {
+        fields::measured(row, ROW, Words::always(row, 40), out)
+    } else {
+        Finding::from(fields::are(row, ROW, out))
+    };
+    Finding::from(told).and(heard)
 }
 
 // Whether the call's answer and the phase that it leaves are the row's.

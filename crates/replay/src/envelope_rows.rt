@@ -8,7 +8,7 @@ pub const ROW: usize = 192;
 
 // Whether the call's answer, the state that it leaves and the eight numbers are the row's.
 pub fn is_equal(row: &[u8]) -> bool {
-    let lent = fields::at_most(words::u64_at(row, 48), 8);
+    let lent = words::u64_at(row, 48).min(8) as usize;
     let mut slots = [fields::UNWRITTEN; 8];
     let op = words::u64_at(row, 0);
     let block = given(row);
@@ -19,7 +19,7 @@ pub fn is_equal(row: &[u8]) -> bool {
         2 => block.reset(),
         3 => block.process(words::u32_at(row, 40), &mut slots[0..lent]),
         _ => Processed {
-            answer: Answer::Done(0),
+            answer: Ok(0),
             block: EnvelopeBlock::new(adsr.attack, adsr.decay, adsr.sustain, adsr.release),
         },
     };
@@ -28,7 +28,7 @@ pub fn is_equal(row: &[u8]) -> bool {
     (op < 5)
         & fields::says(answer, words::u64_at(row, 88))
         & is_state(row, after)
-        & fields::are_slots(row, 128, &slots)
+        & fields::are(row, 128, &slots)
 }
 
 fn is_state(row: &[u8], after: Envelope) -> bool {
@@ -41,8 +41,7 @@ fn is_state(row: &[u8], after: Envelope) -> bool {
         EnvelopeStage::Release => 4,
     };
     let told = [after.level, after.stage_time, after.release_level];
-    let is_stage = number == words::u64_at(row, 96);
-    fields::compared(is_stage, row, false, 104, 0, 0, &told).equal
+    (number == words::u64_at(row, 96)) & fields::are(row, 104, &told)
 }
 
 fn given(row: &[u8]) -> EnvelopeBlock {

@@ -1,10 +1,7 @@
 // The fields of a row, which differ from part to part of `replay`: floats by their bits, answers by their numbers,
 // waveforms by their codes; and the samples and words that a call has written, compared with those of a row.
-ghost use Rattle.std.specs.Prelude.{◌≤◌};
-
-use crate::nearness;
 use crate::nearness::Finding;
-use answers::Answer;
+use answers::{Answer, Numbers, Refusal};
 use waveform::Waveform;
 
 // What each float holds before a call: no sample is that high.
@@ -14,14 +11,65 @@ pub const UNWRITTEN: f64 = 42.0;
 // that number.
 pub const UNKEPT: u64 = 0x2a2a_2a2a_2a2a_2a2a;
 
-// The smaller of `wanted` and `most`.
-pub fn at_most(wanted: u64, most: usize) -> usize
-    ensures { result ≤ most }
-{
-    if wanted < most as u64 {
-        return wanted as usize;
+// What a row keeps in a word: a float, by its bits, or a number.
+pub trait Field: Copy {
+    fn of_bits(bits: u64) -> Self;
+
+    fn bits(self) -> u64;
+}
+
+impl Field for f64 {
+    fn of_bits(bits: u64) -> f64 {
+        words::f64_of(bits)
     }
-    most
+
+    fn bits(self) -> u64 {
+        words::f64_bits(self)
+    }
+}
+
+impl Field for u64 {
+    fn of_bits(bits: u64) -> u64 {
+        bits
+    }
+
+    fn bits(self) -> u64 {
+        self
+    }
+}
+
+// Words of a row, each so many bytes after the one before; 0 beyond the row's end.
+#[derive(Clone, Copy)]
+pub struct Words<'a> {
+    row: &'a [u8],
+    at: usize,
+    step: usize,
+}
+
+impl<'a> Words<'a> {
+    // Word after word from a byte on.
+    pub fn along(row: &'a [u8], first: usize) -> Words<'a> {
+        Words {
+            row,
+            at: first,
+            step: 8,
+        }
+    }
+
+    // The word at a byte, again and again.
+    pub fn always(row: &'a [u8], at: usize) -> Words<'a> {
+        Words { row, at, step: 0 }
+    }
+}
+
+impl Iterator for Words<'_> {
+    type Item = u64;
+
+    fn next(&mut self) -> Option<u64> {
+        let word = words::u64_at(self.row, self.at);
+        self.at = self.at.wrapping_add(self.step);
+        Some(word)
+    }
 }
 
 pub fn float_at(row: &[u8], at: usize) -> f64 {
@@ -31,10 +79,15 @@ pub fn float_at(row: &[u8], at: usize) -> f64 {
 // Whether a row's word is the answer, packed as include/gavberin.h says: bits 0 to 7 the number, 8 to 31 the place, 32
 // to 63 the count.
 pub fn says(answer: Answer, word: u64) -> bool {
-    let numbers = answers::in_numbers(answer);
+    let numbers = Numbers::from(answer);
     (numbers.number as u64 == word % 0x100)
         & (numbers.place as u64 == word / 0x100 % 0x100_0000)
         & (numbers.count as u64 == word / 0x1_0000_0000)
+}
+
+// Whether a call's single number and its answer are those of a row, by their bits; a refused call gives +0 there.
+pub fn gives(got: Result<f64, Refusal>, told: u64, bits: u64) -> bool {
+    says(got.map(|_| 0), told) & (words::f64_bits(got.unwrap_or(0.0)) == bits)
 }
 
 // The waveform of the code at a byte of the row; a pulse's duty is the word after it.
@@ -45,75 +98,39 @@ pub fn waveform_of(row: &[u8], at: usize) -> Waveform {
         2 => Waveform::Sawtooth,
         3 => Waveform::Triangle,
         6 => Waveform::RoundedTriangle,
-        _ => Waveform::Pulse(float_at(row, std::num::wrapping_add_usize(at, 8))),
+        _ => Waveform::Pulse(float_at(row, at.wrapping_add(8))),
     }
 }
 
-// Words from a byte of the row on, as many as `kept` has room for.
-pub fn put_words(row: &[u8], first: usize, kept: &mut [u64]) {
-    let mut i = 0;
-    while i < kept.len() {
-        kept[i] = words::u64_at(row, std::num::wrapping_add_usize(first, i << 3));
-        i += 1;
+// Fills `kept` with what the row has from a byte on.
+pub fn put<T: Field>(row: &[u8], first: usize, kept: &mut [T]) {
+    for (x, word) in kept.iter_mut().zip(Words::along(row, first)) {
+        *x = T::of_bits(word);
     }
 }
 
-// Floats from a byte of the row on, by their bits, as many as `samples` has room for.
-pub fn put_floats(row: &[u8], first: usize, samples: &mut [f64]) {
-    let mut i = 0;
-    while i < samples.len() {
-        samples[i] = float_at(row, std::num::wrapping_add_usize(first, i << 3));
-        i += 1;
-    }
+// So many floats or words from a byte on.
+pub fn at<T: Field, const N: usize>(row: &[u8], first: usize) -> [T; N] {
+    let mut kept = [T::of_bits(0); N];
+    put(row, first, &mut kept);
+    kept
 }
 
-// Whether the words from a byte of the row on are `kept`.
-pub fn are_words(row: &[u8], first: usize, kept: &[u64]) -> bool {
-    let mut equal = true;
-    let mut i = 0;
-    while i < kept.len() {
-        let word = words::u64_at(row, std::num::wrapping_add_usize(first, i << 3));
-        equal = equal & (kept[i] == word);
-        i += 1;
-    }
-    equal
+// Whether `kept` is what the row has from a byte on, by the bits.
+pub fn are<T: Field>(row: &[u8], first: usize, kept: &[T]) -> bool {
+    kept.iter()
+        .zip(Words::along(row, first))
+        .all(|(x, word)| x.bits() == word)
 }
 
-// Whether the words from a byte of the row on are the bits of the eight numbers, the first of which were lent.
-pub fn are_slots(row: &[u8], first: usize, slots: &[f64; 8]) -> bool {
-    compared(true, row, false, first, 0, 0, slots).equal
-}
-
-// Whether all else is equal, and the samples are those from a byte of the row on. Where a sine is heard, a sample may
-// differ by 0.000001 times its scale, and the largest difference is found too. The first scale is at byte `scales`,
-// each next one `step` bytes further on. A call that was refused has left every number as it was: no sine is heard.
-pub fn compared(
-    all_else: bool,
-    row: &[u8],
-    has_sine: bool,
-    first: usize,
-    scales: usize,
-    step: usize,
-    samples: &[f64],
-) -> Finding {
-    let mut equal = all_else;
-    let mut farthest = 0.0;
-    let mut at = first;
-    let mut scale = scales;
-    let mut i = 0;
-    while i < samples.len() {
-        let ours = samples[i];
-        if has_sine {
-            let theirs = float_at(row, at);
-            let off = nearness::larger(ours - theirs, theirs - ours);
-            equal = equal & (off <= nearness::NEAR * float_at(row, scale));
-            farthest = nearness::larger(off, farthest);
-            scale = std::num::wrapping_add_usize(scale, step);
-        } else {
-            equal = equal & (words::f64_bits(ours) == words::u64_at(row, at));
-        }
-        at = std::num::wrapping_add_usize(at, 8);
-        i += 1;
-    }
-    Finding { equal, farthest }
+// Whether the samples, in which a sine is heard, are near those from a byte of the row on: each may differ by 0.000001
+// times its scale. The largest difference is found too.
+pub fn measured(row: &[u8], first: usize, scales: Words, samples: &[f64]) -> Finding {
+    samples
+        .iter()
+        .zip(Words::along(row, first))
+        .zip(scales)
+        .fold(Finding::from(true), |found, ((ours, theirs), scale)| {
+            found.and(Finding::of_sine(*ours, words::f64_of(theirs), words::f64_of(scale)))
+        })
 }

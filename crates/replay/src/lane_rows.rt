@@ -14,18 +14,12 @@ pub fn is_equal(row: &[u8]) -> bool {
     };
     let answer = got.answer;
     let values = got.values;
-    (op < 6) & fields::says(answer, words::u64_at(row, 112)) & are_values(row, &values)
-}
-
-fn are_values(row: &[u8], values: &[f64; 4]) -> bool {
-    fields::compared(true, row, false, 120, 0, 0, values).equal
+    (op < 6) & fields::says(answer, words::u64_at(row, 112)) & fields::are(row, 120, &values)
 }
 
 fn corrections(op: u64, row: &[u8]) -> Lanes {
-    let mut t = [0.0; 4];
-    fields::put_floats(row, 8, &mut t);
-    let mut dt = [0.0; 4];
-    fields::put_floats(row, 40, &mut dt);
+    let t = fields::at(row, 8);
+    let dt = fields::at(row, 40);
     match op {
         0 => lanes::poly_blep_simd(t, dt),
         _ => lanes::poly_blamp_simd(t, dt),
@@ -34,10 +28,8 @@ fn corrections(op: u64, row: &[u8]) -> Lanes {
 
 // Of the four dt only the first is given: it is the phase of one sample in every lane.
 fn applied(op: u64, row: &[u8]) -> Lanes {
-    let mut phases = [0.0; 4];
-    fields::put_floats(row, 8, &mut phases);
-    let mut samples = [0.0; 4];
-    fields::put_floats(row, 80, &mut samples);
+    let phases = fields::at(row, 8);
+    let samples = fields::at(row, 80);
     let phase_inc = fields::float_at(row, 40);
     match op {
         2 => lanes::apply_polyblep_saw(samples, phases, phase_inc),

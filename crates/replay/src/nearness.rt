@@ -13,22 +13,43 @@ pub struct Finding {
     pub farthest: f64,
 }
 
+// Where no sine is heard.
+impl From<bool> for Finding {
+    fn from(equal: bool) -> Finding {
+        Finding {
+            equal,
+            farthest: 0.0,
+        }
+    }
+}
+
+impl Finding {
+    // A sine that may differ by 0.000001 times its scale.
+    pub fn of_sine(ours: f64, theirs: f64, scale: f64) -> Finding {
+        let off = larger(ours - theirs, theirs - ours);
+        Finding {
+            equal: off <= NEAR * scale,
+            farthest: off,
+        }
+    }
+
+    // Both findings as one.
+    pub fn and(self, other: Finding) -> Finding {
+        Finding {
+            equal: self.equal & other.equal,
+            farthest: larger(other.farthest, self.farthest),
+        }
+    }
+}
+
 // The larger of two numbers; the second where either is a NaN. Of x - y and y - x it is how far x and y are apart.
 pub fn larger(x: f64, y: f64) -> f64 {
-    if y < x {
-        return x;
-    }
-    y
+    if y < x { x } else { y }
 }
 
 // x in billionths, rounded up, at most MOST.
 pub fn billionths(x: f64) -> u32 {
-    let mut n = 0;
-    while n < MOST {
-        if n as f64 / 1000000000.0 >= x {
-            return n;
-        }
-        n += 1;
-    }
-    n
+    (0..MOST)
+        .find(|n| f64::from(*n) / 1000000000.0 >= x)
+        .unwrap_or(MOST)
 }

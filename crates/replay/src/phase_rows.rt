@@ -1,11 +1,11 @@
 // The original's answers to the calls of phase.rs: a row is nine u32, compared bit for bit.
 use crate::fields;
-use answers::Answer;
-use phase::{Changed, Cycles, PhaseAccumulator};
+use answers::{Answer, Changed, Refusal};
+use phase::{Cycles, PhaseAccumulator};
 
 pub const ROW: usize = 36;
 
-// Whether the call's answer and what it leaves are the row's. A getter hands back no state: the row has the given one.
+// Whether the call's answer and what it leaves are the row's.
 pub fn is_equal(row: &[u8]) -> bool {
     let given = PhaseAccumulator {
         phase: Cycles(words::f32_of(words::u32_at(row, 4))),
@@ -13,11 +13,7 @@ pub fn is_equal(row: &[u8]) -> bool {
     };
     let op = words::u32_at(row, 0);
     match op {
-        2 => {
-            let got = given.increment();
-            let answer = got.answer;
-            is_outcome(row, answer, got.cycles.0, given.phase.0, given.increment.0)
-        }
+        2 => is_shown(row, given.increment(), given),
         3 => {
             let got = given.next();
             let answer = got.answer;
@@ -29,13 +25,21 @@ pub fn is_equal(row: &[u8]) -> bool {
                 got.accumulator.increment.0,
             )
         }
-        4 => {
-            let got = given.phase();
-            let answer = got.answer;
-            is_outcome(row, answer, got.cycles.0, given.phase.0, given.increment.0)
-        }
+        4 => is_shown(row, given.phase(), given),
         _ => (op < 8) & is_changed(op, row, given),
     }
+}
+
+// A getter hands back no state: the row has the given one, and +0 where the getter is refused.
+fn is_shown(row: &[u8], got: Result<Cycles, Refusal>, given: PhaseAccumulator) -> bool {
+    let cycles = got.unwrap_or(Cycles(0.0));
+    is_outcome(
+        row,
+        got.map(|_| 0),
+        cycles.0,
+        given.phase.0,
+        given.increment.0,
+    )
 }
 
 fn is_changed(op: u32, row: &[u8], given: PhaseAccumulator) -> bool {
@@ -46,14 +50,17 @@ fn is_changed(op: u32, row: &[u8], given: PhaseAccumulator) -> bool {
         5 => given.set_phase(Cycles(a)),
         6 => given.reset(),
         _ => Changed {
-            answer: Answer::Done(0),
-            accumulator: PhaseAccumulator::new(),
+            answer: Ok(0),
+            state: PhaseAccumulator::new(),
         },
     };
-    let answer = got.answer;
-    let phase = got.accumulator.phase.0;
-    let increment = got.accumulator.increment.0;
-    is_outcome(row, answer, 0.0, phase, increment)
+    is_outcome(
+        row,
+        got.answer,
+        0.0,
+        got.state.phase.0,
+        got.state.increment.0,
+    )
 }
 
 // Whether the answer, the value and the state after are the row's.

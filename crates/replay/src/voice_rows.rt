@@ -1,9 +1,10 @@
 // The original's answers to the calls of voice.rs: a row is 31 u32, compared bit for bit: the answer, the value that
 // the call gives, and the state after with its held keys, whose pairs are 0 beyond their count.
 use crate::fields;
-use answers::Answer;
-use voice::keys::{ActiveNote, Keys, NoteOff};
-use voice::{Changed, VoiceState};
+use answers::{Answer, Changed};
+use std::array;
+use voice::VoiceState;
+use voice::keys::{Keys, NoteOff};
 
 pub const ROW: usize = 124;
 
@@ -28,13 +29,11 @@ fn is_changed(op: u32, row: &[u8]) -> bool {
         0 => given(row).note_on(byte_at(row, 56, 0), byte_at(row, 60, 0)),
         2 => given(row).reset(),
         _ => Changed {
-            answer: Answer::Done(0),
-            voice: VoiceState::new(),
+            answer: Ok(0),
+            state: VoiceState::new(),
         },
     };
-    let answer = got.answer;
-    let after = got.voice;
-    is_outcome(row, answer, 0, after)
+    is_outcome(row, got.answer, 0, got.state)
 }
 
 fn is_lifted(row: &[u8]) -> bool {
@@ -60,18 +59,14 @@ fn is_heard(row: &[u8], off: NoteOff) -> bool {
     }
 }
 
-// A getter hands back no state: the row has the given one.
+// A getter hands back no state: the row has the given one, and 0 where the getter is refused.
 fn is_shown(op: u32, row: &[u8]) -> bool {
     let voice = given(row);
-    if op == 4 {
-        let got = voice.held_note_count();
-        let answer = got.answer;
-        return is_outcome(row, answer, got.count as u64, voice);
-    }
-    let got = voice.is_active();
-    let answer = got.answer;
-    let active = if got.active { 1 } else { 0 };
-    is_outcome(row, answer, active, voice)
+    let got = match op {
+        4 => voice.held_note_count().map(|count| count as u64),
+        _ => voice.is_active().map(u64::from),
+    };
+    is_outcome(row, got.map(|_| 0), got.unwrap_or(0), voice)
 }
 
 // Whether the answer, the value (a yes or no, what a lift says, or a number of keys) and the state after are the row's.
@@ -89,24 +84,20 @@ fn is_keys(row: &[u8], keys: Keys) -> bool {
     let notes = keys.notes;
     let velocities = keys.velocities;
     let code = match active {
-        ActiveNote::Silent => NONE,
-        ActiveNote::Note(note) => note as u32,
+        None => NONE,
+        Some(note) => note as u32,
     };
     let gate = if keys.gate { 1 } else { 0 };
     (code == words::u32_at(row, 72))
         & (gate == words::u32_at(row, 76))
         & (keys.count as u64 == words::u32_at(row, 80) as u64)
-        & are_bytes(row, 84, &notes)
-        & are_bytes(row, 100, &velocities)
+        & (bytes_at(row, 84) == notes)
+        & (bytes_at(row, 100) == velocities)
 }
 
 fn given(row: &[u8]) -> VoiceState {
     let code = words::u32_at(row, 4);
-    let active = if code < NONE {
-        ActiveNote::Note(code as u8)
-    } else {
-        ActiveNote::Silent
-    };
+    let active = if code < NONE { Some(code as u8) } else { None };
     VoiceState {
         keys: Keys {
             active,
@@ -120,32 +111,10 @@ fn given(row: &[u8]) -> VoiceState {
     }
 }
 
-fn are_bytes(row: &[u8], at: usize, got: &[u8; 16]) -> bool {
-    (words::u64_at(got, 0) == words::u64_at(row, at))
-        & (words::u64_at(got, 8) == words::u64_at(row, std::num::wrapping_add_usize(at, 8)))
-}
-
 fn bytes_at(row: &[u8], at: usize) -> [u8; 16] {
-    [
-        byte_at(row, at, 0),
-        byte_at(row, at, 1),
-        byte_at(row, at, 2),
-        byte_at(row, at, 3),
-        byte_at(row, at, 4),
-        byte_at(row, at, 5),
-        byte_at(row, at, 6),
-        byte_at(row, at, 7),
-        byte_at(row, at, 8),
-        byte_at(row, at, 9),
-        byte_at(row, at, 10),
-        byte_at(row, at, 11),
-        byte_at(row, at, 12),
-        byte_at(row, at, 13),
-        byte_at(row, at, 14),
-        byte_at(row, at, 15),
-    ]
+    array::from_fn(|i| byte_at(row, at, i))
 }
 
 fn byte_at(row: &[u8], at: usize, i: usize) -> u8 {
-    (words::u32_at(row, std::num::wrapping_add_usize(at, i)) % 256) as u8
+    (words::u32_at(row, at.wrapping_add(i)) % 256) as u8
 }

@@ -18,26 +18,17 @@ pub fn is_equal(row: &[u8]) -> bool {
     } else {
         sine::sine(at)
     };
-    let answer = got.answer;
-    let slots = [
-        got.value,
-        fields::UNWRITTEN,
-        fields::UNWRITTEN,
-        fields::UNWRITTEN,
-        fields::UNWRITTEN,
-        fields::UNWRITTEN,
-        fields::UNWRITTEN,
-        fields::UNWRITTEN,
-    ];
+    let mut slots = [fields::UNWRITTEN; 8];
+    slots[0] = got.unwrap_or(0.0);
     (op < 4)
-        & fields::says(answer, words::u64_at(row, 56))
+        & fields::says(got.map(|_| 0), words::u64_at(row, 56))
         & (words::u64_at(row, 64) == 0)
-        & fields::are_slots(row, 72, &slots)
+        & fields::are(row, 72, &slots)
 }
 
 // Call 0 is the inner loop alone; only a block reduces the phase after it.
 fn is_block(op: u64, row: &[u8]) -> bool {
-    let lent = fields::at_most(words::u64_at(row, 48), 8);
+    let lent = words::u64_at(row, 48).min(8) as usize;
     let start = Radians(fields::float_at(row, 24));
     let step = Radians(fields::float_at(row, 32));
     let shape = fields::waveform_of(row, 8);
@@ -49,5 +40,5 @@ fn is_block(op: u64, row: &[u8]) -> bool {
     }
     (words::u64_at(row, 56) == 0)
         & (words::f64_bits(after.0) == words::u64_at(row, 64))
-        & fields::are_slots(row, 72, &slots)
+        & fields::are(row, 72, &slots)
 }

@@ -1,6 +1,8 @@
 -- The plan, its run and the call, case by case. Assumes nothing.
+use Rattle.std.specs.Prelude.{Err, None, Ok, Option, Some}
+use Rattle.std.specs.Bool.{then_some}
 use mathlib.Core.Path.{◌≡◌, refl, sym, ap, ◌∙◌}
-use mathlib.Core.Bool.{Bool, true, false, cond, ◌&&◌}
+use mathlib.Core.Bool.{Bool, true, false, ◌&&◌}
 use mathlib.Core.List.{List, [], ◌++◌}
 use mathlib.Core.Logic.{⊎_elim}
 use Prim.Native.Nat.{ℕ, suc, ◌+◌, ◌-◌, ◌*◌, ◌/◌, min, ◌≤◌, ◌<◌}
@@ -13,6 +15,9 @@ use borrow.Author.Tests.{lt-ltb, le-ltb, ltb-true, le-leb, lt-leb, eqb-true}
 use Rattle.runs.proofs.First.{first-same}
 use Rattle.sections.specs.declared.End.{End}
 use Rattle.sections.specs.Outcome.{Buffers, lends, samples_in, room_in, Lent, before, onward, Outcome, leaves}
+use Rattle.sections.specs.declared.Buffers as lent
+use Rattle.sections.specs.Lending.{held, leaves_in, left_in}
+use Rattle.sections.proofs.Lending.{left-held}
 use Rattle.sections.specs.Summary.{largest, first_number, said_from}
 use Rattle.sections.specs.Sections.{made_between, stop_where, play_on_of}
 use Rattle.sections.proofs.Room.{in_room, earlier, later_words, later_drop}
@@ -20,14 +25,10 @@ use Rattle.sections.proofs.Made.{Stop, stop_is, made-samples, made-words, made-l
 use Rattle.sections.proofs.Agrees.{Made}
 use Rattle.sections.proofs.Agrees as agrees
 use Rattle.answers.specs.Order.{first_of}
-use Rattle.answers.specs.declared.Answer.{Answer}
-use Rattle.answers.specs.declared.Answer.TheVariants.{Done, Refused}
+use Rattle.answers.specs.Answer.{Answer}
 use Rattle.answers.specs.declared.Refusal.{Refusal}
 use Rattle.answers.specs.declared.Refusal.TheVariants.{StartEntry}
 use Rattle.answers.proofs.Order.{first_append, Leads, leads_first, done_none, refused_leads, none_both, Decided, decided}
-use Rattle.score.specs.declared.Difference.{Difference}
-use Rattle.score.specs.declared.Difference.TheVariants.{Equal, At}
-use Rattle.score.specs.declared.Verdict.TheVariants.{Accepted}
 use Rattle.score.specs.Record.{count_of}
 use Rattle.score.specs.Score.{verdict_of}
 use Rattle.score.specs.Below.{count_below, is_count_below, Sorted, Cut}
@@ -45,56 +46,52 @@ use Rattle.state.specs.Settings.{settings_ok}
 use Rattle.state.specs.Heart.{state_from, samples_from, entries_from}
 use Rattle.state.proofs.RunsOn.{samples-length}
 use Rattle.state.proofs.Entries.{entries-length}
+use Rattle.spans.specs.declared.Place.{Place}
 use Rattle.spans.specs.Walk.{place_of}
 use Rattle.judging.specs.Judging.{refusals_of, new_refusals_of, sizes_fit, most_samples}
 use Rattle.judging.proofs.Refusals.{all_passed, new-passed, roomy}
-use Rattle.rerender.specs.declared.Plan.{Plan}
-use Rattle.rerender.specs.declared.Plan.TheVariants.{Nothing, From}
 use Rattle.rerender.specs.Rerender.{plan_for, plan_of, start_of, is_start, is_settled, stop_of, recounted, recounted_from, made_from, outcome_of, start_refusals, rerender_refusals, kept_of, rerender_of, count_for}
-use Rattle.rerender.specs.Inner.{InOrder, rerender_from, quiet_for, quiet_of, Behind, recounted_on}
+use Rattle.rerender.specs.Inner.{InOrder, rerender_from, started_at, quiet_for, quiet_of, Behind, recounted_on}
 use Rattle.rerender.proofs.Renewing.{renewed_is, renewed_words, renewed_before, renewed_after, renewed_entry}
 
 -- ---- the plan
 module _ (old new : List ℕ) (n : ℕ) where
-  pub plan_equal : difference_of old new ≡ Equal → Nothing ≡ plan_of old new n
+  pub plan_equal : difference_of old new ≡ None → None ≡ plan_of old new n
   unfolding plan_for
   plan_equal e = rw e refl
 
-  pub plan_late : (p : ℕ) → difference_of old new ≡ At p → n ≤ p → Nothing ≡ plan_of old new n
+  pub plan_late : (p : ℕ) → difference_of old new ≡ Some p → n ≤ p → None ≡ plan_of old new n
   unfolding plan_for
   plan_late p e h = rw (e, le-ltb p n h) refl
 
-  pub plan_from : (p : ℕ) → difference_of old new ≡ At p → p < n → From (p / section_size) ≡ plan_of old new n
+  pub plan_from : (p : ℕ) → difference_of old new ≡ Some p → p < n → Some (p / section_size) ≡ plan_of old new n
   unfolding plan_for
   plan_from p e h = rw (e, lt-ltb p n h) refl
 
 -- the plan's section m holds the position where the scores first differ, which lies before the end
 pub record Planned (old new : List ℕ) (n m : ℕ) : Type 0 where
   pub change : ℕ
-  pub differs : difference_of old new ≡ At change
+  pub differs : difference_of old new ≡ Some change
   pub heard : change < n
   pub section_is : m ≡ change / section_size
 
-from_inj : {n m : ℕ} → From n ≡ From m → n ≡ m
-from_inj e = cc
-
-pub plan_says : (old new : List ℕ) (n m : ℕ) → plan_of old new n ≡ From m → Planned old new n m
+pub plan_says : (old new : List ℕ) (n m : ℕ) → plan_of old new n ≡ Some m → Planned old new n m
 unfolding plan_for
 plan_says old new n m h = go (difference_of old new) refl h
   where
-    go : (d : Difference) → difference_of old new ≡ d → plan_for d n ≡ From m → Planned old new n m
-    go Equal e h = absurd (clash (cc))
-    go (At p) e h = at (ltb p n) refl h
+    go : (d : Option ℕ) → difference_of old new ≡ d → plan_for d n ≡ Some m → Planned old new n m
+    go None e h = absurd (clash (cc))
+    go (Some p) e h = at (ltb p n) refl h
       where
-        at : (t : Bool) → ltb p n ≡ t → cond t (From (p / section_size)) Nothing ≡ From m → Planned old new n m
-        at true q h = record { change = p; differs = e; heard = ltb-true p n q; section_is = sym (from_inj h) }
+        at : (t : Bool) → ltb p n ≡ t → then_some t (p / section_size) ≡ Some m → Planned old new n m
+        at true q h = record { change = p; differs = e; heard = ltb-true p n q; section_is = cc }
         at false q h = absurd (clash (cc))
 
 -- section m starts at or before that position, and section m + 1 after it
 pub plan_last : (old new : List ℕ) (n m : ℕ) (p : Planned old new n m) → (m * section_size ≤ p.change) × (p.change < suc m * section_size)
 plan_last old new n m p = rw p.section_is (omega arith, omega arith)
 
-pub plan_there : (old new : List ℕ) (n m : ℕ) → plan_of old new n ≡ From m → m < entries_for n
+pub plan_there : (old new : List ℕ) (n m : ℕ) → plan_of old new n ≡ Some m → m < entries_for n
 plan_there old new n m h = let p : Planned old new n m = plan_says old new n m h in rw p.section_is (start_there n p.change p.heard)
 
 -- ---- the run
@@ -110,12 +107,33 @@ few_sections n words magnitudes numbers m f h = omega (arith, (roomy n words mag
 pub start_is : (new : List ℕ) (m : ℕ) (shelf : List ℕ) → Sorted new → is_entry (entry_at shelf m) && is_count_below new (start_of shelf m).acted (m * section_size) ≡ is_start new m shelf
 start_is new m shelf o = rw (parts-count new o (start_of shelf m).acted (m * section_size)) refl
 
+-- the entry that a call may start from, and its place
+pub started_none : (new : List ℕ) (m : ℕ) (shelf : List ℕ) → started_at new m shelf ≡ None → is_start new m shelf ≡ false
+started_none new m shelf = go (is_start new m shelf)
+  where
+    go : (t : Bool) → then_some t (place_of (start_of shelf m) (start_of shelf m).acted) ≡ None → t ≡ false
+    go true e = cc
+    go false e = refl
+
+started_some : (new : List ℕ) (m : ℕ) (shelf : List ℕ) (p : Place) → started_at new m shelf ≡ Some p → (is_start new m shelf ≡ true) × (p ≡ place_of (start_of shelf m) (start_of shelf m).acted)
+started_some new m shelf p = go (is_start new m shelf)
+  where
+    go : (t : Bool) → then_some t (place_of (start_of shelf m) (start_of shelf m).acted) ≡ Some p → (t ≡ true) × (p ≡ place_of (start_of shelf m) (start_of shelf m).acted)
+    go true e = (refl, cc)
+    go false e = cc
+
+-- what the sections' walk from there left
+pub run_walked : (g : Settings) (old new : List ℕ) (m : ℕ) (b c : lent.Buffers) (p : Place) (quiet : ℕ) (r : End) → started_at new m b.stored.now ≡ Some p → quiet ≡ quiet_of old new
+    → leaves_in r c ≡ left_in b (play_on_of g new m p quiet (held b))
+    → (is_start new m b.stored.now ≡ true) × (leaves r (held c) ≡ play_on_of g new m (place_of (start_of b.stored.now m) (start_of b.stored.now m).acted) (quiet_of old new) (held b))
+run_walked g old new m b c p quiet r e f x = let s = started_some new m b.stored.now p e in (s.0, rw (s.1, f) at (left-held c r _ x))
+
 module _ (old new : List ℕ) where
-  pub quiet_equal : last_difference_of old new ≡ Equal → 0 ≡ quiet_of old new
+  pub quiet_equal : last_difference_of old new ≡ None → 0 ≡ quiet_of old new
   unfolding quiet_for
   quiet_equal e = rw e refl
 
-  pub quiet_at_lem : (p : ℕ) → last_difference_of old new ≡ At p → p / section_size + 1 ≡ quiet_of old new
+  pub quiet_at_lem : (p : ℕ) → last_difference_of old new ≡ Some p → p / section_size + 1 ≡ quiet_of old new
   unfolding quiet_for
   quiet_at_lem p e = rw e (omega arith)
 
@@ -124,9 +142,9 @@ pub quiet_is : (old new : List ℕ) → InOrder old → InOrder new → (k : ℕ
 unfolding quiet_for
 quiet_is old new a b k = go (last_difference_of old new) refl
   where
-    go : (d : Difference) → last_difference_of old new ≡ d → leb (quiet_for d) k ≡ same_from old new (k * section_size)
-    go Equal e = le-leb 0 k (omega arith) ∙ sym (same_everywhere old new a.sorted b.sorted a.records b.records (k * section_size) e)
-    go (At p) e =
+    go : (d : Option ℕ) → last_difference_of old new ≡ d → leb (quiet_for d) k ≡ same_from old new (k * section_size)
+    go None e = le-leb 0 k (omega arith) ∙ sym (same_everywhere old new a.sorted b.sorted a.records b.records (k * section_size) e)
+    go (Some p) e =
         ⊎_elim (λ l. le-leb (suc (p / section_size)) k (omega arith) ∙ sym (lt-ltb p (k * section_size) l)) (λ l. lt-leb (suc (p / section_size)) k (omega arith) ∙ sym (le-ltb p (k * section_size) l)) (lt_or_ge p (k * section_size))
         ∙ sym (same_from_lem old new a.sorted b.sorted a.records b.records (k * section_size) p e)
 
@@ -137,7 +155,7 @@ module _ (g : Settings) (old new : List ℕ) (m : ℕ) (b : Buffers) where
   abbrev v : State
   v = start_of b.stored m
 
-  pub from-refused : is_start new m b.stored ≡ false → leaves (Refused StartEntry) b ≡ rerender_from g old new m b
+  pub from-refused : is_start new m b.stored ≡ false → leaves (Err StartEntry) b ≡ rerender_from g old new m b
   unfolding rerender_from
   from-refused e = rw e refl
 
@@ -205,11 +223,11 @@ module _ (g : Settings) (old new : List ℕ) (m : ℕ) (b : Buffers) where
       few_words = rw left_is (omega (arith, made-fits.fits, made-fits.short))
 
       pub from-made : (ws : List ℕ) → ws ≡ recounted_on new (entries_for r.sample) c.stored
-          → leaves (Done (r.sample - m * section_size)) (lends c.heard ws c.summary.magnitudes c.summary.numbers) ≡ rerender_from g old new m b
+          → leaves (Ok (r.sample - m * section_size)) (lends c.heard ws c.summary.magnitudes c.summary.numbers) ≡ rerender_from g old new m b
       unfolding rerender_from
       from-made ws y =
           let w : ws ≡ (recounted_from new (entries_for stop) made).stored = y ∙ rw (stops, left_is) (renewed_is new (entries_for stop) made made-fits.fits stop_within) in
-          rw (e, stops, w) (ap (λ (d : Buffers). leaves (Done (stop - m * section_size)) (lends d.heard (recounted_from new (entries_for stop) made).stored d.summary.magnitudes d.summary.numbers)) left_is)
+          rw (e, stops, w) (ap (λ (d : Buffers). leaves (Ok (stop - m * section_size)) (lends d.heard (recounted_from new (entries_for stop) made).stored d.summary.magnitudes d.summary.numbers)) left_is)
 
     -- ---- what the run leaves
     abbrev left : Buffers
@@ -279,23 +297,23 @@ module _ (g : Settings) (old new : List ℕ) (room : Bool) where
   checks = refusals_of g room old ++ new_refusals_of new
 
   abbrev pub answered : Answer
-  answered = first_of (refusals_of g room old) Refused (first_of (new_refusals_of new) Refused (Done 0))
+  answered = first_of (refusals_of g room old) Err (first_of (new_refusals_of new) Err (Ok 0))
 
-  answered-is : first_of checks Refused (Done 0) ≡ answered
-  answered-is = first_append (refusals_of g room old) (new_refusals_of new) Refused (Done 0)
+  answered-is : first_of checks Err (Ok 0) ≡ answered
+  answered-is = first_append (refusals_of g room old) (new_refusals_of new) Err (Ok 0)
 
-  pub answer-none : (k : ℕ) → answered ≡ Done k → checks ≡ []
+  pub answer-none : (k : ℕ) → answered ≡ Ok k → checks ≡ []
   answer-none k e = done_none checks 0 k (answered-is ∙ e)
 
-  pub answer_leads : (why : Refusal) → answered ≡ Refused why → Leads why checks
+  pub answer_leads : (why : Refusal) → answered ≡ Err why → Leads why checks
   answer_leads why e = refused_leads checks 0 why (answered-is ∙ e)
 
   -- what is true where the checks refuse nothing
   pub record Checked : Type 0 where
     pub settings : settings_ok g ≡ true
     pub fits : room ≡ true
-    pub old_accepted : verdict_of old ≡ Accepted (count_of old)
-    pub new-accepted : verdict_of new ≡ Accepted (count_of new)
+    pub old_accepted : verdict_of old ≡ Ok (count_of old)
+    pub new-accepted : verdict_of new ≡ Ok (count_of new)
 
   pub all_checked : checks ≡ [] → Checked
   all_checked e =
@@ -303,11 +321,11 @@ module _ (g : Settings) (old new : List ℕ) (room : Bool) where
       let p = all_passed g room old b.0 in
       record { settings = p.settings; fits = p.sized; old_accepted = p.accepted; new-accepted = new-passed new b.1 }
 
-  pub answer-checked : (k : ℕ) → answered ≡ Done k → Checked
+  pub answer-checked : (k : ℕ) → answered ≡ Ok k → Checked
   answer-checked k e = all_checked (answer-none k e)
 
 module _ (g : Settings) (old new : List ℕ) (b : Buffers) where
-  abbrev plan : Plan
+  abbrev plan : Option ℕ
   plan = plan_of old new (samples_in b)
 
   abbrev tests : List Refusal
@@ -321,20 +339,20 @@ module _ (g : Settings) (old new : List ℕ) (b : Buffers) where
   unfolding rerender_of
   in_turn = first_append tests (start_refusals new plan b.stored) (kept_of b) (outcome_of g old new plan b)
 
-  pub checks_refuse : (why : Refusal) → answered g old new (room_in b) ≡ Refused why → leaves (Refused why) b ≡ rerender_of g old new b
+  pub checks_refuse : (why : Refusal) → answered g old new (room_in b) ≡ Err why → leaves (Err why) b ≡ rerender_of g old new b
   checks_refuse why e = sym (in_turn ∙ leads_first why tests (kept_of b) rest (answer_leads g old new (room_in b) why e))
 
   pub checks_pass : tests ≡ [] → rerender_of g old new b ≡ rest
   checks_pass none = in_turn ∙ rw none refl
 
-  module _ (k : ℕ) (e : answered g old new (room_in b) ≡ Done k) where
+  module _ (k : ℕ) (e : answered g old new (room_in b) ≡ Ok k) where
     goes : rerender_of g old new b ≡ rest
     goes = checks_pass (answer-none g old new (room_in b) k e)
 
-    pub nothing_run : plan ≡ Nothing → leaves (Done 0) b ≡ rerender_of g old new b
+    pub nothing_run : plan ≡ None → leaves (Ok 0) b ≡ rerender_of g old new b
     nothing_run q = sym (goes ∙ rw q refl)
 
-    pub section_run : (m : ℕ) → plan ≡ From m → rerender_from g old new m b ≡ rerender_of g old new b
+    pub section_run : (m : ℕ) → plan ≡ Some m → rerender_from g old new m b ≡ rerender_of g old new b
     unfolding rerender_from
     section_run m q = sym (goes ∙ rw q refl)
 
@@ -343,6 +361,6 @@ module _ (g : Settings) (old new : List ℕ) (b : Buffers) where
   unfolding rerender_of
   rerender-decided = decided (λ (o : Outcome Answer). o.result) _ (kept_of b) (outcome_of g old new plan b) (count_for g old new plan b) (λ why. refl) (run-counts plan)
     where
-      run-counts : (q : Plan) → (outcome_of g old new q b).result ≡ Done (count_for g old new q b)
-      run-counts Nothing = refl
-      run-counts (From m) = refl
+      run-counts : (q : Option ℕ) → (outcome_of g old new q b).result ≡ Ok (count_for g old new q b)
+      run-counts None = refl
+      run-counts (Some m) = refl

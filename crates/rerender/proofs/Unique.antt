@@ -2,13 +2,13 @@
 use mathlib.Core.Path.{◌≡◌}
 use mathlib.Core.List.{List}
 use Prim.Native.Nat.{ℕ}
-use lib.Ieee.{Float}
-use Rattle.sections.specs.Outcome.{Buffers, lends, leaves}
-use Rattle.sections.proofs.Unique.{same_left}
-use Rattle.answers.specs.declared.Answer.{Answer}
+use Rattle.sections.specs.declared.Buffers as lent
+use Rattle.sections.specs.Lending.{held, leaves_in, left_in}
+use Rattle.sections.proofs.Unique.{same_left_in}
+use Rattle.answers.specs.Answer.{Answer}
 use Rattle.state.specs.declared.Settings.{Settings}
 use Rattle.rerender.specs.Rerender.{rerender_of}
 
-pub rerender_unique : (g : Settings) (old new : List ℕ) (b : Buffers) (r t : Answer) (ys zs : List Float) (ws vs : List ℕ) (ms ns : List Float) (is js : List ℕ)
-    → leaves r (lends ys ws ms is) ≡ rerender_of g old new b → leaves t (lends zs vs ns js) ≡ rerender_of g old new b → (r ≡ t) × (ys ≡ zs) × (ws ≡ vs) × (ms ≡ ns) × (is ≡ js)
-rerender_unique g old new b r t ys zs ws vs ms ns is js x y = same_left (rerender_of g old new b) r t ys zs ws vs ms ns is js x y
+pub rerender_unique : (g : Settings) (old new : List ℕ) (b : lent.Buffers) (r t : Answer) (c d : lent.Buffers)
+    → leaves_in r c ≡ left_in b (rerender_of g old new (held b)) → leaves_in t d ≡ left_in b (rerender_of g old new (held b)) → (r ≡ t) × (c ≡ d)
+rerender_unique g old new b r t c d x y = same_left_in (left_in b (rerender_of g old new (held b))) r t c d x y

@@ -13,16 +13,14 @@
 -- The outcome is decided for every start entry that is a state, even one that no render leaves: the samples and entries
 -- up to the stop are those of the steps from that state, and the summary is that of these samples. It is decided
 -- whatever the later entries hold, too. Demand 3 says when what stays behind the stop is right. Definitions only.
-use Rattle.std.specs.Prelude.{Bool, cond, ◌&&◌, List, [], ◌++◌, ℕ, zero, suc, ◌-◌, ◌*◌, ◌/◌, ltb, eqb, take, drop}
+use Rattle.std.specs.Prelude.{Bool, ◌&&◌, List, [], ◌++◌, ℕ, zero, suc, ◌-◌, ◌*◌, ◌/◌, ltb, eqb, take, drop, Err, None, Ok, Option, Some}
+use Rattle.std.specs.Bool.{then_some}
 use Rattle.sections.specs.Outcome.{Buffers, samples_in, room_in, Outcome, leaves}
 use Rattle.sections.specs.Sections.{made_between, stop_where}
 use Rattle.answers.specs.Order.{unless, first_of}
-use Rattle.answers.specs.declared.Answer.{Answer}
-use Rattle.answers.specs.declared.Answer.TheVariants.{Done, Refused}
+use Rattle.answers.specs.Answer.{Answer}
 use Rattle.answers.specs.declared.Refusal.{Refusal}
 use Rattle.answers.specs.declared.Refusal.TheVariants.{StartEntry}
-use Rattle.score.specs.declared.Difference.{Difference}
-use Rattle.score.specs.declared.Difference.TheVariants.{Equal, At}
 use Rattle.score.specs.Below.{count_below}
 use Rattle.score.specs.Apart.{difference_of, same_from}
 use Rattle.shelf.specs.Shelf.{section_size, entry_words, entries_for, state_of, is_entry, shelf_of, entry_at, with_count, meets}
@@ -30,15 +28,13 @@ use Rattle.state.specs.declared.Settings.{Settings}
 use Rattle.state.specs.declared.State.{State}
 use Rattle.state.specs.Heart.{state_from, samples_from, entries_from}
 use Rattle.judging.specs.Judging.{refusals_of, new_refusals_of}
-use Rattle.rerender.specs.declared.Plan.{Plan}
-use Rattle.rerender.specs.declared.Plan.TheVariants.{Nothing, From}
 
 -- ---- the plan: nothing, or from the start of section m on
-unfoldable pub plan_for : Difference → ℕ → Plan
-plan_for Equal n = Nothing
-plan_for (At p) n = cond (ltb p n) (From (p / section_size)) Nothing
+unfoldable pub plan_for : Option ℕ → ℕ → Option ℕ
+plan_for None n = None
+plan_for (Some p) n = then_some (ltb p n) (p / section_size)
 
-abbrev pub plan_of : List ℕ → List ℕ → ℕ → Plan
+abbrev pub plan_of : List ℕ → List ℕ → ℕ → Option ℕ
 plan_of old new n = plan_for (difference_of old new) n
 
 -- ---- from an entry
@@ -78,19 +74,19 @@ made_from g old new m b =
     let count = stop - m * section_size in
     let v = start_of b.stored m in
     leaves
-    (Done count)
+    (Ok count)
     (recounted_from new (entries_for stop) (made_between m stop (samples_from g new (m * section_size) v count) (shelf_of (entries_from g new m v (entries_for stop - m))) b))
 
 -- ---- the call
 -- the outcome of a plan
-abbrev pub outcome_of : Settings → List ℕ → List ℕ → Plan → Buffers → Outcome Answer
-outcome_of g old new Nothing b = leaves (Done 0) b
-outcome_of g old new (From m) b = made_from g old new m b
+abbrev pub outcome_of : Settings → List ℕ → List ℕ → Option ℕ → Buffers → Outcome Answer
+outcome_of g old new None b = leaves (Ok 0) b
+outcome_of g old new (Some m) b = made_from g old new m b
 
 -- 8, only where an entry is read
-abbrev pub start_refusals : List ℕ → Plan → List ℕ → List Refusal
-start_refusals new Nothing shelf = []
-start_refusals new (From m) shelf = unless (is_start new m shelf) StartEntry
+abbrev pub start_refusals : List ℕ → Option ℕ → List ℕ → List Refusal
+start_refusals new None shelf = []
+start_refusals new (Some m) shelf = unless (is_start new m shelf) StartEntry
 
 -- 6, 7, the old score's faults, the new score's faults, 8
 abbrev pub rerender_refusals : Settings → List ℕ → List ℕ → Buffers → List Refusal
@@ -98,12 +94,12 @@ rerender_refusals g old new b = refusals_of g (room_in b) old ++ new_refusals_of
 
 -- a refusal leaves output, shelf and summary as they came
 abbrev pub kept_of : Buffers → Refusal → Outcome Answer
-kept_of b why = leaves (Refused why) b
+kept_of b why = leaves (Err why) b
 
 unfoldable pub rerender_of : Settings → List ℕ → List ℕ → Buffers → Outcome Answer
 rerender_of g old new b = first_of (rerender_refusals g old new b) (kept_of b) (outcome_of g old new (plan_of old new (samples_in b)) b)
 
 -- how many samples a plan makes in these buffers; the theorem that decides the call's answer cites it
-abbrev pub count_for : Settings → List ℕ → List ℕ → Plan → Buffers → ℕ
-count_for g old new Nothing b = 0
-count_for g old new (From m) b = stop_of g old new m b - m * section_size
+abbrev pub count_for : Settings → List ℕ → List ℕ → Option ℕ → Buffers → ℕ
+count_for g old new None b = 0
+count_for g old new (Some m) b = stop_of g old new m b - m * section_size

@@ -9,72 +9,36 @@ ghost use Rattle.std.specs.Prelude.{◌≡◌, true, ◌+◌, ◌*◌, ◌≤◌
 ghost use Rattle.score.specs.Below.{Sorted};
 ghost use Rattle.shelf.specs.Shelf.{section_size, entry_words, entries_for, words_for};
 ghost use Rattle.judging.specs.Judging.{most_samples};
-ghost use Rattle.sections.specs.Outcome.{lends, room_in, leaves};
+ghost use Rattle.sections.specs.Outcome.{samples_in, room_in};
+ghost use Rattle.sections.specs.Lending.{held, leaves_in, left_in};
 ghost use Rattle.rerender.specs.Rerender.{plan_of, rerender_of};
 ghost use Rattle.rerender.specs.Inner.{rerender_from, started_at, InOrder, quiet_of, Behind, recounted_on};
 
 use answers::{Answer, Refusal};
-use score::Difference;
+use sections::Buffers;
 use shelf::{ENTRY_WORDS, SECTION_SIZE};
 use spans::Place;
 use state::Settings;
 
-// Where a re-render starts: nowhere, where the scores are equal or first differ at or past the end; or at section k,
-// whose first sample is 4096 k.
-#[derive(Clone, Copy)]
-pub enum Plan {
-    Nothing,
-    From(usize),
-}
-
-// Where a re-render starts: the place, of use only if it is valid.
-#[derive(Clone, Copy)]
-struct Start {
-    valid: bool,
-    place: Place,
-}
-
 // The samples, the entries and the summary from the start of the section that holds the first changed position to the
 // stop, as the new score gives them; from the stop on each entry's number of records acted.
-pub fn rerender(
-    settings: Settings,
-    old: &[u8],
-    new: &[u8],
-    out: &mut [f64],
-    shelf: &mut [u64],
-    magnitudes: &mut [f64],
-    numbers: &mut [u64],
-) -> Answer
-    ensures { leaves result (lends out.new shelf.new magnitudes.new numbers.new) ≡ rerender_of settings old.now new.now (lends out.old shelf.old magnitudes.old numbers.old) }
+pub fn rerender(settings: Settings, old: &[u8], new: &[u8], lent: &mut Buffers) -> Answer
+    ensures { leaves_in result lent.new ≡ left_in lent.old (rerender_of settings old.now new.now (held lent.old)) }
 {
-    let room = judging::sizes_fit(out.len(), shelf.len(), magnitudes.len(), numbers.len());
-    let checked = judging::judged(settings, room, old, judging::judged_new(new));
-    if let Answer::Refused(why) = checked {
-        return Answer::Refused(why);
-    }
-    let plan = planned(old, new, out.len());
-    match plan {
-        Plan::Nothing => Answer::Done(0),
-        Plan::From(section) => {
-            rerender_from(settings, old, new, section, out, shelf, magnitudes, numbers)
-        }
+    let room = lent.fits();
+    judging::judged(settings, room, old, judging::judged_new(new))?;
+    match planned(old, new, lent.heard.len()) {
+        None => Ok(0),
+        Some(section) => rerender_from(settings, old, new, section, lent),
     }
 }
 
 // The plan for two scores and an output of so many samples.
-fn planned(old: &[u8], new: &[u8], samples: usize) -> Plan
+fn planned(old: &[u8], new: &[u8], samples: usize) -> Option<usize>
     ensures { result ≡ plan_of old.now new.now samples }
 {
-    match score::first_difference(old, new) {
-        Difference::Equal => Plan::Nothing,
-        Difference::At(position) => {
-            let p = position as usize;
-            if p < samples {
-                return Plan::From(p / SECTION_SIZE);
-            }
-            Plan::Nothing
-        }
-    }
+    let p = score::first_difference(old, new)? as usize;
+    (p < samples).then_some(p / SECTION_SIZE)
 }
 
 // From the state that the shelf keeps for the start of the section to the stop, or refusal 8.
@@ -83,49 +47,39 @@ fn rerender_from(
     old: &[u8],
     new: &[u8],
     section: usize,
-    out: &mut [f64],
-    shelf: &mut [u64],
-    magnitudes: &mut [f64],
-    numbers: &mut [u64],
+    lent: &mut Buffers,
 ) -> Answer
     requires in_order { InOrder old.now }
     requires in_order_2 { InOrder new.now }
-    requires numbers_value { room_in (lends out.old shelf.old magnitudes.old numbers.old) ≡ true }
-    requires section_bound { section < entries_for (length out.old) }
-    ensures { leaves result (lends out.new shelf.new magnitudes.new numbers.new) ≡ rerender_from settings old.now new.now section (lends out.old shelf.old magnitudes.old numbers.old) }
+    requires fits { room_in (held lent.old) ≡ true }
+    requires section_bound { section < entries_for (samples_in (held lent.old)) }
+    ensures { leaves_in result lent.new ≡ left_in lent.old (rerender_from settings old.now new.now section (held lent.old)) }
 {
-    let start = start_at(new, section, shelf);
-    let at = start.place;
-    if !start.valid {
-        return Answer::Refused(Refusal::StartEntry);
-    }
+    let shelf = &mut *lent.stored;
+    let Some(start) = start_at(new, section, shelf) else {
+        return Err(Refusal::StartEntry);
+    };
     let quiet = quiet_from(old, new);
-    let end = sections::play_on(
-        settings, new, section, at, quiet, out, shelf, magnitudes, numbers,
-    );
+    let end = sections::play_on(settings, new, section, start, quiet, lent);
     let stop = end.sample;
-    let place = end.place;
-    recount(new, shelf::entries(stop), place.next, shelf);
+    recount(new, shelf::entries(stop), end.place.next, lent.stored);
     let count = stop - section * SECTION_SIZE;
-    Answer::Done(count)
+    Ok(count)
 }
 
-// The place that a section's entry is read as, and whether the re-render may start there.
-fn start_at(new: &[u8], section: usize, shelf: &[u64]) -> Start
+// The place that a section's entry is read as, if the re-render may start there.
+fn start_at(new: &[u8], section: usize, shelf: &[u64]) -> Option<Place>
     requires sorted { Sorted new.now }
     requires entry_words_in_bounds { section * entry_words + entry_words ≤ length shelf.now }
     requires section_le_most_samples { section ≤ most_samples }
     ensures { result ≡ started_at new.now section shelf.now }
 {
     let word = section * ENTRY_WORDS;
-    let entry = shelf::decode(&shelf[word..word + ENTRY_WORDS]);
-    let state = entry.state;
+    let state = shelf::decode(&shelf[word..word + ENTRY_WORDS])?;
     let acted = state.acted;
     let counted = score::is_count_below(new, acted, (section * SECTION_SIZE) as u64);
-    let valid = entry.valid & counted;
     let next = acted as usize;
-    let place = Place { state, next };
-    Start { valid, place }
+    counted.then_some(Place { state, next })
 }
 
 // The first section from whose first sample on both scores have the same records: the one after their last difference.
@@ -133,8 +87,8 @@ fn quiet_from(old: &[u8], new: &[u8]) -> usize
     ensures { result ≡ quiet_of old.now new.now }
 {
     match score::last_difference(old, new) {
-        Difference::Equal => 0,
-        Difference::At(position) => position as usize / SECTION_SIZE + 1,
+        None => 0,
+        Some(position) => position as usize / SECTION_SIZE + 1,
     }
 }
 
@@ -147,11 +101,9 @@ fn recount(score: &[u8], section: usize, next: usize, shelf: &mut [u64])
 {
     let entries = shelf.len() / ENTRY_WORDS;
     let mut acted = next;
-    let mut k = section;
-    while k < entries {
+    for k in section..entries {
         acted = score::next_not_below(score, acted, (k * SECTION_SIZE) as u64);
         let word = k * ENTRY_WORDS;
         shelf::recount(&mut shelf[word..word + ENTRY_WORDS], acted as u64);
-        k += 1;
     }
 }

@@ -1,12 +1,22 @@
 -- `first_passing` gives the first of k numbers from n on that passes a test: none before it passes, it passes itself
 -- where it is one of them, and it is the only such number. So tests that agree on those numbers give the same first.
--- The turns of a search for it: one number that fails, one that passes, and no number left. Assumes nothing.
+-- What a search by `find` gives, or else the end, is it. Assumes nothing.
+use Rattle.std.specs.Prelude.{MatchOption, None, Option, Some, ⊤}
+use Rattle.std.specs.declared.ops.Range.{Range}
+use Rattle.std.specs.Fn.{CalledAt}
+use Rattle.std.specs.Iterator.{YieldsThen}
+use Rattle.std.specs.List.{FoldsTo}
+use Rattle.std.specs.Option.{unwrap_or}
+use Rattle.std.proofs.iter.Yields.{nat_range_steps}
+use Rattle.std.proofs.lemmas.Iterator.{first_from_Range}
+use denote.Param.Members.{Mut}
+use denote.Ref.{Bor}
+use mathlib.Core.List.{List}
 use mathlib.Core.Path.{◌≡◌, refl, sym, ◌∙◌}
 use mathlib.Core.Bool.{Bool, true, false, cond, true≢false}
 use mathlib.Core.Logic.{⊎_elim}
-use Prim.Native.Nat.{ℕ, zero, suc, ◌+◌, ◌-◌, ◌≤◌, ◌<◌}
+use Prim.Native.Nat.{ℕ, zero, suc, ◌+◌, ◌-◌, ◌≤◌, ◌<◌, max}
 use native.Mathlib.Nat.{eq-or-lt_of_le}
-use native.Mathlib.Numerals.{add-one}
 use native.Mathlib.Omega.{arith}
 use lib.Dec.{ltb}
 use borrow.Author.Tests.{ltb-true, ltb-false}
@@ -54,18 +64,14 @@ module _ (passes : ℕ → Bool) where
       let b = first-le k n (first_passing passes k n) r (first_passing_lem k n) f in
       omega (arith, a, b)
 
-  -- ---- the turns of a search, at number i of those below n
-  pub passing_on : (n i : ℕ) → i < n → passes i ≡ false → first_passing passes (n - i) i ≡ first_passing passes (n - (i + 1)) (i + 1)
-  unfolding first_passing
-  passing_on n i h e = let left : n - i ≡ suc (n - (i + 1)) = omega arith in rw (left, e, add-one i)
+  -- ---- `(a..b).find(|&i| passes(i)).unwrap_or(d)`, where d is b, or a where a is more
+  found : (s : Range ℕ) (r : Option ℕ) (d : ℕ) → d ≡ max s.start s.end → MatchOption r ((k : ℕ) → s.start ≤ k → k < s.end → passes k ≡ false) (λ i. (s.start ≤ i) × (i < s.end) × (passes i ≡ true) × ((k : ℕ) → s.start ≤ k → k < i → passes k ≡ false)) → unwrap_or r d ≡ first_passing passes (s.end - s.start) s.start
+  found s None d e h = first_only _ _ _ (record { low = omega arith; high = omega arith; none = λ j l m. h j l (omega arith); here = λ l. absurd (omega arith) })
+  found s (Some i) d e h = first_only _ _ i (record { low = h.0; high = omega (arith, h.1); none = h.3; here = λ l. h.2 })
 
-  pub passing_stop : (n i : ℕ) → i < n → passes i ≡ true → first_passing passes (n - i) i ≡ i
-  unfolding first_passing
-  passing_stop n i h e = let left : n - i ≡ suc (n - (i + 1)) = omega arith in rw (left, e)
-
-  pub passing_end : (n i : ℕ) → n ≤ i → first_passing passes (n - i) i ≡ i
-  unfolding first_passing
-  passing_end n i h = let left : n - i ≡ 0 = omega arith in rw left
+  pub first_found : {F : Type 0} {g : Mut F (Bor ℕ × Unit {0}) Bool} (s u : Range ℕ) (f : F) (r : Option ℕ) (d k : ℕ) → (xs : List ℕ) × (j : F) × YieldsThen nat_range_steps s xs r u × FoldsTo (λ p x q. CalledAt g p x false q) f xs j × MatchOption r ⊤ (λ x. (h : F) × CalledAt g j x true h) → ((x : ℕ) (b : Bool) (q : F) → CalledAt g f x b q → (q ≡ f) × (b ≡ passes x)) → d ≡ max s.start s.end → k ≡ s.end - s.start → unwrap_or r d ≡ first_passing passes k s.start
+  first_found s u f r d k ran calls e n =
+      rw n (found s r d e (first_from_Range s u f r (λ i. passes i ≡ true) (λ i. passes i ≡ false) ran (λ x q k. sym (calls x true q k).1) (λ x q k. let b = calls x false q k in (b.0, sym b.1))))
 
 -- tests that agree on the k numbers from n on
 pub first-same : (passes other : ℕ → Bool) (k n : ℕ) → ((j : ℕ) → n ≤ j → j < n + k → passes j ≡ other j) → first_passing passes k n ≡ first_passing other k n

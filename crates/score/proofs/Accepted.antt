@@ -1,5 +1,6 @@
 -- A score is accepted exactly when it is the encoding of at most 4,096 valid records whose positions never fall.
 -- Assumes nothing.
+use Rattle.std.specs.Prelude.{Ok}
 use mathlib.Core.Path.{◌≡◌, refl, ap, ◌∙◌}
 use mathlib.Core.Bool.{true}
 use mathlib.Core.List.{List, [], ◌∷◌, ◌++◌, append_assoc}
@@ -12,7 +13,6 @@ use borrow.Author.Tests.{le-leb, leb-true}
 use Rattle.score.specs.declared.Kind.{Kind}
 use Rattle.score.specs.declared.Kind.TheVariants.{On, Off, Reset}
 use Rattle.score.specs.declared.Record.{Record}
-use Rattle.score.specs.declared.Verdict.TheVariants.{Accepted}
 use Rattle.score.specs.Record.{byte_at, position_at, kind_byte, record_at, encode_of, blank, encode_all, Bytes}
 use Rattle.score.specs.Score.{in_order, verdict_of, IsScore}
 use Rattle.score.proofs.UpTo.{up_to, length-up_to, get_d_up_to}
@@ -77,7 +77,7 @@ module _ (s : List ℕ) (rs : List Record) (g : IsScore s rs) where
       let before : i < length rs = omega arith in
       rw (position-there i before, position-there (suc i) h) (le-leb _ _ (g.rising i h))
 
-  pub encoding_accepted : verdict_of s ≡ Accepted (length rs)
+  pub encoding_accepted : verdict_of s ≡ Ok (length rs)
   encoding_accepted =
       all_accepted s (length rs)
       (record {
@@ -115,12 +115,12 @@ module _ (s : List ℕ) (n : ℕ) (bytes : Bytes s) (f : AllFine s n) where
 
 -- ---- the theorem
 pub record AcceptedExactly (s : List ℕ) (n : ℕ) : Type 0 where
-  pub is_encoding : verdict_of s ≡ Accepted n → ((rs : List Record) × (length rs ≡ n) × IsScore s rs)
-  pub is-accepted : (rs : List Record) → length rs ≡ n → IsScore s rs → verdict_of s ≡ Accepted n
+  pub is_encoding : verdict_of s ≡ Ok n → ((rs : List Record) × (length rs ≡ n) × IsScore s rs)
+  pub is-accepted : (rs : List Record) → length rs ≡ n → IsScore s rs → verdict_of s ≡ Ok n
 
 pub accepted_exactly : (s : List ℕ) (n : ℕ) → Bytes s → AcceptedExactly s n
 accepted_exactly s n bytes =
     record {
       is_encoding = λ h. (up_to (record_at s) n, length-up_to (record_at s) n, accepted_encoding s n bytes (accepted_all s n h));
-      is-accepted = λ rs e g. encoding_accepted s rs g ∙ ap Accepted e;
+      is-accepted = λ rs e g. encoding_accepted s rs g ∙ ap Ok e;
     }

@@ -1,5 +1,6 @@
 -- What a re-render rests on: two accepted scores have the same records below their first difference, and they are equal
 -- exactly where they have no difference. Assumes nothing.
+use Rattle.std.specs.Prelude.{None, Ok, Some}
 use mathlib.Core.Path.{◌≡◌, refl, sym, ap, ◌∙◌}
 use mathlib.Core.Bool.{true, false}
 use mathlib.Core.List.{List}
@@ -9,8 +10,6 @@ use native.Mathlib.Omega.{arith}
 use lib.ListN.{length, get_or, take}
 use lib.Seq.{ext_get_or, get_or-take, length-take-le, take_all}
 use borrow.Author.Tests.{le-ltb}
-use Rattle.score.specs.declared.Difference.TheVariants.{Equal, At}
-use Rattle.score.specs.declared.Verdict.TheVariants.{Accepted}
 use Rattle.score.specs.Record.{count_of, byte_at, position_at, record_at}
 use Rattle.score.specs.Score.{verdict_of}
 use Rattle.score.specs.Below.{count_below, Sorted, Cut}
@@ -36,7 +35,7 @@ pub record SameBelow (s t : List ℕ) (q : ℕ) : Type 0 where
   pub bytes : (i : ℕ) → i < count_below s q → (j : ℕ) → j < 10 → byte_at s i j ≡ byte_at t i j
   pub front : take (count_below s q * 10) s ≡ take (count_below s q * 10) t
 
-module _ (s t : List ℕ) (os : Sorted s) (ot : Sorted t) (p : ℕ) (found : difference_of s t ≡ At p) (q : ℕ) (h : q ≤ p) where
+module _ (s t : List ℕ) (os : Sorted s) (ot : Sorted t) (p : ℕ) (found : difference_of s t ≡ Some p) (q : ℕ) (h : q ≤ p) where
   abbrev d : ℕ
   d = first_index s t
 
@@ -87,7 +86,7 @@ module _ (s t : List ℕ) (os : Sorted s) (ot : Sorted t) (p : ℕ) (found : dif
 
 -- ---- no difference
 -- a list has no difference from itself
-pub self-equal : (s : List ℕ) → difference_of s s ≡ Equal
+pub self-equal : (s : List ℕ) → difference_of s s ≡ None
 self-equal s =
     let f : First s s (first_index s s) = first_index_lem s s in
     let end : count_of s ≤ first_index s s =
@@ -95,10 +94,10 @@ self-equal s =
     rw (le-ltb (first_index s s) (count_of s) end)
 
 pub record EqualExactly (s t : List ℕ) : Type 0 where
-  pub no_difference : s ≡ t → difference_of s t ≡ Equal
-  pub no_other : difference_of s t ≡ Equal → s ≡ t
+  pub no_difference : s ≡ t → difference_of s t ≡ None
+  pub no_other : difference_of s t ≡ None → s ≡ t
 
-pub equal_exactly : (s t : List ℕ) (n m : ℕ) → verdict_of s ≡ Accepted n → verdict_of t ≡ Accepted m → EqualExactly s t
+pub equal_exactly : (s t : List ℕ) (n m : ℕ) → verdict_of s ≡ Ok n → verdict_of t ≡ Ok m → EqualExactly s t
 equal_exactly s t n m a b =
     record {
       no_difference = λ e. rw (← e) (self-equal s);
@@ -113,5 +112,5 @@ equal_exactly s t n m a b =
     }
 
 -- for accepted scores
-pub accepted-below : (s t : List ℕ) (n m p q : ℕ) → verdict_of s ≡ Accepted n → verdict_of t ≡ Accepted m → difference_of s t ≡ At p → q ≤ p → SameBelow s t q
+pub accepted-below : (s t : List ℕ) (n m p q : ℕ) → verdict_of s ≡ Ok n → verdict_of t ≡ Ok m → difference_of s t ≡ Some p → q ≤ p → SameBelow s t q
 accepted-below s t n m p q a b found h = same-below s t (accepted-sorted s n a) (accepted-sorted t m b) p found q h

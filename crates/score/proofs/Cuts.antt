@@ -1,5 +1,6 @@
 -- The records below a position: in a score whose positions never fall they are the first records, and `count_below` is
 -- their number. Assumes nothing.
+use Rattle.std.specs.Prelude.{Ok}
 use mathlib.Core.Path.{◌≡◌, refl, sym, ap, ◌∙◌}
 use mathlib.Core.Bool.{Bool, true, false, ◌&&◌, ◌||◌}
 use mathlib.Core.List.{List}
@@ -10,7 +11,6 @@ use native.Mathlib.Omega.{arith}
 use lib.Dec.{ltb, leb, eqb}
 use lib.ListN.{length}
 use borrow.Author.Tests.{lt-ltb, le-ltb, ltb-true, ltb-false, le-leb, leb-true, eq-eqb, eqb-true}
-use Rattle.score.specs.declared.Verdict.TheVariants.{Accepted}
 use Rattle.score.specs.Record.{count_of, position_at}
 use Rattle.score.specs.Score.{in_order, verdict_of}
 use Rattle.score.specs.Below.{below, count_below, last_below, is_count_below, Sorted, Cut}
@@ -26,17 +26,17 @@ lt_or_ge a b = go (ltb a b) refl
 
 -- ---- an accepted score
 -- its length is ten bytes a record
-pub accepted-count : (s : List ℕ) (n : ℕ) → verdict_of s ≡ Accepted n → n ≡ count_of s
+pub accepted-count : (s : List ℕ) (n : ℕ) → verdict_of s ≡ Ok n → n ≡ count_of s
 accepted-count s n h = let size : length s ≡ n * 10 = (accepted_all s n h).size in omega arith
 
-pub accepted-few : (s : List ℕ) (n : ℕ) → verdict_of s ≡ Accepted n → count_of s ≤ 4096
+pub accepted-few : (s : List ℕ) (n : ℕ) → verdict_of s ≡ Ok n → count_of s ≤ 4096
 accepted-few s n h = let few : n ≤ 4096 = (accepted_all s n h).few in omega (arith, accepted-count s n h)
 
-pub accepted-length : (s : List ℕ) (n : ℕ) → verdict_of s ≡ Accepted n → length s ≡ count_of s * 10
+pub accepted-length : (s : List ℕ) (n : ℕ) → verdict_of s ≡ Ok n → length s ≡ count_of s * 10
 accepted-length s n h = let size : length s ≡ n * 10 = (accepted_all s n h).size in omega arith
 
 -- its positions never fall
-pub accepted-sorted : (s : List ℕ) (n : ℕ) → verdict_of s ≡ Accepted n → Sorted s
+pub accepted-sorted : (s : List ℕ) (n : ℕ) → verdict_of s ≡ Ok n → Sorted s
 unfolding in_order
 accepted-sorted s n h =
     let e : n ≡ count_of s = accepted-count s n h in

@@ -1,6 +1,7 @@
 -- From where on two scores are the same: with positions that never fall and whole records, exactly above the position
 -- of their last difference; so at or below their first difference they are not. And the number of records below a
 -- position, found from that below a lower one. Assumes nothing.
+use Rattle.std.specs.Prelude.{None, Ok, Some}
 use mathlib.Core.Path.{◌≡◌, refl, sym, ap, ◌∙◌}
 use mathlib.Core.Bool.{Bool, true, false, cond, true≢false}
 use mathlib.Core.List.{List}
@@ -13,8 +14,6 @@ use lib.Seq.{ext_get_or, get_or-drop}
 use borrow.Author.Tests.{lt-ltb, le-ltb, ltb-true, ltb-false, leb-true, leb-false}
 use Rattle.runs.proofs.First.{first_passing_lem}
 use Rattle.words.proofs.Same.{same-equal, equal-same, unlike-same}
-use Rattle.score.specs.declared.Difference.TheVariants.{Equal, At}
-use Rattle.score.specs.declared.Verdict.TheVariants.{Accepted}
 use Rattle.score.specs.Record.{count_of, byte_at, position_at}
 use Rattle.score.specs.Score.{verdict_of}
 use Rattle.score.specs.Below.{count_below, next_not_below, Sorted, Cut}
@@ -75,31 +74,31 @@ module _ (s t : List ℕ) (d : ℕ) where
   abbrev y : ℕ
   y = position_at t (from_end t d)
 
-  at_above : (p : ℕ) → last_difference_at s t d ≡ At p → AtOrAbove s t p d
+  at_above : (p : ℕ) → last_difference_at s t d ≡ Some p → AtOrAbove s t p d
   at_above p e = go (ltb d (count_of s)) refl (ltb d (count_of t)) refl e
     where
-      go : (a : Bool) → ltb d (count_of s) ≡ a → (b : Bool) → ltb d (count_of t) ≡ b → cond a (cond b (At (max x y)) (At x)) (cond b (At y) Equal) ≡ At p → AtOrAbove s t p d
+      go : (a : Bool) → ltb d (count_of s) ≡ a → (b : Bool) → ltb d (count_of t) ≡ b → cond a (cond b (Some (max x y)) (Some x)) (cond b (Some y) None) ≡ Some p → AtOrAbove s t p d
       go true f true g e = let z : max x y ≡ p = at_inj e in record { low_s = λ h. omega arith; low_t = λ h. omega arith }
       go true f false g e = let z : x ≡ p = at_inj e in let w : count_of t ≤ d = ltb-false _ _ g in record { low_s = λ h. omega arith; low_t = λ h. absurd (omega arith) }
       go false f true g e = let z : y ≡ p = at_inj e in let w : count_of s ≤ d = ltb-false _ _ f in record { low_s = λ h. absurd (omega arith); low_t = λ h. omega arith }
       go false f false g e = absurd (clash (cc))
 
-  at-reached : (p : ℕ) → last_difference_at s t d ≡ At p → EndsAt s d p ⊎ EndsAt t d p
+  at-reached : (p : ℕ) → last_difference_at s t d ≡ Some p → EndsAt s d p ⊎ EndsAt t d p
   at-reached p e = go (ltb d (count_of s)) refl (ltb d (count_of t)) refl e
     where
       higher : (x y : ℕ) → max x y ≡ p → (x ≡ p) ⊎ (y ≡ p)
       higher x y e = ⊎_elim (λ l. inr (omega arith)) (λ g. inl (omega arith)) (lt_or_ge x y)
 
-      go : (a : Bool) → ltb d (count_of s) ≡ a → (b : Bool) → ltb d (count_of t) ≡ b → cond a (cond b (At (max x y)) (At x)) (cond b (At y) Equal) ≡ At p → EndsAt s d p ⊎ EndsAt t d p
+      go : (a : Bool) → ltb d (count_of s) ≡ a → (b : Bool) → ltb d (count_of t) ≡ b → cond a (cond b (Some (max x y)) (Some x)) (cond b (Some y) None) ≡ Some p → EndsAt s d p ⊎ EndsAt t d p
       go true f true g e = ⊎_elim (λ u. inl (ltb-true _ _ f, u)) (λ u. inr (ltb-true _ _ g, u)) (higher x y (at_inj e))
       go true f false g e = inl (ltb-true _ _ f, at_inj e)
       go false f true g e = inr (ltb-true _ _ g, at_inj e)
       go false f false g e = absurd (clash (cc))
 
-  ends-equal : last_difference_at s t d ≡ Equal → (count_of s ≤ d) × (count_of t ≤ d)
+  ends-equal : last_difference_at s t d ≡ None → (count_of s ≤ d) × (count_of t ≤ d)
   ends-equal e = go (ltb d (count_of s)) refl (ltb d (count_of t)) refl e
     where
-      go : (a : Bool) → ltb d (count_of s) ≡ a → (b : Bool) → ltb d (count_of t) ≡ b → cond a (cond b (At (max x y)) (At x)) (cond b (At y) Equal) ≡ Equal → (count_of s ≤ d) × (count_of t ≤ d)
+      go : (a : Bool) → ltb d (count_of s) ≡ a → (b : Bool) → ltb d (count_of t) ≡ b → cond a (cond b (Some (max x y)) (Some x)) (cond b (Some y) None) ≡ None → (count_of s ≤ d) × (count_of t ≤ d)
       go true f true g e = absurd (clash (cc))
       go true f false g e = absurd (clash (cc))
       go false f true g e = absurd (clash (cc))
@@ -221,7 +220,7 @@ module _ (s t : List ℕ) (os : Sorted s) (ot : Sorted t) (ws : length s ≡ cou
         let ends = ap (λ (n : ℕ). drop (n * 10) s) from-s ∙ same ∙ ap (λ (n : ℕ). drop (n * 10) t) (sym from-t) in
         true≢false (sym (back_from s t ws wt e (omega arith) (omega arith) ends d l) ∙ last.differs (omega arith) (omega arith))
 
-    apart_below : (p : ℕ) → last_difference_of s t ≡ At p → q ≤ p → records_from s q ≡ records_from t q → ⊥
+    apart_below : (p : ℕ) → last_difference_of s t ≡ Some p → q ≤ p → records_from s q ≡ records_from t q → ⊥
     apart_below p found h same =
         let in_s : c ≤ count_of s = cut.inside in
         let in_t : count_below t q ≤ count_of t = cut_t.inside in
@@ -231,7 +230,7 @@ module _ (s t : List ℕ) (os : Sorted s) (ot : Sorted t) (ws : length s ≡ cou
         (λ r. not_same same (⊎_elim (λ l. let a : position_at t (from_end t d) < q = cut_t.lows (from_end t d) l in absurd (clash (omega (arith, r.1)))) (λ g. omega (arith, r.0)) (lt_or_ge (from_end t d) (count_below t q))))
         (at-reached s t d p found)
 
-    pub same_from_lem : (p : ℕ) → last_difference_of s t ≡ At p → same_from s t q ≡ ltb p q
+    pub same_from_lem : (p : ℕ) → last_difference_of s t ≡ Some p → same_from s t q ≡ ltb p q
     same_from_lem p found =
         let bound : AtOrAbove s t p d = at_above s t d p found in
         ⊎_elim
@@ -239,13 +238,13 @@ module _ (s t : List ℕ) (os : Sorted s) (ot : Sorted t) (ws : length s ≡ cou
         (λ g. records-unlike s t q (apart_below p found g) ∙ sym (le-ltb p q g))
         (lt_or_ge p q)
 
-    pub same_everywhere : last_difference_of s t ≡ Equal → same_from s t q ≡ true
+    pub same_everywhere : last_difference_of s t ≡ None → same_from s t q ≡ true
     same_everywhere none =
         let ends = ends-equal s t d none in
         records-same s t q (same_above (λ h. absurd (clash (omega (arith, ends.0)))) (λ h. absurd (clash (omega (arith, ends.1)))))
 
 -- ---- at or below the first difference the records from q on differ
-pub apart_from : (s t : List ℕ) → Sorted s → Sorted t → (p q : ℕ) → difference_of s t ≡ At p → q ≤ p → same_from s t q ≡ false
+pub apart_from : (s t : List ℕ) → Sorted s → Sorted t → (p q : ℕ) → difference_of s t ≡ Some p → q ≤ p → same_from s t q ≡ false
 apart_from s t os ot p q found h =
     let below : SameBelow s t q = same-below s t os ot p found q h in
     records-unlike s t q
@@ -254,16 +253,16 @@ apart_from s t os ot p q found h =
     let equal : s ≡ t =
     sym (take-append-drop (count_below s q * 10) s)
     ∙ rw (below.front, rest) (take-append-drop (count_below s q * 10) t) in
-    let z : At p ≡ Equal = sym found ∙ rw (← equal) (self-equal s) in
+    let z : Some p ≡ None = sym found ∙ rw (← equal) (self-equal s) in
     clash (cc))
 
 -- ---- for accepted scores
-module _ (s t : List ℕ) (n m : ℕ) (a : verdict_of s ≡ Accepted n) (b : verdict_of t ≡ Accepted m) where
-  pub accepted-same_from : (p : ℕ) → last_difference_of s t ≡ At p → (q : ℕ) → same_from s t q ≡ ltb p q
+module _ (s t : List ℕ) (n m : ℕ) (a : verdict_of s ≡ Ok n) (b : verdict_of t ≡ Ok m) where
+  pub accepted-same_from : (p : ℕ) → last_difference_of s t ≡ Some p → (q : ℕ) → same_from s t q ≡ ltb p q
   accepted-same_from p found q = same_from_lem s t (accepted-sorted s n a) (accepted-sorted t m b) (accepted-length s n a) (accepted-length t m b) q p found
 
-  pub accepted-same_everywhere : last_difference_of s t ≡ Equal → (q : ℕ) → same_from s t q ≡ true
+  pub accepted-same_everywhere : last_difference_of s t ≡ None → (q : ℕ) → same_from s t q ≡ true
   accepted-same_everywhere none q = same_everywhere s t (accepted-sorted s n a) (accepted-sorted t m b) (accepted-length s n a) (accepted-length t m b) q none
 
-  pub accepted-apart-from : (p q : ℕ) → difference_of s t ≡ At p → q ≤ p → same_from s t q ≡ false
+  pub accepted-apart-from : (p q : ℕ) → difference_of s t ≡ Some p → q ≤ p → same_from s t q ≡ false
   accepted-apart-from p q found h = apart_from s t (accepted-sorted s n a) (accepted-sorted t m b) p q found h

@@ -23,7 +23,7 @@ pub mod Ends
 pub mod Sought
 -- the tests that read several bytes as one number
 pub mod Words
--- one turn of each loop
+-- one turn of the check
 pub mod Turns
 -- 01's example, and its edges
 pub mod Examples

@@ -1,5 +1,6 @@
 -- The first difference of two scores: the records before its index are the same, its position is not above that of
 -- either score there, and the order of the two scores does not matter. Assumes nothing.
+use Rattle.std.specs.Prelude.{None, Some}
 use mathlib.Core.Path.{◌≡◌, refl, sym, ap, ◌∙◌}
 use mathlib.Core.Bool.{Bool, true, false, not, cond, true≢false}
 use mathlib.Core.List.{List}
@@ -11,7 +12,6 @@ use lib.Dec.{ltb, eqb}
 use borrow.Author.Tests.{ltb-false, eqb-true, eq-eqb, not-true, not-false}
 use Rattle.runs.specs.Runs.{first_passing}
 use Rattle.runs.proofs.First.{first_passing_lem, first-same}
-use Rattle.score.specs.declared.Difference.TheVariants.{Equal, At}
 use Rattle.score.specs.Record.{count_of, byte_at, position_at, record_at}
 use Rattle.score.specs.Apart.{same_to, same_record, same_at, first_index, same_back, same_end, difference_at, difference_of}
 
@@ -103,9 +103,9 @@ index_symmetric s t =
 difference_swap : (s t : List ℕ) (i : ℕ) → difference_at s t i ≡ difference_at t s i
 difference_swap s t i = go (ltb i (count_of s)) (ltb i (count_of t))
   where
-    go : (a b : Bool) → cond a (cond b (At (min (position_at s i) (position_at t i))) (At (position_at s i))) (cond b (At (position_at t i)) Equal)
-        ≡ cond b (cond a (At (min (position_at t i) (position_at s i))) (At (position_at t i))) (cond a (At (position_at s i)) Equal)
-    go true true = ap At (omega arith)
+    go : (a b : Bool) → cond a (cond b (Some (min (position_at s i) (position_at t i))) (Some (position_at s i))) (cond b (Some (position_at t i)) None)
+        ≡ cond b (cond a (Some (min (position_at t i) (position_at s i))) (Some (position_at t i))) (cond a (Some (position_at s i)) None)
+    go true true = ap Some (omega arith)
     go true false = refl
     go false true = refl
     go false false = refl
@@ -119,25 +119,25 @@ pub record AtOrBelow (s t : List ℕ) (p d : ℕ) : Type 0 where
   pub high_s : d < count_of s → p ≤ position_at s d
   pub high_t : d < count_of t → p ≤ position_at t d
 
-pub at_inj : {p q : ℕ} → At p ≡ At q → p ≡ q
+pub at_inj : {p q : ℕ} → Some p ≡ Some q → p ≡ q
 at_inj e = cc
 
-pub at-below : (s t : List ℕ) (p d : ℕ) → difference_at s t d ≡ At p → AtOrBelow s t p d
+pub at-below : (s t : List ℕ) (p d : ℕ) → difference_at s t d ≡ Some p → AtOrBelow s t p d
 at-below s t p d e = go (ltb d (count_of s)) refl (ltb d (count_of t)) refl e
   where
     go : (a : Bool) → ltb d (count_of s) ≡ a → (b : Bool) → ltb d (count_of t) ≡ b
-        → cond a (cond b (At (min (position_at s d) (position_at t d))) (At (position_at s d))) (cond b (At (position_at t d)) Equal) ≡ At p → AtOrBelow s t p d
+        → cond a (cond b (Some (min (position_at s d) (position_at t d))) (Some (position_at s d))) (cond b (Some (position_at t d)) None) ≡ Some p → AtOrBelow s t p d
     go true f true g e = let z : min (position_at s d) (position_at t d) ≡ p = at_inj e in record { high_s = λ h. omega arith; high_t = λ h. omega arith }
     go true f false g e = let z : position_at s d ≡ p = at_inj e in let w : count_of t ≤ d = ltb-false _ _ g in record { high_s = λ h. omega arith; high_t = λ h. omega arith }
     go false f true g e = let z : position_at t d ≡ p = at_inj e in let w : count_of s ≤ d = ltb-false _ _ f in record { high_s = λ h. omega arith; high_t = λ h. omega arith }
     go false f false g e = absurd (clash (cc))
 
 -- no difference: neither score has a record at the first index
-pub equal-ends : (s t : List ℕ) (d : ℕ) → difference_at s t d ≡ Equal → (count_of s ≤ d) × (count_of t ≤ d)
+pub equal-ends : (s t : List ℕ) (d : ℕ) → difference_at s t d ≡ None → (count_of s ≤ d) × (count_of t ≤ d)
 equal-ends s t d e = go (ltb d (count_of s)) refl (ltb d (count_of t)) refl e
   where
     go : (a : Bool) → ltb d (count_of s) ≡ a → (b : Bool) → ltb d (count_of t) ≡ b
-        → cond a (cond b (At (min (position_at s d) (position_at t d))) (At (position_at s d))) (cond b (At (position_at t d)) Equal) ≡ Equal → (count_of s ≤ d) × (count_of t ≤ d)
+        → cond a (cond b (Some (min (position_at s d) (position_at t d))) (Some (position_at s d))) (cond b (Some (position_at t d)) None) ≡ None → (count_of s ≤ d) × (count_of t ≤ d)
     go true f true g e = absurd (clash (cc))
     go true f false g e = absurd (clash (cc))
     go false f true g e = absurd (clash (cc))

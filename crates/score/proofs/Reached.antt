@@ -2,6 +2,7 @@
 -- does not have there.
 -- So two scores in order do not have the same records below p + 1, while `accepted-below` shows that they have the same
 -- below p. Assumes nothing.
+use Rattle.std.specs.Prelude.{None, Ok, Some}
 use mathlib.Core.Path.{◌≡◌, refl, sym, ◌∙◌}
 use mathlib.Core.Bool.{Bool, true, false, cond}
 use mathlib.Core.List.{List}
@@ -10,8 +11,6 @@ use Prim.Native.Nat.{ℕ, suc, ◌<◌, ◌≤◌, min}
 use native.Mathlib.Omega.{arith}
 use lib.Dec.{ltb}
 use borrow.Author.Tests.{ltb-true}
-use Rattle.score.specs.declared.Difference.TheVariants.{Equal, At}
-use Rattle.score.specs.declared.Verdict.TheVariants.{Accepted}
 use Rattle.score.specs.Record.{count_of, position_at}
 use Rattle.score.specs.Score.{verdict_of}
 use Rattle.score.specs.Below.{count_below, Sorted}
@@ -24,14 +23,14 @@ use Rattle.score.proofs.Agree.{SameBelow}
 abbrev pub StandsAt : List ℕ → ℕ → ℕ → Type 0
 StandsAt s d p = (d < count_of s) × (position_at s d ≡ p)
 
-pub reached : (s t : List ℕ) (p d : ℕ) → difference_at s t d ≡ At p → StandsAt s d p ⊎ StandsAt t d p
+pub reached : (s t : List ℕ) (p d : ℕ) → difference_at s t d ≡ Some p → StandsAt s d p ⊎ StandsAt t d p
 reached s t p d e = go (ltb d (count_of s)) refl (ltb d (count_of t)) refl e
   where
     lower : (x y : ℕ) → min x y ≡ p → (x ≡ p) ⊎ (y ≡ p)
     lower x y e = ⊎_elim (λ l. inl (omega arith)) (λ g. inr (omega arith)) (lt_or_ge x y)
 
     go : (a : Bool) → ltb d (count_of s) ≡ a → (b : Bool) → ltb d (count_of t) ≡ b
-        → cond a (cond b (At (min (position_at s d) (position_at t d))) (At (position_at s d))) (cond b (At (position_at t d)) Equal) ≡ At p → StandsAt s d p ⊎ StandsAt t d p
+        → cond a (cond b (Some (min (position_at s d) (position_at t d))) (Some (position_at s d))) (cond b (Some (position_at t d)) None) ≡ Some p → StandsAt s d p ⊎ StandsAt t d p
     go true f true g e = ⊎_elim (λ x. inl (ltb-true _ _ f, x)) (λ y. inr (ltb-true _ _ g, y)) (lower (position_at s d) (position_at t d) (at_inj e))
     go true f false g e = inl (ltb-true _ _ f, at_inj e)
     go false f true g e = inr (ltb-true _ _ g, at_inj e)
@@ -56,9 +55,9 @@ module _ (s t : List ℕ) (p : ℕ) (os : Sorted s) (ot : Sorted t) (same : Same
       let z : true ≡ false = sym (bytes_same s d t d 10 (same.bytes d l)) ∙ (first_index_lem s t).differs in_s in_t in
       clash (cc)
 
-  pub parted-there : difference_of s t ≡ At p → ⊥
+  pub parted-there : difference_of s t ≡ Some p → ⊥
   parted-there e = ⊎_elim (λ h. not-both (below_next s p d os h)) (λ h. not-both (omega (arith, below_next t p d ot h, same.count))) (reached s t p d e)
 
 -- for accepted scores
-pub accepted-parted : (s t : List ℕ) (n m p : ℕ) → verdict_of s ≡ Accepted n → verdict_of t ≡ Accepted m → difference_of s t ≡ At p → SameBelow s t (suc p) → ⊥
+pub accepted-parted : (s t : List ℕ) (n m p : ℕ) → verdict_of s ≡ Ok n → verdict_of t ≡ Ok m → difference_of s t ≡ Some p → SameBelow s t (suc p) → ⊥
 accepted-parted s t n m p a b e same = parted-there s t p (accepted-sorted s n a) (accepted-sorted t m b) same e

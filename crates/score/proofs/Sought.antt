@@ -4,12 +4,12 @@ use mathlib.Core.Path.{◌≡◌, refl, sym, ap, ◌∙◌}
 use mathlib.Core.Bool.{Bool, true, false, true≢false}
 use mathlib.Core.List.{List}
 use mathlib.Core.Logic.{⊎_elim}
-use Prim.Native.Nat.{ℕ, ◌+◌, ◌*◌, ◌-◌, ◌≤◌, ◌<◌}
+use Prim.Native.Nat.{ℕ, ◌+◌, ◌*◌, ◌≤◌, ◌<◌}
 use native.Mathlib.Omega.{arith}
 use lib.ListN.{length, get_or, drop, length-drop}
 use lib.Seq.{ext_get_or, get_or-take, get_or-drop, length-take-le}
 use Rattle.runs.specs.Runs.{first_passing}
-use Rattle.runs.proofs.First.{first_passing_lem, passing_on, passing_stop, passing_end}
+use Rattle.runs.proofs.First.{first_passing_lem, first-same}
 use Rattle.words.specs.Words.{same}
 use Rattle.words.proofs.Same.{same-equal, equal-same, unlike-same}
 use Rattle.score.specs.Record.{count_of, byte_at}
@@ -43,7 +43,7 @@ sought s r =
 -- ---- the search
 module _ (s r : List ℕ) (ten : length r ≡ 10) (i : ℕ) (h : i < count_of s) where
   -- record i of s and record 0 of r have the same bytes exactly where the bytes of record i are r
-  pub same_as : same_record s i r 0 ≡ same (bytes_at s i) r
+  same_as : same_record s i r 0 ≡ same (bytes_at s i) r
   same_as = go (same_record s i r 0) refl
     where
       front : (k : ℕ) → byte_at r 0 k ≡ get_or r k 0
@@ -57,23 +57,10 @@ module _ (s r : List ℕ) (ten : length r ≡ 10) (i : ℕ) (h : i < count_of s)
           sym (unlike-same (bytes_at s i) r
           (λ q. true≢false (sym (bytes_same s i r 0 10 (λ k l. sym (byte_in s i k l) ∙ ap (λ (x : List ℕ). get_or x k 0) q ∙ sym (front k))) ∙ e)))
 
--- one turn of the search, at record i of n
-abbrev pub sought_from : List ℕ → List ℕ → ℕ → ℕ → ℕ
-sought_from s r n i = first_passing (λ (j : ℕ). same (bytes_at s j) r) (n - i) i
-
-pub sought-first : (s r : List ℕ) (n : ℕ) → n ≡ count_of s → first_equal s r ≡ sought_from s r n 0
+-- the search compares each record with record 0 of r
+pub sought_by : (s r : List ℕ) → length r ≡ 10 → first_passing (λ (i : ℕ). same_record s i r 0) (count_of s) 0 ≡ first_equal s r
 unfolding first_equal
-sought-first s r n e = let whole : count_of s ≡ n - 0 = omega arith in ap (λ (k : ℕ). first_passing (λ (j : ℕ). same (bytes_at s j) r) k 0) whole
-
-module _ (s r : List ℕ) (ten : length r ≡ 10) (n i : ℕ) (e : n ≡ count_of s) (h : i < n) where
-  pub sought_on : same_record s i r 0 ≡ false → sought_from s r n i ≡ sought_from s r n (i + 1)
-  sought_on q = passing_on (λ (j : ℕ). same (bytes_at s j) r) n i h (sym (same_as s r ten i (omega arith)) ∙ q)
-
-  pub sought_stop : same_record s i r 0 ≡ true → sought_from s r n i ≡ i
-  sought_stop q = passing_stop (λ (j : ℕ). same (bytes_at s j) r) n i h (sym (same_as s r ten i (omega arith)) ∙ q)
-
-pub sought_end : (s r : List ℕ) (n i : ℕ) → n ≤ i → sought_from s r n i ≡ i
-sought_end s r n i h = passing_end (λ (j : ℕ). same (bytes_at s j) r) n i h
+sought_by s r ten = first-same _ _ (count_of s) 0 (λ j a h. same_as s r ten j (omega arith))
 
 -- bytes that are not ten are those of no record
 pub not-ten : (s r : List ℕ) → (length r ≡ 10 → ⊥) → first_equal s r ≡ count_of s

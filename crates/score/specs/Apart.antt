@@ -4,13 +4,11 @@
 -- Two records are the same if all their ten bytes are; so a different velocity of an off is a difference.
 -- Wider than 01: defined for any two lists of bytes, over their whole records; `records_from` also keeps the 1 to 9
 -- bytes after the last whole record, which an accepted score does not have. Definitions only.
-use Rattle.std.specs.Prelude.{Bool, true, false, not, cond, List, ℕ, zero, suc, ◌-◌, ◌*◌, min, max, ltb, eqb, take, drop}
+use Rattle.std.specs.Prelude.{Bool, true, false, not, cond, List, ℕ, zero, suc, ◌-◌, ◌*◌, min, max, ltb, eqb, take, drop, None, Option, Some}
 use Rattle.runs.specs.Runs.{first_passing}
 use Rattle.words.specs.Words.{same}
 use Rattle.score.specs.Record.{count_of, byte_at, position_at}
 use Rattle.score.specs.Below.{count_below}
-use Rattle.score.specs.declared.Difference.{Difference}
-use Rattle.score.specs.declared.Difference.TheVariants.{Equal, At}
 
 -- whether the first n bytes of record i of s and of record j of t are the same
 unfoldable pub same_to : List ℕ → ℕ → List ℕ → ℕ → ℕ → Bool
@@ -29,13 +27,13 @@ abbrev pub first_index : List ℕ → List ℕ → ℕ
 first_index s t = first_passing (λ (i : ℕ). not (same_at s t i)) (min (count_of s) (count_of t)) 0
 
 -- the difference at that index: of a record in both lists, in one, or in none
-abbrev pub difference_at : List ℕ → List ℕ → ℕ → Difference
+abbrev pub difference_at : List ℕ → List ℕ → ℕ → Option ℕ
 difference_at s t i =
     cond (ltb i (count_of s))
-    (cond (ltb i (count_of t)) (At (min (position_at s i) (position_at t i))) (At (position_at s i)))
-    (cond (ltb i (count_of t)) (At (position_at t i)) Equal)
+    (cond (ltb i (count_of t)) (Some (min (position_at s i) (position_at t i))) (Some (position_at s i)))
+    (cond (ltb i (count_of t)) (Some (position_at t i)) None)
 
-abbrev pub difference_of : List ℕ → List ℕ → Difference
+abbrev pub difference_of : List ℕ → List ℕ → Option ℕ
 difference_of s t = difference_at s t (first_index s t)
 
 -- ---- from the end
@@ -52,13 +50,13 @@ same_end s t = first_passing (λ (i : ℕ). not (same_back s t i)) (min (count_o
 
 -- the last difference: i records follow it in each list. It has the higher position of the two records there, or that
 -- of the one record where the other list has no more
-abbrev pub last_difference_at : List ℕ → List ℕ → ℕ → Difference
+abbrev pub last_difference_at : List ℕ → List ℕ → ℕ → Option ℕ
 last_difference_at s t i =
     cond (ltb i (count_of s))
-    (cond (ltb i (count_of t)) (At (max (position_at s (from_end s i)) (position_at t (from_end t i)))) (At (position_at s (from_end s i))))
-    (cond (ltb i (count_of t)) (At (position_at t (from_end t i))) Equal)
+    (cond (ltb i (count_of t)) (Some (max (position_at s (from_end s i)) (position_at t (from_end t i)))) (Some (position_at s (from_end s i))))
+    (cond (ltb i (count_of t)) (Some (position_at t (from_end t i))) None)
 
-abbrev pub last_difference_of : List ℕ → List ℕ → Difference
+abbrev pub last_difference_of : List ℕ → List ℕ → Option ℕ
 last_difference_of s t = last_difference_at s t (same_end s t)
 
 -- ---- from a position on

@@ -2,15 +2,12 @@
 -- records"; 2, 3 and 4 "wrong mark / kind / a field out of range or last byte not 0"; 5 "position below the record
 -- before".
 -- "In a score 1 first, then each record 2, 3, 4, 5. Place is the record's index, else 0." Definitions only.
-use Rattle.std.specs.Prelude.{Bool, true, cond, ◌&&◌, List, [], ◌++◌, map, ◌≡◌, ℕ, zero, suc, ◌%◌, ◌≤◌, ◌<◌, length, get_or, leb, eqb}
+use Rattle.std.specs.Prelude.{Bool, true, cond, ◌&&◌, List, [], ◌++◌, map, ◌≡◌, ℕ, zero, suc, ◌%◌, ◌≤◌, ◌<◌, length, get_or, leb, eqb, Err, Ok, Result}
 use Rattle.answers.specs.Order.{unless, first_of}
-use Rattle.answers.specs.declared.Answer.{Answer}
-use Rattle.answers.specs.declared.Answer.TheVariants.{Done, Refused}
+use Rattle.answers.specs.Answer.{Answer}
 use Rattle.answers.specs.declared.Refusal.TheVariants.{Score}
 use Rattle.answers.specs.declared.ScoreFault.{ScoreFault}
 use Rattle.answers.specs.declared.ScoreFault.TheVariants.{Length, Mark, Kind, Field, Order}
-use Rattle.score.specs.declared.Verdict.{Verdict}
-use Rattle.score.specs.declared.Verdict.TheVariants.{Accepted, Faulty}
 use Rattle.score.specs.declared.Record.{Record}
 use Rattle.score.specs.Record.{count_of, byte_at, position_at, Valid, blank, encode_all}
 
@@ -52,12 +49,12 @@ unfoldable pub faults_of : List ℕ → List ScoreFault
 faults_of s = unless (eqb (length s % 10) 0 && leb (count_of s) 4096) Length ++ faults_from s (count_of s) 0
 
 -- the first fault, or the number of records
-unfoldable pub verdict_of : List ℕ → Verdict
-verdict_of s = first_of (faults_of s) Faulty (Accepted (count_of s))
+unfoldable pub verdict_of : List ℕ → Result ℕ ScoreFault
+verdict_of s = first_of (faults_of s) Err (Ok (count_of s))
 
 -- the answer of the check: no samples are written, so the count is 0
 unfoldable pub answer_of : List ℕ → Answer
-answer_of s = first_of (map Score (faults_of s)) Refused (Done 0)
+answer_of s = first_of (map Score (faults_of s)) Err (Ok 0)
 
 -- ---- what a score is. 01, "The score": "At most 4,096 records, positions never falling"
 -- s is the encoding of rs, and rs are valid and in order

@@ -2,14 +2,13 @@
 // function takes any slice and reads bytes past its end as 0. Listing a score is the task of `listing`.
 #![tactic(auto)]
 
-ghost use Rattle.std.specs.Prelude.{◌≡◌, true, ◌<◌, ◌≤◌, min, max};
+ghost use Rattle.std.specs.Prelude.{◌≡◌, true, ◌<◌, ◌≤◌};
 ghost use Rattle.answers.specs.Order.{first_of};
-ghost use Rattle.score.specs.declared.Verdict.TheVariants.{Accepted, Faulty};
-ghost use Rattle.score.specs.Record.{byte_at, word_at, position_at, kind_of, kind_byte, record_at, encode_of, count_of};
-ghost use Rattle.score.specs.Inner.{mark_at, body_at};
+ghost use Rattle.score.specs.Record.{byte_at, word_at, position_at, kind_of, record_at, encode_of, count_of};
+ghost use Rattle.score.specs.Inner.{mark_at, body_at, position_if, position_back};
 ghost use Rattle.score.specs.Score.{field_limit, mark_right, kind_right, fields_right, all_right, in_order, faults_at, verdict_of, answer_of};
 ghost use Rattle.score.specs.Below.{last_below, is_count_below, next_not_below};
-ghost use Rattle.score.specs.Apart.{same_record, first_index, difference_of, from_end, same_end, last_difference_of, first_equal};
+ghost use Rattle.score.specs.Apart.{same_record, first_index, difference_of, same_end, last_difference_of, first_equal};
 
 use answers::{Answer, Refusal, ScoreFault};
 
@@ -21,9 +20,21 @@ const MOST_RECORDS: usize = 4096;
 // What a record does: a key goes down, a key goes up, or all is reset.
 #[derive(Clone, Copy)]
 pub enum Kind {
-    On,
-    Off,
-    Reset,
+    On = 1,
+    Off = 2,
+    Reset = 3,
+}
+
+impl From<u8> for Kind {
+    ghost from_gives = { λ byte kind. kind ≡ kind_of byte };
+
+    fn from(byte: u8) -> Kind {
+        match byte {
+            1 => Kind::On,
+            2 => Kind::Off,
+            _ => Kind::Reset,
+        }
+    }
 }
 
 #[derive(Clone, Copy)]
@@ -34,53 +45,29 @@ pub struct Record {
     pub velocity: u8,
 }
 
-// The number of records of an accepted score, or the first fault of a refused one.
-#[derive(Clone, Copy)]
-pub enum Verdict {
-    Accepted(usize),
-    Faulty(ScoreFault),
-}
-
-// Whether two scores have the same records, or the position at the first or the last record that differs.
-#[derive(Clone, Copy)]
-pub enum Difference {
-    Equal,
-    At(u32),
-}
-
 // 01's check of a score: done, or refused with the first fault.
 pub fn check(score: &[u8]) -> Answer
     ensures { result ≡ answer_of score.now }
 {
-    match judge(score) {
-        Verdict::Accepted(_) => Answer::Done(0),
-        Verdict::Faulty(fault) => Answer::Refused(Refusal::Score(fault)),
-    }
+    judge(score).map_err(Refusal::Score)?;
+    Ok(0)
 }
 
 // The first fault of a score, without an answer's number: a caller numbers it as a fault of an old or of a new score.
-pub fn judge(score: &[u8]) -> Verdict
+pub fn judge(score: &[u8]) -> Result<usize, ScoreFault>
     ensures { result ≡ verdict_of score.now }
 {
-    let n = score.len() / RECORD_SIZE;
-    if score.len() % RECORD_SIZE != 0 {
-        return Verdict::Faulty(ScoreFault::Length);
-    }
-    if MOST_RECORDS < n {
-        return Verdict::Faulty(ScoreFault::Length);
+    let n = count(score);
+    if score.len() % RECORD_SIZE != 0 || MOST_RECORDS < n {
+        return Err(ScoreFault::Length);
     }
     let mut before = 0;
-    let mut i = 0;
-    while i < n {
+    for i in 0..n {
         let here = word_at(score, i, 2);
-        let verdict = judge_in_order(score, i, before <= here);
-        if let Verdict::Faulty(fault) = verdict {
-            return Verdict::Faulty(fault);
-        }
+        judge_in_order(score, i, before <= here)?;
         before = here;
-        i += 1;
     }
-    Verdict::Accepted(n)
+    Ok(n)
 }
 
 // The number of whole records; 1 to 9 bytes after the last whole record are ignored.
@@ -91,14 +78,16 @@ pub fn count(score: &[u8]) -> usize
 }
 
 // The position of record i: four bytes, low byte first.
+#[tactic(auto, unfolding(crate::specs::Record::position_at))]
 pub fn position(score: &[u8], i: usize) -> u32
     ensures { result ≡ position_at score.now i }
 {
-    let a = byte_at(score, i, 2);
-    let b = byte_at(score, i, 3);
-    let c = byte_at(score, i, 4);
-    let d = byte_at(score, i, 5);
-    words::word_of(a, b, c, d)
+    u32::from_le_bytes([
+        byte_at(score, i, 2),
+        byte_at(score, i, 3),
+        byte_at(score, i, 4),
+        byte_at(score, i, 5),
+    ])
 }
 
 // Record i as its bytes say: nothing is judged.
@@ -107,7 +96,7 @@ pub fn record_at(score: &[u8], i: usize) -> Record
 {
     Record {
         position: position(score, i),
-        kind: kind_of(byte_at(score, i, 6)),
+        kind: Kind::from(byte_at(score, i, 6)),
         note: byte_at(score, i, 7),
         velocity: byte_at(score, i, 8),
     }
@@ -117,24 +106,19 @@ pub fn record_at(score: &[u8], i: usize) -> Record
 pub fn encode(given: Record) -> [u8; 10]
     ensures { result ≡ encode_of given }
 {
-    let p = given.position;
-    let kind = given.kind;
-    let k = kind_byte(kind);
-    let a = (p % 256) as u8;
-    let b = (p / 256 % 256) as u8;
-    let c = (p / 65536 % 256) as u8;
-    let d = (p / 16777216 % 256) as u8;
-    [0x56, 0x4E, a, b, c, d, k, given.note, given.velocity, 0]
+    let [a, b, c, d] = given.position.to_le_bytes();
+    let kind = given.kind as u8;
+    [0x56, 0x4E, a, b, c, d, kind, given.note, given.velocity, 0]
 }
 
 // Whether k records exist, the last of them below p and the next, if any, not. If in order: exactly k are below p.
+#[tactic(auto, unfolding(crate::specs::Below::is_count_below))]
 pub fn is_count_below(score: &[u8], k: u64, p: u64) -> bool
     ensures { result ≡ is_count_below score.now k p }
 {
     let n = count(score) as u64;
     let next = k as usize;
-    let above = p <= position(score, next) as u64;
-    (k <= n) & last_below(score, next, p) & ((n <= k) | above)
+    k <= n && last_below(score, next, p) && (n <= k || p <= position(score, next) as u64)
 }
 
 // From record `from` on, the index of the first record that is not below p: the number of records, or `from` where it
@@ -143,48 +127,28 @@ pub fn next_not_below(score: &[u8], from: usize, p: u64) -> usize
     ensures { result ≡ next_not_below score.now from p }
 {
     let n = count(score);
-    let mut next = from;
-    while next < n {
-        if p <= word_at(score, next, 2) as u64 {
-            return next;
-        }
-        next += 1;
-    }
-    next
+    (from..n)
+        .find(|&i| p <= word_at(score, i, 2) as u64)
+        .unwrap_or(from.max(n))
 }
 
 // The first index at which the records differ or one score has ended.
 fn first_index(old: &[u8], new: &[u8]) -> usize
     ensures { result ≡ first_index old.now new.now }
 {
-    let n = fewer(count(old), count(new));
-    let mut i = 0;
-    while i < n {
-        if !same_record(old, i, new, i) {
-            return i;
-        }
-        i += 1;
-    }
-    n
+    let n = count(old).min(count(new));
+    (0..n).find(|&i| !same_record(old, i, new, i)).unwrap_or(n)
 }
 
 // 01's P: the lower of the two positions at the first index, or the position in the score that has not ended there.
-pub fn first_difference(old: &[u8], new: &[u8]) -> Difference
+pub fn first_difference(old: &[u8], new: &[u8]) -> Option<u32>
     ensures { result ≡ difference_of old.now new.now }
 {
     let i = first_index(old, new);
-    let p = position(old, i);
-    let q = position(new, i);
-    if i < count(old) {
-        if i < count(new) {
-            return Difference::At(lower(p, q));
-        }
-        return Difference::At(p);
+    match (position_if(old, i), position_if(new, i)) {
+        (Some(p), Some(q)) => Some(p.min(q)),
+        (p, q) => p.or(q),
     }
-    if i < count(new) {
-        return Difference::At(q);
-    }
-    Difference::Equal
 }
 
 // How many records at the end are the same.
@@ -193,35 +157,22 @@ fn same_end(old: &[u8], new: &[u8]) -> usize
 {
     let m = count(old);
     let n = count(new);
-    let most = fewer(m, n);
-    let mut k = 0;
-    while k < most {
-        if !same_record(old, m - (k + 1), new, n - (k + 1)) {
-            return k;
-        }
-        k += 1;
-    }
-    most
+    let most = m.min(n);
+    (0..most)
+        .find(|&k| !same_record(old, m - (k + 1), new, n - (k + 1)))
+        .unwrap_or(most)
 }
 
 // From the end: the higher of the two positions at the last difference, or the position in the score that has another
 // record there. Scores in order have the same records above it, and not from it on.
-pub fn last_difference(old: &[u8], new: &[u8]) -> Difference
+pub fn last_difference(old: &[u8], new: &[u8]) -> Option<u32>
     ensures { result ≡ last_difference_of old.now new.now }
 {
     let k = same_end(old, new);
-    let x = position_back(old, k);
-    let y = position_back(new, k);
-    if k < count(old) {
-        if k < count(new) {
-            return Difference::At(higher(x, y));
-        }
-        return Difference::At(x);
+    match (position_back(old, k), position_back(new, k)) {
+        (Some(p), Some(q)) => Some(p.max(q)),
+        (p, q) => p.or(q),
     }
-    if k < count(new) {
-        return Difference::At(y);
-    }
-    Difference::Equal
 }
 
 // The index of the first record with these ten bytes, or the number of records where none has them; so also where they
@@ -233,49 +184,42 @@ pub fn first_equal(score: &[u8], bytes: &[u8]) -> usize
     if bytes.len() != RECORD_SIZE {
         return n;
     }
-    let mut i = 0;
-    while i < n {
-        if same_record(score, i, bytes, 0) {
-            return i;
-        }
-        i += 1;
-    }
-    i
+    (0..n)
+        .find(|&i| same_record(score, i, bytes, 0))
+        .unwrap_or(n)
 }
 
-// The position of the record that k records follow, or of record 0 where there is none.
-fn position_back(score: &[u8], k: usize) -> u32
-    ensures { result ≡ position_at score.now (from_end score.now k) }
+// The position of record i, if there is one.
+#[tactic(auto, unfolding(crate::specs::Record::position_at))]
+fn position_if(score: &[u8], i: usize) -> Option<u32>
+    ensures { result ≡ position_if score.now i }
+{
+    (i < count(score)).then(|| word_at(score, i, 2))
+}
+
+// The position of the record that k records follow, if there is one.
+#[tactic(auto, unfolding(crate::specs::Record::position_at))]
+fn position_back(score: &[u8], k: usize) -> Option<u32>
+    ensures { result ≡ position_back score.now k }
 {
     let n = count(score);
-    if n <= k {
-        return position(score, 0);
-    }
-    position(score, n - (k + 1))
+    (k < n).then(|| word_at(score, n - (k + 1), 2))
 }
 
 // Whether k is 0 or record k - 1 is below p.
+#[tactic(auto, unfolding(crate::specs::Below::last_below))]
 fn last_below(score: &[u8], k: usize, p: u64) -> bool
     ensures { result ≡ last_below score.now k p }
 {
-    if k == 0 {
-        return true;
-    }
-    (position(score, k - 1) as u64) < p
+    k == 0 || (position(score, k - 1) as u64) < p
 }
 
 // Byte j of record i, 0 past the end.
 fn byte_at(score: &[u8], i: usize, j: usize) -> u8
     ensures { result ≡ byte_at score.now i j }
 {
-    if count(score) < i {
-        return 0;
-    }
-    let at = i * RECORD_SIZE;
-    if score.len() - at <= j {
-        return 0;
-    }
-    score[at + j]
+    let at = i.saturating_mul(RECORD_SIZE).saturating_add(j);
+    score.get(at).copied().unwrap_or(0)
 }
 
 // Bytes j to j + 3 of record i, low byte first: one load, where no other code reads one of these bytes.
@@ -284,23 +228,17 @@ fn word_at(score: &[u8], i: usize, j: usize) -> u32
     requires j_bound { j ≤ 6 }
     ensures { result ≡ word_at score.now i j }
 {
-    let at = i * RECORD_SIZE;
-    let a = score[at + j];
-    let b = score[at + (j + 1)];
-    let c = score[at + (j + 2)];
-    let d = score[at + (j + 3)];
-    words::word_of(a, b, c, d)
+    let at = i * RECORD_SIZE + j;
+    u32::from_le_bytes([score[at], score[at + 1], score[at + 2], score[at + 3]])
 }
 
 // The two bytes of the mark of record i, low byte first.
-fn mark_at(score: &[u8], i: usize) -> u32
+fn mark_at(score: &[u8], i: usize) -> u16
     requires { i < count_of score.now }
     ensures { result ≡ mark_at score.now i }
 {
     let at = i * RECORD_SIZE;
-    let a = score[at];
-    let b = score[at + 1];
-    words::word_of(a, b, 0, 0)
+    u16::from_le_bytes([score[at], score[at + 1]])
 }
 
 // The eight bytes after the mark of record i, low byte first.
@@ -308,41 +246,27 @@ fn body_at(score: &[u8], i: usize) -> u64
     requires { i < count_of score.now }
     ensures { result ≡ body_at score.now i }
 {
-    let low = word_at(score, i, 2) as u64;
-    let high = word_at(score, i, 6) as u64;
-    low + high * 4294967296
-}
-
-fn kind_of(byte: u8) -> Kind
-    ensures { result ≡ kind_of byte }
-{
-    if byte == 1 {
-        return Kind::On;
-    }
-    if byte == 2 {
-        return Kind::Off;
-    }
-    Kind::Reset
-}
-
-fn kind_byte(kind: Kind) -> u8
-    ensures { result ≡ kind_byte kind }
-{
-    match kind {
-        Kind::On => 1,
-        Kind::Off => 2,
-        Kind::Reset => 3,
-    }
+    let at = i * RECORD_SIZE + 2;
+    u64::from_le_bytes([
+        score[at],
+        score[at + 1],
+        score[at + 2],
+        score[at + 3],
+        score[at + 4],
+        score[at + 5],
+        score[at + 6],
+        score[at + 7],
+    ])
 }
 
 // The first fault of record i, whose order is known: one test accepts a valid record, the others are judged in full.
-fn judge_in_order(score: &[u8], i: usize, order: bool) -> Verdict
+fn judge_in_order(score: &[u8], i: usize, order: bool) -> Result<(), ScoreFault>
     requires i_bound { i < count_of score.now }
     requires order_value { order ≡ in_order score.now i }
-    ensures { result ≡ first_of (faults_at score.now i) Faulty (Accepted 1) }
+    ensures { result ≡ first_of (faults_at score.now i) Err (Ok tt) }
 {
-    if order & passes_fast_check(score, i) {
-        return Verdict::Accepted(1);
+    if order && passes_fast_check(score, i) {
+        return Ok(());
     }
     judge_record(score, i)
 }
@@ -360,66 +284,60 @@ fn passes_fast_check(score: &[u8], i: usize) -> bool
 }
 
 // The first fault of record i by 01's order of tests 2, 3, 4, 5, or that this one record is accepted.
-fn judge_record(score: &[u8], i: usize) -> Verdict
-    ensures { result ≡ first_of (faults_at score.now i) Faulty (Accepted 1) }
+#[tactic(auto, unfolding(crate::specs::Score::faults_at))]
+fn judge_record(score: &[u8], i: usize) -> Result<(), ScoreFault>
+    ensures { result ≡ first_of (faults_at score.now i) Err (Ok tt) }
 {
-    let mark = mark_right(score, i);
-    let kind = kind_right(score, i);
-    let fields = fields_right(score, i);
-    let order = in_order(score, i);
-    if !mark {
-        return Verdict::Faulty(ScoreFault::Mark(i));
+    if !mark_right(score, i) {
+        return Err(ScoreFault::Mark(i));
     }
-    if !kind {
-        return Verdict::Faulty(ScoreFault::Kind(i));
+    if !kind_right(score, i) {
+        return Err(ScoreFault::Kind(i));
     }
-    if !fields {
-        return Verdict::Faulty(ScoreFault::Field(i));
+    if !fields_right(score, i) {
+        return Err(ScoreFault::Field(i));
     }
-    if !order {
-        return Verdict::Faulty(ScoreFault::Order(i));
+    if !in_order(score, i) {
+        return Err(ScoreFault::Order(i));
     }
-    Verdict::Accepted(1)
+    Ok(())
 }
 
+#[tactic(auto, unfolding(crate::specs::Score::mark_right))]
 fn mark_right(score: &[u8], i: usize) -> bool
     ensures { result ≡ mark_right score.now i }
 {
-    (byte_at(score, i, 0) == 0x56) & (byte_at(score, i, 1) == 0x4E)
+    byte_at(score, i, 0) == 0x56 && byte_at(score, i, 1) == 0x4E
 }
 
+#[tactic(auto, unfolding(crate::specs::Score::kind_right))]
 fn kind_right(score: &[u8], i: usize) -> bool
     ensures { result ≡ kind_right score.now i }
 {
-    let kind = byte_at(score, i, 6);
-    (1 <= kind) & (kind <= 3)
+    matches!(byte_at(score, i, 6), 1..=3)
 }
 
+#[tactic(auto, unfolding(crate::specs::Score::fields_right))]
 fn fields_right(score: &[u8], i: usize) -> bool
     ensures { result ≡ fields_right score.now i }
 {
     let most = field_limit(byte_at(score, i, 6));
-    (byte_at(score, i, 7) <= most) & (byte_at(score, i, 8) <= most) & (byte_at(score, i, 9) == 0)
+    byte_at(score, i, 7) <= most && byte_at(score, i, 8) <= most && byte_at(score, i, 9) == 0
 }
 
 // Note and velocity are at most 127, of a reset at most 0.
 fn field_limit(kind: u8) -> u8
     ensures { result ≡ field_limit kind }
 {
-    if kind == 3 {
-        return 0;
-    }
-    127
+    if kind == 3 { 0 } else { 127 }
 }
 
 // Whether the position of record i is at or above that of the record before.
+#[tactic(auto, unfolding(crate::specs::Score::in_order))]
 fn in_order(score: &[u8], i: usize) -> bool
     ensures { result ≡ in_order score.now i }
 {
-    if i == 0 {
-        return true;
-    }
-    position(score, i - 1) <= position(score, i)
+    i == 0 || position(score, i - 1) <= position(score, i)
 }
 
 // Whether record i of s and record j of t, which exist, have the same ten bytes.
@@ -431,22 +349,4 @@ fn same_record(s: &[u8], i: usize, t: &[u8], j: usize) -> bool
     let mark = mark_at(s, i) == mark_at(t, j);
     let rest = body_at(s, i) == body_at(t, j);
     mark & rest
-}
-
-fn fewer(a: usize, b: usize) -> usize
-    ensures { result ≡ min a b }
-{
-    if a <= b { a } else { b }
-}
-
-fn lower(a: u32, b: u32) -> u32
-    ensures { result ≡ min a b }
-{
-    if a < b { a } else { b }
-}
-
-fn higher(a: u32, b: u32) -> u32
-    ensures { result ≡ max a b }
-{
-    if a < b { b } else { a }
 }

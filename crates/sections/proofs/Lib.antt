@@ -7,6 +7,8 @@ pub mod Between
 pub mod Summed
 -- what is made from a section up to a stop
 pub mod Made
+-- slices that are lent as one, and handed back
+pub mod Lending
 -- a turn of the loop over the sections
 pub mod Turns
 -- for an accepted score the sections are what the definitions of `state` make

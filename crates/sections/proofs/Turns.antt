@@ -7,7 +7,7 @@ use Prim.Native.Nat.{ℕ, suc, ◌+◌, ◌-◌, ◌*◌, min, ◌<◌, ◌≤�
 use native.Mathlib.Nat.{sub_self}
 use native.Mathlib.Omega.{arith}
 use lib.Dec.{ltb, leb}
-use lib.ListN.{length, take, drop, set, length-set, drop_of_length-le}
+use lib.ListN.{length, take, drop, set, length-set, drop_of_length-le, take-append-drop}
 use lib.Seq.{take_all, take_at, drop_at, drop-drop, length-take-le}
 use lib.Ieee.{Float}
 use borrow.Author.Tests.{lt-ltb, ltb-true}
@@ -34,7 +34,10 @@ use Rattle.sections.specs.Sections.{between, may_stop, stop_for, kept_from, ends
 use Rattle.sections.proofs.Room.{in_room}
 use Rattle.sections.proofs.Between.{between_none, between_end, between-after, between_put}
 use Rattle.sections.proofs.Summed.{section_in, said_turn}
-use Rattle.sections.specs.Inner.{SectionEnd}
+
+-- of n samples, the first of section k, or the end if that comes first
+abbrev pub reached : ℕ → ℕ → ℕ
+reached n k = min (k * section_size) n
 
 -- the loop's invariant: the samples up to `sample` are played, entries and peaks of the sections below k are kept, all
 -- else is as it came, and no section below k could have been the stop
@@ -56,6 +59,13 @@ pub record Walked (g : Settings) (s : List ℕ) (m : ℕ) (p : Place) (quiet : �
   pub firsts : numbers ≡ between m k b.summary.numbers (said_from first_number out m (k - m))
   pub went_on : (j : ℕ) → m < j → j < k → may_stop g s m p quiet b.stored j ≡ false
 
+-- e is 4,096 samples after a, or the end n if that comes first
+pub record SectionEnd (a n e : ℕ) : Type 0 where
+  pub after : a < e
+  pub within : e ≤ n
+  pub near : e ≤ a + section_size
+  pub whole : e < n → e ≡ a + section_size
+
 -- one more entry
 kept_more : (g : Settings) (s : List ℕ) (m : ℕ) (p : Place) (k : ℕ) → kept_from g s m p (suc k) ≡ kept_from g s m p k ++ entry_of (place_from g s (m * section_size) p (k * section_size)).state
 unfolding kept_from listed
@@ -65,6 +75,10 @@ kept-length : (g : Settings) (s : List ℕ) (m : ℕ) (p : Place) (k : ℕ) → 
 unfolding kept_from
 kept-length g s m p k = shelf_length _ ∙ ap (λ (n : ℕ). n * entry_words) (listed-length _ k)
 
+-- what stands in the middle, put there again, changes nothing
+pub put_same : {A : Type 0} (a k : ℕ) (xs : List A) → put_mid a k xs (take k (drop a xs)) ≡ xs
+put_same a k xs = rw (take-append-drop k (drop a xs)) (take-append-drop a xs)
+
 -- what was put in the middle is what stands there
 mid_put : {A : Type 0} (a k : ℕ) (xs ys : List A) → a ≤ length xs → length ys ≡ k → mid_of a k (put_mid a k xs ys) ≡ ys
 mid_put a k xs ys h e = rw (drop_at (take a xs) (ys ++ drop k (drop a xs)) a (length-take-le a xs h)) (take_at ys (drop k (drop a xs)) k e)
@@ -73,9 +87,13 @@ module _ (g : Settings) (s : List ℕ) (m : ℕ) (p : Place) (quiet : ℕ) (b : 
   room-is : Lent b
   room-is = in_room b fits
 
-  pub walk_first : Walked g s m p quiet b b.heard b.stored b.summary.magnitudes b.summary.numbers p m (m * section_size)
+  -- a section that there is begins at its first sample, and ends where the next is reached
+  reached_is : (k : ℕ) → k < entries_for (samples_in b) → reached (samples_in b) k ≡ k * section_size
+  reached_is k h = omega arith
+
+  walk_begins : Walked g s m p quiet b b.heard b.stored b.summary.magnitudes b.summary.numbers p m (m * section_size)
   unfolding place_from played_from kept_from said_from run listed shelf_of
-  walk_first =
+  walk_begins =
       record {
         len = refl;
         lens = refl;
@@ -95,15 +113,18 @@ module _ (g : Settings) (s : List ℕ) (m : ℕ) (p : Place) (quiet : ℕ) (b : 
         went_on = λ j l u. absurd (omega arith);
       }
 
+  pub walk_first : Walked g s m p quiet b b.heard b.stored b.summary.magnitudes b.summary.numbers p m (reached (samples_in b) m)
+  walk_first = let e : reached (samples_in b) m ≡ m * section_size = reached_is m there in rw e walk_begins
+
   module _ (out : List Float) (shelf : List ℕ) (magnitudes : List Float) (numbers : List ℕ) (place : Place) (k sample : ℕ) (w : Walked g s m p quiet b out shelf magnitudes numbers place k sample) where
     -- where `sample` is the stop, what is there is what the definition leaves
     ended : sample ≡ stop_for g s m p quiet b → k ≡ entries_for sample → leaves (ends place sample) (lends out shelf magnitudes numbers) ≡ played g s m p quiet b
     ended e d = rw (← e, ← d, ← w.place_is, ← w.heard, ← w.stored, ← w.largests, ← w.firsts) refl
 
     -- at the end
-    pub walk_last : length out ≤ sample → leaves (ends place sample) (lends out shelf magnitudes numbers) ≡ played g s m p quiet b
+    walk_ends : length out ≤ sample → leaves (ends place sample) (lends out shelf magnitudes numbers) ≡ played g s m p quiet b
     unfolding stop_for
-    walk_last h =
+    walk_ends h =
         let n = samples_in b in
         let a : sample ≡ n = omega (arith, w.within, w.len) in
         let c : k ≡ entries_for n = omega (arith, w.most, w.least) in
@@ -277,6 +298,40 @@ module _ (g : Settings) (s : List ℕ) (m : ℕ) (p : Place) (quiet : ℕ) (b : 
               firsts = turn_firsts;
               went_on = λ j l u. ⊎_elim (λ i. w.went_on j l i) (λ i. (let v : j ≡ k = omega arith in rw v (sym (test_is (omega arith)) ∙ t))) (lt_or_ge j k);
             }
+
+  -- ---- the loop goes from section to section: what each turn finds and leaves
+  module _ (out : List Float) (shelf : List ℕ) (magnitudes : List Float) (numbers : List ℕ) (place : Place) (k : ℕ) (w : Walked g s m p quiet b out shelf magnitudes numbers place k (reached (samples_in b) k)) where
+    pub walk_last : entries_for (samples_in b) ≤ k → leaves (ends place (samples_in b)) (lends out shelf magnitudes numbers) ≡ played g s m p quiet b
+    walk_last h = let e : reached (samples_in b) k ≡ samples_in b = omega arith in
+        let v : Walked g s m p quiet b out shelf magnitudes numbers place k (samples_in b) = rw e at w in
+        walk_ends out shelf magnitudes numbers place k (samples_in b) v (omega (arith, v.len))
+
+    module _ (h : k < entries_for (samples_in b)) where
+      pub begun : Walked g s m p quiet b out shelf magnitudes numbers place k (k * section_size)
+      begun = let e : reached (samples_in b) k ≡ k * section_size = reached_is k h in rw e at w
+
+      pub inside : k * section_size < length out
+      inside = omega (arith, begun.len)
+
+      pub turn_stops : test out shelf magnitudes numbers place k (k * section_size) begun inside ≡ true → leaves (ends place (k * section_size)) (lends out shelf magnitudes numbers) ≡ played g s m p quiet b
+      turn_stops t = walk_stop out shelf magnitudes numbers place k (k * section_size) begun inside t
+
+      module _ (t : test out shelf magnitudes numbers place k (k * section_size) begun inside ≡ false) (e : ℕ) (is : e ≡ min (k * section_size + section_size) (samples_in b)) (ys : List Float) (r : Place) (x : Played g s (k * section_size) place (mid_of (k * section_size) (e - k * section_size) out) ys r)
+          (zs : List ℕ) (put : zs ≡ stored_in (mid_of (k * entry_words) (k * entry_words + entry_words - k * entry_words) shelf) place.state) (q : Peak) (peak_is : q ≡ peak_of ys) where
+        ends_there : SectionEnd (k * section_size) (length out) e
+        ends_there = record { after = omega (arith, begun.len); within = omega (arith, begun.len); near = omega arith; whole = λ l. omega (arith, begun.len) }
+
+        filled : length ys ≡ e - k * section_size
+        filled = ap length x.samples ∙ played-length g s (k * section_size) place (length (mid_of (k * section_size) (e - k * section_size) out)) ∙ mid_len (k * section_size) e out ends_there.within
+
+        peak : q ≡ peak_of (mid_of (k * section_size) (e - k * section_size) (put_mid (k * section_size) (e - k * section_size) out ys))
+        peak = peak_is ∙ ap peak_of (sym (mid_put (k * section_size) (e - k * section_size) out ys (omega (arith, inside)) filled))
+
+        pub number_fits : (k * section_size + q.offset ≤ length out) × (length out ≤ most_samples)
+        number_fits = (number_below out shelf magnitudes numbers place k (k * section_size) begun inside t e ends_there ys r x zs put q peak, few out shelf magnitudes numbers place k (k * section_size) begun inside)
+
+        pub turn_on : Walked g s m p quiet b (put_mid (k * section_size) (e - k * section_size) out ys) (put_mid (k * entry_words) entry_words shelf zs) (set magnitudes k q.magnitude) (set numbers k (k * section_size + q.offset)) r (k + 1) (reached (samples_in b) (k + 1))
+        turn_on = let i : reached (samples_in b) (k + 1) ≡ e = omega arith in rw i (walk_on out shelf magnitudes numbers place k (k * section_size) begun inside t e ends_there ys r x zs put q peak)
 
 -- ---- the cases of the call
 module _ (g : Settings) (s : List ℕ) (m : ℕ) (p : Place) (quiet : ℕ) (b : Buffers) where

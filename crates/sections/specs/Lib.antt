@@ -1,4 +1,4 @@
 pub mod Outcome
+pub mod Lending
 pub mod Summary
 pub mod Sections
-pub mod Inner

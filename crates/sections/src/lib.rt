@@ -5,15 +5,39 @@
 // nothing is asked of a caller.
 #![tactic(auto)]
 
-ghost use Rattle.std.specs.Prelude.{◌≡◌, true, ◌&&◌, ◌+◌, ◌-◌, ◌*◌, ◌≤◌, ◌<◌, length};
+ghost use Rattle.std.specs.Prelude.{◌≡◌, true, ◌&&◌, ◌<◌};
 ghost use Rattle.shelf.specs.Shelf.{entries_for, meets};
-ghost use Rattle.sections.specs.Outcome.{lends, room_in, leaves};
+ghost use Rattle.sections.specs.Outcome.{samples_in, room_in};
+ghost use Rattle.sections.specs.Lending.{held, leaves_in, left_in};
 ghost use Rattle.sections.specs.Sections.{played, play_on_of};
-ghost use Rattle.sections.specs.Inner.{SectionEnd};
 
 use shelf::{ENTRY_WORDS, SECTION_SIZE};
 use spans::Place;
 use state::{Settings, State};
+
+// What a caller lends: an output, the words of its shelf, and its summary, a magnitude and a sample's number for each
+// section.
+#[derive(Drop)]
+pub struct Buffers<'a> {
+    pub heard: &'a mut [f64],
+    pub stored: &'a mut [u64],
+    pub magnitudes: &'a mut [f64],
+    pub numbers: &'a mut [u64],
+}
+
+impl Buffers<'_> {
+    // Whether the samples are not too many, and shelf and summary have the sizes that so many samples need.
+    pub fn fits(&self) -> bool
+        ensures { result ≡ room_in (held self.now) }
+    {
+        judging::sizes_fit(
+            self.heard.len(),
+            self.stored.len(),
+            self.magnitudes.len(),
+            self.numbers.len(),
+        )
+    }
+}
 
 // Where playing ended: the first sample that was not played, and the place there.
 #[derive(Clone, Copy)]
@@ -32,23 +56,18 @@ pub fn play_on(
     section: usize,
     place: Place,
     quiet: usize,
-    out: &mut [f64],
-    shelf: &mut [u64],
-    magnitudes: &mut [f64],
-    numbers: &mut [u64],
+    lent: &mut Buffers,
 ) -> End
-    ensures { leaves result (lends out.new shelf.new magnitudes.new numbers.new) ≡ play_on_of settings score.now section place quiet (lends out.old shelf.old magnitudes.old numbers.old) }
+    ensures { leaves_in result lent.new ≡ left_in lent.old (play_on_of settings score.now section place quiet (held lent.old)) }
 {
-    let sample = out.len();
-    if !judging::sizes_fit(sample, shelf.len(), magnitudes.len(), numbers.len()) {
+    let sample = lent.heard.len();
+    if !lent.fits() {
         return End { place, sample };
     }
     if shelf::entries(sample) <= section {
         return End { place, sample };
     }
-    play_sections(
-        settings, score, section, place, quiet, out, shelf, magnitudes, numbers,
-    )
+    play_sections(settings, score, section, place, quiet, lent)
 }
 
 fn play_sections(
@@ -57,53 +76,39 @@ fn play_sections(
     section: usize,
     from: Place,
     quiet: usize,
-    out: &mut [f64],
-    shelf: &mut [u64],
-    magnitudes: &mut [f64],
-    numbers: &mut [u64],
+    lent: &mut Buffers,
 ) -> End
-    requires numbers_value { room_in (lends out.old shelf.old magnitudes.old numbers.old) ≡ true }
-    requires section_bound { section < entries_for (length out.old) }
-    ensures { leaves result (lends out.new shelf.new magnitudes.new numbers.new) ≡ played settings score.now section from quiet (lends out.old shelf.old magnitudes.old numbers.old) }
+    requires fits { room_in (held lent.old) ≡ true }
+    requires section_bound { section < entries_for (samples_in (held lent.old)) }
+    ensures { leaves_in result lent.new ≡ left_in lent.old (played settings score.now section from quiet (held lent.old)) }
 {
+    let length = lent.heard.len();
     let mut place = from;
-    let mut k = section;
-    let mut sample = section * SECTION_SIZE;
-    while sample < out.len() {
+    for k in section..shelf::entries(length) {
+        let sample = k * SECTION_SIZE;
         let word = k * ENTRY_WORDS;
+        let entry = &mut lent.stored[word..word + ENTRY_WORDS];
         let may = (section < k) & (quiet <= k);
-        if is_stop(may, &shelf[word..word + ENTRY_WORDS], place.state) {
+        if is_stop(may, entry, place.state) {
             return End { place, sample };
         }
-        shelf::store(&mut shelf[word..word + ENTRY_WORDS], place.state);
-        let end = section_end(sample, out.len());
-        place = spans::play(settings, score, place, sample as u64, &mut out[sample..end]);
-        let peak = peaks::peak_of(&out[sample..end]);
-        magnitudes[k] = peak.magnitude;
-        numbers[k] = (sample + peak.offset) as u64;
-        sample = end;
-        k += 1;
+        shelf::store(entry, place.state);
+        let end = (sample + SECTION_SIZE).min(length);
+        let samples = &mut lent.heard[sample..end];
+        place = spans::play(settings, score, place, sample as u64, samples);
+        let peak = peaks::peak_of(samples);
+        lent.magnitudes[k] = peak.magnitude;
+        lent.numbers[k] = (sample + peak.offset) as u64;
     }
-    End { place, sample }
+    End {
+        place,
+        sample: length,
+    }
 }
 
 // Whether an entry that may end the playing does: no entry before the first one that may is looked at.
 fn is_stop(may: bool, entry: &[u64], state: State) -> bool
     ensures { result ≡ may && meets entry.now state }
 {
-    if !may {
-        return false;
-    }
-    shelf::meets(entry, state)
-}
-
-// The end of the section that begins at `start`: 4,096 samples on, or the end of the output.
-fn section_end(start: usize, length: usize) -> usize
-    requires { start < length }
-    ensures { SectionEnd start length result }
-{
-    if length - start < SECTION_SIZE {
-        return length;
-    }
-    start + SECTION_SIZE
+    may && shelf::meets(entry, state)
 }

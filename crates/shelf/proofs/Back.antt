@@ -1,6 +1,7 @@
 -- An entry is read as a state within the limits, and that state has the same words. So no bit of an entry is ignored:
 -- words with a stray bit, a NaN's bits or a stage above 4 are no entry. Assumes that the words are below 2^64, as every
 -- u64 is, and nothing else.
+use Rattle.std.specs.Prelude.{Some, None}
 use mathlib.Core.Path.{◌≡◌, refl, sym, subst}
 use mathlib.Core.Bool.{Bool, true, false, not, cond, ◌&&◌}
 use mathlib.Core.List.{List}
@@ -12,7 +13,6 @@ use lib.ListN.{length}
 use lib.Ieee.{binary64, of_bits, is_nan}
 use lib.Ieee.Fits.{and_l, and_r}
 use lib.Ieee.Bits.{is_true, of_bits-fits, to_bits-of_bits}
-use Rattle.voice.specs.declared.keys.ActiveNote.TheVariants.{Silent, Note}
 use Rattle.state.specs.Limits.{is_state}
 use Rattle.shelf.specs.Shelf.{entry_words, bits, stage_word, active_byte, gate_bit, packed_word, four_pairs, entry_of, word, stage_of, active_of, keys_in, state_of, is_entry}
 use Rattle.shelf.proofs.Digits.{beyond, packed_again, eight_again, thirteen}
@@ -66,7 +66,7 @@ stage_same (suc (suc (suc (suc (suc w))))) h = absurd (omega arith)
 active-same : (b : ℕ) → active_byte (active_of b) ≡ b
 active-same b = go (eqb b 255) refl
   where
-    go : (t : Bool) → eqb b 255 ≡ t → active_byte (cond t Silent (Note b)) ≡ b
+    go : (t : Bool) → eqb b 255 ≡ t → active_byte (cond t None (Some b)) ≡ b
     go true e = sym (eqb-true b 255 e)
     go false e = refl
 

@@ -3,7 +3,7 @@
 -- number. Assumes of words that they are below 2^64, as every u64 is, and of a state that it is within its limits and
 -- has values of its types, where a law says so, and nothing else.
 use mathlib.Core.Path.{◌≡◌, refl, sym, subst, ap, ◌∙◌}
-use mathlib.Core.Bool.{Bool, true, false, ◌&&◌, and-true, and-false}
+use mathlib.Core.Bool.{Bool, true, false, ◌&&◌, and-true}
 use mathlib.Core.List.{List, [], ◌∷◌}
 use Prim.Native.Nat.{ℕ, ◌+◌, ◌*◌, ◌/◌, ◌%◌, ◌<◌}
 use native.Mathlib.Omega.{arith}
@@ -23,10 +23,9 @@ use Rattle.state.specs.Limits.{in_limits, is_state}
 use Rattle.state.specs.ButActed.{with_acted, SameButActed}
 use Rattle.state.proofs.ButActed.{same_at_lem}
 use Rattle.state.proofs.Limits.{in_kept, state_in, in_state}
-use Rattle.shelf.specs.declared.Entry.{Entry}
 use Rattle.shelf.specs.Shelf.{active_byte, gate_bit, packed_word, entry_of, word, state_of, is_entry, with_count, meets}
 use Rattle.shelf.proofs.Digits.{beyond}
-use Rattle.shelf.proofs.There.{Fitting, active-low, gate-low, encode-decode}
+use Rattle.shelf.proofs.There.{Fitting, active-low, gate-low, encode-decode, decoded-there}
 use Rattle.shelf.proofs.Back.{entry-is-long, entry_has_stage, entry-is_state, read_fits, decode-encode}
 
 -- ---- the packed word with m as its number
@@ -158,10 +157,6 @@ module _ (ws : List ℕ) (v : State) where
   abbrev alike : Bool
   alike = same (with_count ws 0) (with_count (entry_of v) 0)
 
-  pub words-differ : alike ≡ false → meets ws v ≡ false
-  unfolding meets
-  words-differ e = rw e (and-false (is_entry ws))
-
   pub words_meet : alike ≡ true → meets ws v ≡ is_entry ws
   unfolding meets
   words_meet e = rw e (and-true (is_entry ws))
@@ -186,13 +181,13 @@ module _ (v w : State) (i : is_state v ≡ true) (j : is_state w ≡ true) where
   pub meets-same : Fitting v → Fitting w → meets (entry_of v) w ≡ true → SameButActed v w
   meets-same f g m =
       let e : entry_of (with_acted v 0) ≡ entry_of (with_acted w 0) = sym (entry_with v i 0) ∙ meets-words (entry_of v) w m ∙ entry_with w j 0 in
-      let read : (u : State) → Fitting u → is_state u ≡ true → state_of (entry_of u) ≡ u = λ u h k. ap (λ (x : Entry). x.state) (encode-decode u h k) in
+      let read : (u : State) → Fitting u → is_state u ≡ true → state_of (entry_of u) ≡ u = λ u h k. (decoded-there (entry_of u) u (encode-decode u h k)).1 in
       sym (read (with_acted v 0) (with_fits v f 0) (with_is_state v i 0 (lit< tt))) ∙ ap state_of e ∙ read (with_acted w 0) (with_fits w g 0) (with_is_state w j 0 (lit< tt))
 
   pub same_meets : Fitting v → SameButActed v w → meets (entry_of v) w ≡ true
   same_meets f e =
       words_meet (entry_of v) w (equal-same _ _ (entry_with v i 0 ∙ ap entry_of e ∙ sym (entry_with w j 0)))
-      ∙ ap (λ (x : Entry). x.valid) (encode-decode v f i)
+      ∙ (decoded-there (entry_of v) v (encode-decode v f i)).0
 
 -- words meet a state exactly where they are an entry and read as a state that is the same but for the number
 module _ (ws : List ℕ) (l : (i : ℕ) → word ws i < beyond) (v : State) (i : is_state v ≡ true) where
@@ -207,5 +202,5 @@ module _ (ws : List ℕ) (l : (i : ℕ) → word ws i < beyond) (v : State) (i :
 -- for a state the words alone decide: words that are the state's but for the number are an entry
 pub words_decide : (ws : List ℕ) → word ws 5 < beyond → (v : State) → Fitting v → is_state v ≡ true → same (with_count ws 0) (with_count (entry_of v) 0) ≡ true → is_entry ws ≡ true
 words_decide ws l v f i e =
-    let h : is_entry (entry_of v) ≡ true = ap (λ (x : Entry). x.valid) (encode-decode v f i) in
+    let h : is_entry (entry_of v) ≡ true = (decoded-there (entry_of v) v (encode-decode v f i)).0 in
     recounted-entry ws l 0 (rw (same-equal _ _ e) (entry-recounted (entry_of v) h 0))

@@ -127,3 +127,26 @@ sixteen l h =
     ∙ ap (λ (x : List ℕ). get_or l 4 0 ∷ get_or l 5 0 ∷ get_or l 6 0 ∷ get_or l 7 0 ∷ x) (four l 8 (omega arith)
     ∙ ap (λ (x : List ℕ). get_or l 8 0 ∷ get_or l 9 0 ∷ get_or l 10 0 ∷ get_or l 11 0 ∷ x) (four l 12 (omega arith)
     ∙ ap (λ (x : List ℕ). get_or l 12 0 ∷ get_or l 13 0 ∷ get_or l 14 0 ∷ get_or l 15 0 ∷ x) (drop_of_length-le l {i = 16} (omega arith))))))
+
+-- a list of 16 with these elements
+pub sixteen_are : (f : ℕ → ℕ) (l : List ℕ) → length l ≡ 16 → ((k : ℕ) → k < 16 → get_or l k 0 ≡ f k)
+    → l ≡ f 0 ∷ f 1 ∷ f 2 ∷ f 3 ∷ f 4 ∷ f 5 ∷ f 6 ∷ f 7 ∷ f 8 ∷ f 9 ∷ f 10 ∷ f 11 ∷ f 12 ∷ f 13 ∷ f 14 ∷ f 15 ∷ []
+sixteen_are f l h e =
+    rw (
+      ← e 0 (omega arith),
+      ← e 1 (omega arith),
+      ← e 2 (omega arith),
+      ← e 3 (omega arith),
+      ← e 4 (omega arith),
+      ← e 5 (omega arith),
+      ← e 6 (omega arith),
+      ← e 7 (omega arith),
+      ← e 8 (omega arith),
+      ← e 9 (omega arith),
+      ← e 10 (omega arith),
+      ← e 11 (omega arith),
+      ← e 12 (omega arith),
+      ← e 13 (omega arith),
+      ← e 14 (omega arith),
+      ← e 15 (omega arith),
+    ) (sym (sixteen l h))

@@ -1,5 +1,6 @@
 -- Entries by example: the words of the fresh state and of a state with two keys held, and words just inside and just
 -- outside the limits. Assumes nothing.
+use Rattle.std.specs.Prelude.{Some}
 use mathlib.Core.Path.{◌≡◌, refl}
 use mathlib.Core.Bool.{true, false}
 use mathlib.Core.List.{List, [], ◌∷◌, ◌++◌, map}
@@ -12,7 +13,6 @@ use Rattle.domain.specs.Domain.{highest_pitch}
 use Rattle.envelope.specs.Limits.{eleven, is_envelope}
 use Rattle.envelope.specs.declared.EnvelopeStage.TheVariants.{Sustain, Release}
 use Rattle.voice.specs.Keys.{at_most, is_keys, keys_of}
-use Rattle.voice.specs.declared.keys.ActiveNote.TheVariants.{Note}
 use Rattle.waveform.specs.Waveform.{radians}
 use Rattle.state.specs.declared.State.{State}
 use Rattle.state.specs.State.{fresh_of, concert}
@@ -35,7 +35,7 @@ playing =
       envelope = record { stage = Sustain; level = half; stage_time = zero64; release_level = zero64 };
       frequency = concert;
       velocity = one;
-      keys = keys_of (Note 64) true (record { note = 60; velocity = 100 } ∷ record { note = 64; velocity = 90 } ∷ []);
+      keys = keys_of (Some 64) true (record { note = 60; velocity = 100 } ∷ record { note = 64; velocity = 90 } ∷ []);
       acted = 2;
       lfo = radians one;
     }
@@ -93,7 +93,7 @@ full =
       envelope = record { stage = Release; level = one; stage_time = eleven; release_level = half };
       frequency = highest_pitch binary64;
       velocity = of_bits binary64 0x3fef_ffff_ffff_ffff;
-      keys = keys_of (Note 127) true (record { note = 112; velocity = 127 } ∷ record { note = 113; velocity = 126 } ∷ record { note = 114; velocity = 125 } ∷ record { note = 115; velocity = 124 } ∷ record { note = 116; velocity = 123 } ∷ record { note = 117; velocity = 122 } ∷ record { note = 118; velocity = 121 } ∷ record { note = 119; velocity = 120 } ∷ record { note = 120; velocity = 119 } ∷ record { note = 121; velocity = 118 } ∷ record { note = 122; velocity = 117 } ∷ record { note = 123; velocity = 116 } ∷ record { note = 124; velocity = 115 } ∷ record { note = 125; velocity = 114 } ∷ record { note = 126; velocity = 113 } ∷ record { note = 127; velocity = 112 } ∷ []);
+      keys = keys_of (Some 127) true (record { note = 112; velocity = 127 } ∷ record { note = 113; velocity = 126 } ∷ record { note = 114; velocity = 125 } ∷ record { note = 115; velocity = 124 } ∷ record { note = 116; velocity = 123 } ∷ record { note = 117; velocity = 122 } ∷ record { note = 118; velocity = 121 } ∷ record { note = 119; velocity = 120 } ∷ record { note = 120; velocity = 119 } ∷ record { note = 121; velocity = 118 } ∷ record { note = 122; velocity = 117 } ∷ record { note = 123; velocity = 116 } ∷ record { note = 124; velocity = 115 } ∷ record { note = 125; velocity = 114 } ∷ record { note = 126; velocity = 113 } ∷ record { note = 127; velocity = 112 } ∷ []);
       acted = 4096;
       lfo = radians (of_bits binary64 0x408f_3fff_ffff_fffe);
     }

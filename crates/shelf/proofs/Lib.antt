@@ -11,7 +11,7 @@ pub mod Parts
 pub mod There
 -- the state of an entry has that entry's words, so no bit is ignored
 pub mod Back
--- words compared one by one, without the number of records acted
+-- words compared in three parts, without the number of records acted
 pub mod Turns
 -- that number renewed, and what words meet a state
 pub mod Counted

@@ -3,6 +3,7 @@
 -- gate 1 exactly when it is not 255, held count at most 16, pairs in range, and the rest of these words zero." 02, R-7,
 -- adds the LFO's phase, "a thirteenth word in each shelf entry, under the limits of the first".
 -- Assumes that the packed word is below 2^64, as every u64 is, and nothing else.
+use Rattle.std.specs.Prelude.{Some, None}
 use mathlib.Core.Path.{◌≡◌, refl}
 use mathlib.Core.Bool.{Bool, true, false, cond, ◌&&◌}
 use mathlib.Core.List.{List}
@@ -19,7 +20,6 @@ use Rattle.floats.specs.Range.{within}
 use Rattle.floats.specs.Double.{zero64, one}
 use Rattle.envelope.specs.Limits.{eleven}
 use Rattle.envelope.proofs.Inside.{is-inside, accepted}
-use Rattle.voice.specs.declared.keys.ActiveNote.TheVariants.{Silent, Note}
 use Rattle.voice.specs.Keys.{is_filled, is_gate_right, is_keys}
 use Rattle.voice.proofs.Limits.{keys_sound, keys-few}
 use Rattle.domain.specs.Domain.{is_radians, is_pitch}
@@ -60,7 +60,7 @@ two (suc (suc g)) h n = absurd (omega arith)
 says_sounding : (b g : ℕ) → g < 2 → T (is_gate_right (active_of b) (eqb g 1)) → Sounding b g
 says_sounding b g h = go (eqb b 255) refl
   where
-    go : (t : Bool) → eqb b 255 ≡ t → T (is_gate_right (cond t Silent (Note b)) (eqb g 1)) → Sounding b g
+    go : (t : Bool) → eqb b 255 ≡ t → T (is_gate_right (cond t None (Some b)) (eqb g 1)) → Sounding b g
     go true e s =
         let z = eqb-true b 255 e in
         record { a_note_or_none = inr z; gate-up = λ n. absurd (n z); gate-down = λ n. two g h (eqb-false g 1 (is_false (eqb g 1) s)) }
@@ -71,7 +71,7 @@ says_sounding b g h = go (eqb b 255) refl
 sounding_is : (b g : ℕ) → Sounding b g → T (is_gate_right (active_of b) (eqb g 1))
 sounding_is b g s = go (eqb b 255) refl
   where
-    go : (t : Bool) → eqb b 255 ≡ t → T (is_gate_right (cond t Silent (Note b)) (eqb g 1))
+    go : (t : Bool) → eqb b 255 ≡ t → T (is_gate_right (cond t None (Some b)) (eqb g 1))
     go true e = rw (s.gate-down (eqb-true b 255 e)) tt
     go false e =
         let n = eqb-false b 255 e in

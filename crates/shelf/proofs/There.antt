@@ -1,5 +1,7 @@
 -- The words of a state are an entry, and are read as that state. Assumes that the state is within its limits and has
 -- values of its types (`Fitting`), as every state of a program has, and nothing else.
+use Rattle.std.specs.Prelude.{Option, Some, None}
+use Rattle.std.specs.Bool.{then_some}
 use mathlib.Core.Path.{◌≡◌, refl, ◌∙◌}
 use mathlib.Core.Bool.{Bool, true, false}
 use mathlib.Core.List.{List, [], ◌∷◌}
@@ -15,8 +17,6 @@ use Rattle.envelope.proofs.Holds.{Held}
 use Rattle.envelope.specs.declared.EnvelopeStage.{EnvelopeStage}
 use Rattle.envelope.specs.declared.EnvelopeStage.TheVariants.{Idle, Attack, Decay, Sustain, Release}
 use Rattle.voice.specs.Keys.{is_gate_right, is_keys}
-use Rattle.voice.specs.declared.keys.ActiveNote.{ActiveNote}
-use Rattle.voice.specs.declared.keys.ActiveNote.TheVariants.{Silent, Note}
 use Rattle.voice.specs.declared.keys.Keys.{Keys}
 use Rattle.voice.proofs.Limits.{keys_sound, keys-few}
 use Rattle.state.specs.declared.State.{State}
@@ -51,16 +51,16 @@ stage_low Decay = refl
 stage_low Sustain = refl
 stage_low Release = refl
 
-note-low : (n : ℕ) (g : Bool) → T (is_gate_right (Note n) g) → n ≤ 127
+note-low : (n : ℕ) (g : Bool) → T (is_gate_right (Some n) g) → n ≤ 127
 note-low n g t = leb→le n 127 (and_l (leb n 127) g t)
 
-pub active-low : (a : ActiveNote) (g : Bool) → T (is_gate_right a g) → active_byte a < 256
-active-low Silent g t = lit< tt
-active-low (Note n) g t = omega (arith, note-low n g t)
+pub active-low : (a : Option ℕ) (g : Bool) → T (is_gate_right a g) → active_byte a < 256
+active-low None g t = lit< tt
+active-low (Some n) g t = omega (arith, note-low n g t)
 
-active_back : (a : ActiveNote) (g : Bool) → T (is_gate_right a g) → active_of (active_byte a) ≡ a
-active_back Silent g t = refl
-active_back (Note n) g t =
+active_back : (a : Option ℕ) (g : Bool) → T (is_gate_right a g) → active_of (active_byte a) ≡ a
+active_back None g t = refl
+active_back (Some n) g t =
     let l = note-low n g t in
     rw (ne_eqb n 255 (λ e. omega arith)) refl
 
@@ -157,6 +157,22 @@ entry_stage : (v : State) → leb (get_or (entry_of v) 1 0) 4 ≡ true
 unfolding entry_of
 entry_stage v = stage_low v.envelope.stage
 
-pub encode-decode : (v : State) → Fitting v → is_state v ≡ true → decoded_of (entry_of v) ≡ record { valid = true; state = v }
+pub encode-decode : (v : State) → Fitting v → is_state v ≡ true → decoded_of (entry_of v) ≡ Some v
 unfolding is_entry
 encode-decode v f h = rw (entry_length v, entry_stage v, state_back v f h, h) refl
+
+-- words with a state are an entry, and are read as that state
+pub decoded-there : (ws : List ℕ) (v : State) → decoded_of ws ≡ Some v → (is_entry ws ≡ true) × (state_of ws ≡ v)
+decoded-there ws v = go (is_entry ws) refl
+  where
+    go : (t : Bool) → is_entry ws ≡ t → then_some t (state_of ws) ≡ Some v → (is_entry ws ≡ true) × (state_of ws ≡ v)
+    go true e d = (e, cc)
+    go false e d = cc
+
+-- words with none are no entry
+pub decoded-none : (ws : List ℕ) → decoded_of ws ≡ None → is_entry ws ≡ false
+decoded-none ws = go (is_entry ws) refl
+  where
+    go : (t : Bool) → is_entry ws ≡ t → then_some t (state_of ws) ≡ None → is_entry ws ≡ false
+    go true e d = cc
+    go false e d = e

@@ -1,57 +1,44 @@
--- Words compared one by one, without the number of records acted: what one difference decides, and what none does.
--- Assumes nothing.
+-- Words compared in three parts: those before the number of records acted, the word that has it, without it, and those
+-- after it. Assumes nothing.
 use mathlib.Core.Path.{◌≡◌, refl, sym, ap, ◌∙◌}
-use mathlib.Core.Bool.{Bool, true, false, cond}
-use mathlib.Core.List.{List}
-use Prim.Native.Nat.{ℕ, suc, ◌%◌, ◌≤◌, ◌<◌}
+use mathlib.Core.Bool.{false, ◌&&◌, and_assoc}
+use mathlib.Core.List.{List, [], ◌∷◌}
+use Prim.Native.Nat.{ℕ, zero, suc, ◌-◌, ◌%◌, ◌≤◌, ◌<◌}
 use native.Mathlib.Nat.{add-zero}
 use native.Mathlib.Omega.{arith}
-use borrow.Author.Tests.{eqb-true, eqb-false}
 use lib.Dec.{eqb}
-use lib.ListN.{length, get_or, take, length-set}
-use lib.Seq.{take-suc, take_all, get_or-set_same, get_or-set_other}
+use lib.ListN.{length, get_or, take, drop, set, length-set, length-drop}
+use lib.Seq.{take_all}
+use lib.Pointwise.{pointwise}
 use Rattle.words.specs.Words.{same}
-use Rattle.words.proofs.Same.{same-equal, equal-same}
+use Rattle.words.proofs.Same.{unlike-same}
 use Rattle.shelf.specs.Shelf.{with_count}
 
--- what is compared of word i
-abbrev pub part : ℕ → ℕ → ℕ
-part w i = cond (eqb i 5) (w % 65536) w
+-- slices are compared as `same` compares lists
+same_as : (xs ys : List ℕ) → pointwise eqb xs ys ≡ same xs ys
+unfolding same
+same_as [] [] = refl
+same_as [] (y ∷ ys) = refl
+same_as (x ∷ xs) [] = refl
+same_as (x ∷ xs) (y ∷ ys) = rw (same_as xs ys) refl
 
-part_at : (ws : List ℕ) (i : ℕ) → i < length ws → get_or (with_count ws 0) i 0 ≡ part (get_or ws i 0) i
-part_at ws i h = go (eqb i 5) refl
-  where
-    go : (t : Bool) → eqb i 5 ≡ t → get_or (with_count ws 0) i 0 ≡ cond t (get_or ws i 0 % 65536) (get_or ws i 0)
-    go true e = let f = eqb-true i 5 e in rw f (get_or-set_same ws 5 _ 0 (omega arith) ∙ add-zero _)
-    go false e = get_or-set_other ws 5 i _ 0 (eqb-false i 5 e)
+-- words with another word n
+parts-same : (n p q : ℕ) (xs ys : List ℕ) → n < length xs → n < length ys → same (take n xs) (take n ys) && eqb p q && same (drop (suc n) xs) (drop (suc n) ys) ≡ same (set xs n p) (set ys n q)
+unfolding same
+parts-same n p q [] ys h l = absurd (omega arith)
+parts-same n p q (x ∷ xs) [] h l = absurd (omega arith)
+parts-same zero p q (x ∷ xs) (y ∷ ys) h l = refl
+parts-same (suc n) p q (x ∷ xs) (y ∷ ys) h l = rw (← parts-same n p q xs ys (omega arith) (omega arith)) (simp and_assoc)
+
+renewed : (xs : List ℕ) → with_count xs 0 ≡ set xs 5 (get_or xs 5 0 % 65536)
+renewed xs = ap (λ (w : ℕ). set xs 5 w) (add-zero (get_or xs 5 0 % 65536))
 
 module _ (xs ys : List ℕ) where
-  abbrev alike : Bool
-  alike = same (with_count xs 0) (with_count ys 0)
+  pub other_length : (length xs ≡ length ys → ⊥) → same (with_count xs 0) (with_count ys 0) ≡ false
+  other_length n = unlike-same _ _ (λ e. n (sym (length-set xs 5 _) ∙ ap length e ∙ length-set ys 5 _))
 
-  -- not the same, if one fact of equal lists fails
-  unlike : ((with_count xs 0 ≡ with_count ys 0) → ⊥) → alike ≡ false
-  unlike n = go alike refl
-    where
-      go : (t : Bool) → alike ≡ t → t ≡ false
-      go true e = absurd (n (same-equal _ _ e))
-      go false e = refl
-
-  pub other_length : (length xs ≡ length ys → ⊥) → alike ≡ false
-  other_length n = unlike (λ e. n (sym (length-set xs 5 _) ∙ ap length e ∙ length-set ys 5 _))
-
-  module _ (i : ℕ) (hx : i < length xs) (hy : i < length ys) where
-    pub other_word : (part (get_or xs i 0) i ≡ part (get_or ys i 0) i → ⊥) → alike ≡ false
-    other_word n = unlike (λ e. n (sym (part_at xs i hx) ∙ ap (λ (l : List ℕ). get_or l i 0) e ∙ part_at ys i hy))
-
-    pub same_on : take i (with_count xs 0) ≡ take i (with_count ys 0) → part (get_or xs i 0) i ≡ part (get_or ys i 0) i → take (suc i) (with_count xs 0) ≡ take (suc i) (with_count ys 0)
-    same_on e p =
-        let lx : i < length (with_count xs 0) = rw (length-set xs 5 _) hx in
-        let ly : i < length (with_count ys 0) = rw (length-set ys 5 _) hy in
-        rw (take-suc (with_count xs 0) i 0 lx, take-suc (with_count ys 0) i 0 ly, part_at xs i hx, part_at ys i hy, e, p) refl
-
-  pub same_all : (i : ℕ) → length xs ≤ i → length ys ≤ i → take i (with_count xs 0) ≡ take i (with_count ys 0) → alike ≡ true
-  same_all i hx hy e =
-      let lx : length (with_count xs 0) ≤ i = rw (length-set xs 5 _) hx in
-      let ly : length (with_count ys 0) ≤ i = rw (length-set ys 5 _) hy in
-      equal-same _ _ (sym (take_all i (with_count xs 0) lx) ∙ e ∙ take_all i (with_count ys 0) ly)
+  pub parts_decide : length xs ≡ 13 → length ys ≡ 13 → pointwise eqb (take 5 xs) (take 5 ys) && eqb (get_or xs 5 0 % 65536) (get_or ys 5 0 % 65536) && pointwise eqb (take (length xs - 6) (drop 6 xs)) (take 7 (drop 6 ys)) ≡ same (with_count xs 0) (with_count ys 0)
+  parts_decide hx hy =
+      let lx : length (drop 6 xs) ≤ length xs - 6 = omega (arith, length-drop 6 xs) in
+      let ly : length (drop 6 ys) ≤ 7 = omega (arith, length-drop 6 ys) in
+      rw (renewed xs, renewed ys, take_all (length xs - 6) (drop 6 xs) lx, take_all 7 (drop 6 ys) ly, same_as (take 5 xs) (take 5 ys), same_as (drop 6 xs) (drop 6 ys)) (parts-same 5 _ _ xs ys (omega arith) (omega arith))

@@ -9,20 +9,19 @@
 -- Here thirteen words are read as a state, and the state is tested by `is_state`. proofs/Sentence.antt says the test
 -- word by word, as 01 and 02 do, and proves that it is the same; `decode-encode` of proofs/Back.antt proves that no bit
 -- of an entry is ignored. Definitions only.
-use Rattle.std.specs.Prelude.{Bool, true, false, cond, ◌&&◌, List, [], ◌∷◌, ◌++◌, ℕ, ◌+◌, ◌-◌, ◌*◌, ◌/◌, ◌%◌, eqb, leb, length, get_or, set, take, drop, Float}
+use Rattle.std.specs.Prelude.{Bool, true, false, cond, ◌&&◌, List, [], ◌∷◌, ◌++◌, ℕ, ◌+◌, ◌-◌, ◌*◌, ◌/◌, ◌%◌, eqb, leb, length, get_or, set, take, drop, Float, Option, Some, None}
+use Rattle.std.specs.Bool.{then_some}
+use Rattle.std.specs.Int.{to_le_bytes, w64}
 use Rattle.std.specs.Float.{binary64}
 use Rattle.std.specs.Float.Ieee.{of_bits, to_bits}
 use Rattle.envelope.specs.declared.Envelope.{Envelope}
 use Rattle.envelope.specs.declared.EnvelopeStage.{EnvelopeStage}
 use Rattle.envelope.specs.declared.EnvelopeStage.TheVariants.{Idle, Attack, Decay, Sustain, Release}
-use Rattle.voice.specs.declared.keys.ActiveNote.{ActiveNote}
-use Rattle.voice.specs.declared.keys.ActiveNote.TheVariants.{Silent, Note}
 use Rattle.voice.specs.declared.keys.Keys.{Keys}
 use Rattle.words.specs.Words.{same}
 use Rattle.waveform.specs.Waveform.{radians}
 use Rattle.state.specs.declared.State.{State}
 use Rattle.state.specs.Limits.{is_state}
-use Rattle.shelf.specs.declared.Entry.{Entry}
 
 -- ---- sizes
 -- the words of an entry
@@ -55,9 +54,9 @@ stage_word Sustain = 3
 stage_word Release = 4
 
 -- the note, or 255 for none
-abbrev pub active_byte : ActiveNote → ℕ
-active_byte Silent = 255
-active_byte (Note n) = n
+abbrev pub active_byte : Option ℕ → ℕ
+active_byte None = 255
+active_byte (Some n) = n
 
 -- 1 if the gate is up
 abbrev pub gate_bit : Bool → ℕ
@@ -113,8 +112,12 @@ abbrev pub stage_of : ℕ → EnvelopeStage
 stage_of w = cond (eqb w 0) Idle (cond (eqb w 1) Attack (cond (eqb w 2) Decay (cond (eqb w 3) Sustain Release)))
 
 -- 255 is none, any other byte a note
-abbrev pub active_of : ℕ → ActiveNote
-active_of b = cond (eqb b 255) Silent (Note b)
+abbrev pub active_of : ℕ → Option ℕ
+active_of b = cond (eqb b 255) None (Some b)
+
+-- byte `from` of pair k in words of pairs, four in a word: 0 is the note's, 1 the velocity's
+abbrev pub pair_byte : List ℕ → ℕ → ℕ → ℕ
+pair_byte ws from k = get_or (to_le_bytes w64 (get_or ws (k / 4) 0)) (2 * (k % 4) + from) 0
 
 -- the notes of the four pairs in word w, then l
 abbrev pub notes_then : ℕ → List ℕ → List ℕ
@@ -158,9 +161,9 @@ state_of ws =
 unfoldable pub is_entry : List ℕ → Bool
 is_entry ws = eqb (length ws) entry_words && leb (word ws 1) 4 && is_state (state_of ws)
 
--- whether the words are an entry, and the state that they are read as
-abbrev pub decoded_of : List ℕ → Entry
-decoded_of ws = record { valid = is_entry ws; state = state_of ws }
+-- the state of an entry, or None if the words are no entry
+abbrev pub decoded_of : List ℕ → Option State
+decoded_of ws = then_some (is_entry ws) (state_of ws)
 
 -- ---- a whole shelf: the words of its entries, one after the other
 unfoldable pub shelf_of : List State → List ℕ

@@ -1,15 +1,16 @@
 -- Two outcomes that meet a public function's statement are equal: each statement is an equation with one definition of
 -- specs/. Assumes nothing.
+use Rattle.std.specs.Prelude.{Result}
 use mathlib.Core.Path.{◌≡◌, sym, ◌∙◌}
 use mathlib.Core.List.{List}
 use Prim.Native.Nat.{ℕ}
 use lib.Ieee.{Float}
-use Rattle.answers.specs.declared.Value.{Value}
 use Rattle.sine.specs.Table.{quarter}
 use Rattle.sine.specs.Sine.{line_of, reading_in, reading_of, sine_of}
 use Rattle.sine.specs.Whole.{whole_wave, whole_reading}
+use Rattle.answers.specs.declared.Refusal.{Refusal}
 
-pub sine_unique : (u : Float) (r t : Value) → r ≡ sine_of u → t ≡ sine_of u → r ≡ t
+pub sine_unique : (u : Float) (r t : Result Float Refusal) → r ≡ sine_of u → t ≡ sine_of u → r ≡ t
 sine_unique u r t p q = p ∙ sym q
 
 pub reading_unique : (u r t : Float) → r ≡ reading_of u → t ≡ reading_of u → r ≡ t

@@ -61,6 +61,17 @@ module _ (W : List Float) where
           let few = whole-at_most p h in
           whole-at p (whole_part p) refl n ∙ ap (λ (i : ℕ). whole_line W i (p ⊖ float (pos (whole_part p)))) (sym (mod-eq_of_lt {n = whole_part p} {m = 4096} (omega (arith, n, few))))
 
+-- and so is that of a quarter wave
+pub point-near : (wave : List ℕ) (p : Float) → T (within zero64 steps p) → point_of wave p ≡ between_of wave (whole_part p % 4096) (p ⊖ float (pos (whole_part p)))
+point-near wave p h = go (eqb (whole_part p) 4096) refl
+  where
+    go : (t : Bool) → eqb (whole_part p) 4096 ≡ t → point_of wave p ≡ between_of wave (whole_part p % 4096) (p ⊖ float (pos (whole_part p)))
+    go true e = let l = eqb-true (whole_part p) 4096 e in point-last wave p l ∙ rw (none_left p h l, l) refl
+    go false e =
+        let n = eqb-false (whole_part p) 4096 e in
+        let few = whole-at_most p h in
+        point_at wave p (whole_part p) refl n ∙ ap (λ (i : ℕ). between_of wave i (p ⊖ float (pos (whole_part p)))) (sym (mod-eq_of_lt {n = whole_part p} {m = 4096} (omega (arith, n, few))))
+
 -- ---- b at a point is a at the next: within a quadrant, and over its end, where T[0] is 0
 next-within : (q j : ℕ) → start_of quarter q (j + 1) ≡ end_of quarter q j
 unfolding start_of end_of

@@ -8,17 +8,17 @@
 --
 -- T is an argument, so that a loop can be lent a table that is made once. The rule is one for all tables; the sine is
 -- the reading of `quarter`. Definitions only.
-use Rattle.std.specs.Prelude.{Bool, cond, List, ℕ, zero, suc, ◌+◌, ◌-◌, ◌/◌, ◌%◌, ℤ, pos, neg_ℤ, eqb, get_or, Float}
+use Rattle.std.specs.Prelude.{Bool, cond, List, ℕ, zero, suc, ◌+◌, ◌-◌, ◌/◌, ◌%◌, ℤ, pos, neg_ℤ, eqb, get_or, Float, Result}
 use Rattle.std.specs.Float.{binary64}
 use Rattle.std.specs.Float.Ieee.{of_bits, of_int}
 use Rattle.std.specs.Float.Ieee.Positive.{num, den}
 use Rattle.floats.specs.Range.{within}
 use Rattle.floats.specs.Double.{◌⊕◌, ◌⊖◌, ◌⊗◌, ◌⊘◌, zero64, one}
 use Rattle.answers.specs.declared.Refusal.TheVariants.{Argument}
-use Rattle.answers.specs.declared.Value.{Value}
 use Rattle.answers.specs.Order.{unless}
 use Rattle.answers.specs.Value.{value_or}
 use Rattle.sine.specs.Table.{quarter}
+use Rattle.answers.specs.declared.Refusal.{Refusal}
 
 -- 4096, and A = 2^30
 abbrev pub steps : Float
@@ -70,5 +70,5 @@ reading_in T u = cond (within zero64 one u) (point_of T (u ⊗ steps)) zero64
 abbrev pub reading_of : Float → Float
 reading_of u = reading_in quarter u
 
-abbrev pub sine_of : Float → Value
+abbrev pub sine_of : Float → Result Float Refusal
 sine_of u = value_or (unless (within zero64 one u) Argument) (reading_of u)

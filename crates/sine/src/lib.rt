@@ -2,20 +2,21 @@
 // in cycles, from 0 to 1. The original's `sin` and its table of f32 are not ported.
 #![tactic(auto)]
 
-ghost use Rattle.std.specs.Prelude.{◌≡◌, ◌≤◌, ◌<◌, T, length, get_or};
+ghost use Rattle.std.specs.Prelude.{◌≡◌, ◌≤◌, ◌<◌, T, List, ℕ, get_or};
+ghost use Rattle.std.specs.Float.{Float};
 ghost use Rattle.floats.specs.Range.{within};
 ghost use Rattle.floats.specs.Double.{zero64};
 ghost use Rattle.sine.specs.Table.{quarter};
 ghost use Rattle.sine.specs.Sine.{steps, whole_part, float, signed_of, line_of, between_of, point_of, reading_in, reading_of, sine_of};
-ghost use Rattle.sine.specs.Whole.{whole_wave, whole_point_of, whole_reading};
+ghost use Rattle.sine.specs.Whole.{whole_wave, whole_line, whole_point_of, whole_reading};
 ghost use Rattle.sine.specs.Inner.{Unfolded};
 
-use answers::{Refusal, Value};
+use answers::Refusal;
 
 mod table;
 
 // The sine of u cycles, for a u from 0 to 1.
-pub fn sine(u: f64) -> Value
+pub fn sine(u: f64) -> Result<f64, Refusal>
     ensures { result ≡ sine_of u }
 {
     answers::value_if(
@@ -46,21 +47,22 @@ pub fn reading_in(wave: &[u32; 1025], u: f64) -> f64
     ensures { result ≡ reading_in wave.now u }
 {
     if floats::is_within(0.0, 1.0, u) {
-        return point(wave, u * 4096.0);
+        let (i, f) = place(u * 4096.0);
+        return between(wave, i, f);
     }
     0.0
 }
 
-// At p points from the start of the wave, which has 4,096.
-fn point(wave: &[u32; 1025], p: f64) -> f64
+// Which of the wave's 4,096 points p lies at or behind, and how far behind it. The end of the wave is its start: there
+// nothing is left, so that a remainder gives the point.
+fn place(p: f64) -> (u32, f64)
     requires { T (within zero64 steps p) }
-    ensures { result ≡ point_of wave.now p }
+    ensures inside { result.0 < 4096 }
+    ensures quarter { (wave : List ℕ) → between_of wave result.0 result.1 ≡ point_of wave p }
+    ensures whole { (wave : List Float) → whole_line wave result.0 result.1 ≡ whole_point_of wave p }
 {
     let i = whole_part(p);
-    if i == 4096 {
-        return between(wave, 0, 0.0);
-    }
-    between(wave, i, p - i as f64)
+    (i % 4096, p - i as f64)
 }
 
 // From the bits: what is below 1 has none.
@@ -141,10 +143,8 @@ fn rise(table: &[u32; 1025], wave: &mut [f64; 4097])
     requires { (table.now ≡ quarter) × Unfolded 0 wave.old }
     ensures { Unfolded 1025 wave.new }
 {
-    let mut k = 0;
-    while k < 1025 {
+    for k in 0..1025 {
         wave[k] = table[k] as f64;
-        k += 1;
     }
 }
 
@@ -153,10 +153,8 @@ fn fall(wave: &mut [f64; 4097])
     requires { Unfolded 1025 wave.old }
     ensures { Unfolded 2048 wave.new }
 {
-    let mut k = 0;
-    while k < 1023 {
+    for k in 0..1023 {
         wave[1025 + k] = wave[1023 - k];
-        k += 1;
     }
 }
 
@@ -165,10 +163,8 @@ fn negate(wave: &mut [f64; 4097])
     requires { Unfolded 2048 wave.old }
     ensures { Unfolded 4097 wave.new }
 {
-    let mut k = 0;
-    while k < 2049 {
+    for k in 0..2049 {
         wave[2048 + k] = 0.0 - wave[k];
-        k += 1;
     }
 }
 
@@ -181,19 +177,9 @@ pub fn whole_reading(wave: &[f64], u: f64) -> f64
         return 0.0;
     }
     if floats::is_within(0.0, 1.0, u) {
-        return whole_point(wave, u * 4096.0);
+        let (i, f) = place(u * 4096.0);
+        let i = i as usize;
+        return line(wave[i], wave[i + 1], f);
     }
     0.0
-}
-
-fn whole_point(wave: &[f64], p: f64) -> f64
-    requires wave_len { length wave.now ≡ 4097 }
-    requires t { T (within zero64 steps p) }
-    ensures { result ≡ whole_point_of wave.now p }
-{
-    let i = whole_part(p) as usize;
-    if i == 4096 {
-        return line(wave[0], wave[1], 0.0);
-    }
-    line(wave[i], wave[i + 1], p - i as f64)
 }

@@ -1,6 +1,6 @@
 -- The records at n act, one after the other: a turn of the loop, and its end. Assumes nothing.
 use mathlib.Core.Path.{◌≡◌, refl}
-use mathlib.Core.Bool.{Bool, true, false, cond}
+use mathlib.Core.Bool.{true, false}
 use mathlib.Core.List.{List}
 use Prim.Native.Nat.{ℕ, zero, suc, ◌+◌, ◌-◌, ◌<◌}
 use native.Mathlib.Numerals.{add-one}
@@ -13,7 +13,7 @@ use Rattle.state.specs.declared.Settings.{Settings}
 use Rattle.state.specs.declared.State.{State}
 use Rattle.state.specs.State.{reduced_of, event_of, act_of}
 use Rattle.spans.specs.declared.Place.{Place}
-use Rattle.spans.specs.Walk.{place_of, is_due_at, act_from, begins_at, reduced_at, begun_from}
+use Rattle.spans.specs.Walk.{place_of, is_due_at, act_from, begins_at, begun_from}
 
 pub act_stop : (g : Settings) (s : List ℕ) (n k : ℕ) (p : Place) → is_due_at s p.next n ≡ false → act_from g s n k p ≡ p
 unfolding act_from
@@ -29,11 +29,11 @@ module _ (g : Settings) (s : List ℕ) (n i : ℕ) (v : State) where
   unfolding act_from
   act_on p t e = let h = is-there s n i t in let d : count_of s - i ≡ suc (count_of s - (i + 1)) = omega arith in rw (e, d, t, add-one i) refl
 
-  -- reducing the phase in the state first, and then making the place, is beginning the sample
-  pub begun_by : act_from g s n (count_of s - i) (place_of (cond (begins_at s i n) (reduced_of v) v) i) ≡ begun_from g s n (place_of v i)
+  -- a sample is begun with the phases reduced, where a span begins, or as they are
+  pub begun_on : begins_at s i n ≡ true → act_from g s n (count_of s - i) (place_of (reduced_of v) i) ≡ begun_from g s n (place_of v i)
   unfolding begun_from
-  begun_by = go (begins_at s i n)
-    where
-      go : (t : Bool) → act_from g s n (count_of s - i) (place_of (cond t (reduced_of v) v) i) ≡ act_from g s n (count_of s - i) (cond t (reduced_at (place_of v i)) (place_of v i))
-      go true = refl
-      go false = refl
+  begun_on t = rw t refl
+
+  pub begun_off : begins_at s i n ≡ false → act_from g s n (count_of s - i) (place_of v i) ≡ begun_from g s n (place_of v i)
+  unfolding begun_from
+  begun_off f = rw f refl

@@ -1,7 +1,7 @@
 -- What private functions are held to: a span, and a walk through a part of the output with the position of the next
 -- record already read, as the loop over the spans keeps it. No public statement cites these definitions. Definitions
 -- only.
-use Rattle.std.specs.Prelude.{List, ◌≡◌, Bool, true, false, ◌&&◌, ◌||◌, ℕ, ◌+◌, ◌%◌, ◌<◌, ◌≤◌, length, get_or, Float, T, eqb}
+use Rattle.std.specs.Prelude.{List, ◌≡◌, Bool, true, false, ◌||◌, ℕ, ◌+◌, ◌%◌, ◌<◌, ◌≤◌, length, get_or, Float, T, eqb, Option, Some, None}
 use Rattle.std.specs.Float.{nan, binary64}
 use Rattle.std.specs.Float.Ieee.{fits}
 use Rattle.runs.specs.Runs.{repeated, listed}
@@ -57,9 +57,14 @@ abbrev pub place_in : Walker → Place
 place_in w = place_of w.state w.next
 
 -- ---- offsets m in a part that begins at position n
+-- whether a record is due, and at offset m
+abbrev pub is_at : Option ℕ → ℕ → Bool
+is_at None m = false
+is_at (Some due) m = eqb due m
+
 -- whether the next record is at offset m
 abbrev pub is_due_in : Walker → ℕ → Bool
-is_due_in w m = w.waits && eqb w.due m
+is_due_in w m = is_at w.due m
 
 -- whether offset m is at a multiple of 64
 abbrev pub is_block_start : ℕ → ℕ → Bool

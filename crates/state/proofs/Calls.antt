@@ -4,6 +4,7 @@
 -- reset sets them to 0.
 -- On a state within its limits, whatever its phases, and with note and velocity up to 127 both calls are done; and a
 -- fresh state has the fields of a new voice and a new block. Assumes nothing.
+use Rattle.std.specs.Prelude.{Ok}
 use mathlib.Core.Path.{◌≡◌, refl, sym, ap, ◌∙◌}
 use mathlib.Core.Bool.{Bool, true, false, not, cond, ◌&&◌}
 use mathlib.Core.List.{List}
@@ -15,16 +16,16 @@ use Rattle.floats.specs.Range.{zero_of, one_of}
 use Rattle.floats.specs.Double.{zero64, one}
 use Rattle.floats.proofs.Literals.{zero_of-is, one_of-is}
 use Rattle.domain.specs.Domain.{is_midi, highest_pitch, is_pitch}
-use Rattle.answers.specs.declared.Answer.TheVariants.{Done}
 use Rattle.answers.specs.declared.Refusal.{Refusal}
 use Rattle.answers.specs.declared.Refusal.TheVariants.{Argument}
 use Rattle.answers.specs.Order.{unless}
 use Rattle.answers.proofs.Order.{none-refused}
 use Rattle.voice.specs.Keys.{pressed_of, lifted_of, is_keys}
-use Rattle.voice.specs.Voice.{is_loud, is_voice, is_released, changed_or, sounding_of, after_lift_of}
+use Rattle.voice.specs.Voice.{is_loud, is_voice, is_released, sounding_of, after_lift_of}
 use Rattle.voice.specs.Voice as voice
 use Rattle.voice.specs.declared.VoiceState.{VoiceState}
-use Rattle.voice.specs.declared.Changed.{Changed}
+use Rattle.answers.specs.Changed.{changed_or}
+use Rattle.answers.specs.declared.Changed.{Changed}
 use Rattle.voice.specs.declared.keys.Keys.{Keys}
 use Rattle.voice.specs.declared.keys.NoteOff.{NoteOff}
 use Rattle.voice.specs.declared.keys.NoteOff.TheVariants.{Released, FellBack, NoChange}
@@ -48,10 +49,10 @@ use Rattle.state.specs.Calls.{Alike, voice_call, skips_on, called_if, envelope_c
 use Rattle.state.proofs.Limits.{is_true, Kept, EventIn}
 
 -- ---- what a call leaves that is done
-voice_left : (refusals : List Refusal) (before after : VoiceState) → (changed_or refusals before after).answer ≡ Done 0 → (changed_or refusals before after).voice ≡ after
-voice_left refusals before after d = rw (none-refused refusals _ _ (λ (r : Changed). r.answer) 0 (λ why. refl) d) refl
+voice_left : (refusals : List Refusal) (before after : VoiceState) → (changed_or refusals before after).answer ≡ Ok 0 → (changed_or refusals before after).state ≡ after
+voice_left refusals before after d = rw (none-refused refusals _ _ (λ (r : Changed VoiceState). r.answer) 0 (λ why. refl) d) refl
 
-block_left : (b : EnvelopeBlock) (e : Envelope) → (changed_of b e).answer ≡ Done 0 → (changed_of b e).block.envelope ≡ e
+block_left : (b : EnvelopeBlock) (e : Envelope) → (changed_of b e).answer ≡ Ok 0 → (changed_of b e).block.envelope ≡ e
 block_left b e d = rw (none-refused (unless (is_envelope b.envelope) Argument) _ _ (λ (r : Processed). r.answer) 0 (λ why. refl) d) refl
 
 -- ---- frequency and velocity as f32 and as f64
@@ -92,11 +93,11 @@ module _ (g : Settings) (v : State) (w : VoiceState) (b : EnvelopeBlock) (a : Al
   skip_is Struck = refl
   skip_is Joined = refl
 
-  on_block : (t : Bool) → (called_if t b (envelope.note_on_of b)).answer ≡ Done 0 → (called_if t b (envelope.note_on_of b)).block.envelope ≡ triggered_if t b.envelope
+  on_block : (t : Bool) → (called_if t b (envelope.note_on_of b)).answer ≡ Ok 0 → (called_if t b (envelope.note_on_of b)).block.envelope ≡ triggered_if t b.envelope
   on_block true d = block_left b (triggered_of b.envelope) d
   on_block false d = refl
 
-  off_block : (r : Bool) → (called_if r b (envelope.note_off_of b)).answer ≡ Done 0
+  off_block : (r : Bool) → (called_if r b (envelope.note_off_of b)).answer ≡ Ok 0
       → (called_if r b (envelope.note_off_of b)).block.envelope ≡ cond r (released_of b.envelope) b.envelope
   off_block true d = block_left b (released_of b.envelope) d
   off_block false d = refl
@@ -106,14 +107,14 @@ module _ (g : Settings) (v : State) (w : VoiceState) (b : EnvelopeBlock) (a : Al
   unfolding act_of
   lift-is note = ap (λ (keys : Keys). after_note_off v (lifted_of keys note).keys (lifted_of keys note).off) a.keys
 
-  lift_alike : (note : ℕ) → (voice_call w (event.Lift note)).answer ≡ Done 0 → (envelope_call g w b (event.Lift note)).answer ≡ Done 0
-      → Alike (act_of g v (event.Lift note)) (voice_call w (event.Lift note)).voice (envelope_call g w b (event.Lift note)).block
+  lift_alike : (note : ℕ) → (voice_call w (event.Lift note)).answer ≡ Ok 0 → (envelope_call g w b (event.Lift note)).answer ≡ Ok 0
+      → Alike (act_of g v (event.Lift note)) (voice_call w (event.Lift note)).state (envelope_call g w b (event.Lift note)).block
   lift_alike note d f =
       let l = lifted_of w.keys note in
       rw (lift-is note, off-done w note d) (left_alike l.keys l.off _ (off_block (is_released l.off) (rw (off-done w note d) at f)))
 
   -- if both calls are done, they leave what the event does
-  pub calls_act : (e : Event) → (voice_call w e).answer ≡ Done 0 → (envelope_call g w b e).answer ≡ Done 0 → Alike (act_of g v e) (voice_call w e).voice (envelope_call g w b e).block
+  pub calls_act : (e : Event) → (voice_call w e).answer ≡ Ok 0 → (envelope_call g w b e).answer ≡ Ok 0 → Alike (act_of g v e) (voice_call w e).state (envelope_call g w b e).block
   unfolding act_of
   calls_act (event.Strike note velocity) d f =
       let after = sounding_of (pressed_of w.keys note velocity) note velocity in
@@ -128,7 +129,7 @@ module _ (g : Settings) (v : State) (w : VoiceState) (b : EnvelopeBlock) (a : Al
   calls_act event.Reset d f = let left = voice_left (unless (is_voice w) Argument) w voice.new_of d in record { keys = rw left refl; frequency = rw left same_pitch; velocity = rw left same-zero; envelope = rw (block_left b stages.fresh_of f) refl }
 
   -- the envelope is released exactly if the voice's note_off says released
-  pub released_decides : (note : ℕ) → (voice.note_off_of w note).answer ≡ Done 0 → (act_of g v (event.Lift note)).envelope ≡ cond (is_released (voice.note_off_of w note).off) (released_of v.envelope) v.envelope
+  pub released_decides : (note : ℕ) → (voice.note_off_of w note).answer ≡ Ok 0 → (act_of g v (event.Lift note)).envelope ≡ cond (is_released (voice.note_off_of w note).off) (released_of v.envelope) v.envelope
   released_decides note d =
       let l = lifted_of w.keys note in
       rw (lift-is note, off-done w note d) (left-envelope v l.keys l.off)
@@ -162,15 +163,15 @@ module _ (g : Settings) (P : Float → Type 0) (v : State) (k : Kept P v) (w : V
   block_in : is_envelope b.envelope ≡ true
   block_in = is_true (is_envelope b.envelope) (rw a.envelope at k.envelope_in_lem)
 
-  pub calls_done : (e : Event) → EventIn e → ((voice_call w e).answer ≡ Done 0) × ((envelope_call g w b e).answer ≡ Done 0)
+  pub calls_done : (e : Event) → EventIn e → ((voice_call w e).answer ≡ Ok 0) × ((envelope_call g w b e).answer ≡ Ok 0)
   calls_done (event.Strike note velocity) h = (rw (voice_in, le-leb note 127 h.0, le-leb velocity 127 h.1) refl, go (not (skips_on g.keying w)))
     where
-      go : (t : Bool) → (called_if t b (envelope.note_on_of b)).answer ≡ Done 0
+      go : (t : Bool) → (called_if t b (envelope.note_on_of b)).answer ≡ Ok 0
       go true = rw block_in refl
       go false = refl
   calls_done (event.Lift note) h = (rw (voice_in, le-leb note 127 h) refl, go (is_released (voice.note_off_of w note).off))
     where
-      go : (r : Bool) → (called_if r b (envelope.note_off_of b)).answer ≡ Done 0
+      go : (r : Bool) → (called_if r b (envelope.note_off_of b)).answer ≡ Ok 0
       go true = rw block_in refl
       go false = refl
   calls_done event.Reset h = (rw voice_in refl, rw block_in refl)

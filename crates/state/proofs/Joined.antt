@@ -2,6 +2,7 @@
 -- at a sample act one after the other; and that the envelope of an active note is open after every step, under any
 -- settings and for any score, if it was so before. So no key is joined to an envelope that is released or idle. Assumes
 -- nothing.
+use Rattle.std.specs.Prelude.{Option, Some, None}
 use mathlib.Core.Path.{◌≡◌, refl}
 use mathlib.Core.Bool.{Bool, true, false, not, cond}
 use mathlib.Core.List.{List, [], ◌∷◌, ◌++◌}
@@ -11,8 +12,6 @@ use lib.Ieee.{Float, le}
 use Rattle.floats.specs.Double.{◌⊕◌, zero64, one}
 use Rattle.voice.specs.Keys.{Pair, keys_of, others, held_of, is_sounding, last_of, lifted_of}
 use Rattle.voice.specs.Voice.{is_note}
-use Rattle.voice.specs.declared.keys.ActiveNote.{ActiveNote}
-use Rattle.voice.specs.declared.keys.ActiveNote.TheVariants.{Silent, Note}
 use Rattle.voice.specs.declared.keys.AfterLift.{AfterLift}
 use Rattle.voice.specs.declared.keys.NoteOff.TheVariants.{Released, FellBack, NoChange}
 use Rattle.voice.proofs.Actions.{by_cases}
@@ -40,11 +39,11 @@ module _ (g : Settings) (v : State) (note velocity : ℕ) where
   unfolding act_of
   struck-triggers e = rw e refl
 
-  pub joined_runs_on : g.keying ≡ Joined → (n : ℕ) → v.keys.active ≡ Note n → act_of g v (event.Strike note velocity) ≡ with_envelope (always_triggered v note velocity) v.envelope
+  pub joined_runs_on : g.keying ≡ Joined → (n : ℕ) → v.keys.active ≡ Some n → act_of g v (event.Strike note velocity) ≡ with_envelope (always_triggered v note velocity) v.envelope
   unfolding act_of
   joined_runs_on e n a = rw (e, a) refl
 
-  pub joined_triggers : g.keying ≡ Joined → v.keys.active ≡ Silent → act_of g v (event.Strike note velocity) ≡ always_triggered v note velocity
+  pub joined_triggers : g.keying ≡ Joined → v.keys.active ≡ None → act_of g v (event.Strike note velocity) ≡ always_triggered v note velocity
   unfolding act_of
   joined_triggers e a = rw (e, a) refl
 
@@ -87,13 +86,13 @@ unfolding begun
 begins_all g s n v = acts_all g s n (count_of s) (cond (reduces_at s n) (reduced_of v) v)
 
 -- ---- an event keeps the envelope of an active note open
-if_note : (a : ActiveNote) → is_note a ≡ true → (b : Bool) → ((n : ℕ) → a ≡ Note n → b ≡ true) → b ≡ true
-if_note Silent e b f = let z : false ≡ true = e in cc
-if_note (Note n) e b f = f n refl
+if_note : (a : Option ℕ) → is_note a ≡ true → (b : Bool) → ((n : ℕ) → a ≡ Some n → b ≡ true) → b ≡ true
+if_note None e b f = let z : false ≡ true = e in cc
+if_note (Some n) e b f = f n refl
 
-sounds : (a : ActiveNote) (n : ℕ) → is_sounding a n ≡ true → is_note a ≡ true
-sounds Silent n e = let z : false ≡ true = e in cc
-sounds (Note m) n e = refl
+sounds : (a : Option ℕ) (n : ℕ) → is_sounding a n ≡ true → is_note a ≡ true
+sounds None n e = let z : false ≡ true = e in cc
+sounds (Some m) n e = refl
 
 strike-open : (k : Keying) (v : State) → OpenIfActive v → is_open (triggered_if (triggers_over k v.keys) v.envelope).stage ≡ true
 strike-open Struck v h = refl
@@ -109,18 +108,18 @@ lift-open v note h = by_cases v.keys note (λ (l : AfterLift). OpenIfActive (aft
     same : is_sounding v.keys.active note ≡ false → OpenIfActive (after_note_off v (keys_of v.keys.active v.keys.gate (others note (held_of v.keys))) NoChange)
     same e = h
 
-    none : is_sounding v.keys.active note ≡ true → others note (held_of v.keys) ≡ [] → OpenIfActive (after_note_off v (keys_of Silent false []) Released)
-    none e q n a = let z : Silent ≡ Note n = a in cc
+    none : is_sounding v.keys.active note ≡ true → others note (held_of v.keys) ≡ [] → OpenIfActive (after_note_off v (keys_of None false []) Released)
+    none e q n a = let z : None ≡ Some n = a in cc
 
     back : (p : Pair) (ps : List Pair) → is_sounding v.keys.active note ≡ true → others note (held_of v.keys) ≡ p ∷ ps
-        → OpenIfActive (after_note_off v (keys_of (Note (last_of p ps).note) v.keys.gate (p ∷ ps)) (FellBack (last_of p ps).note (last_of p ps).velocity))
+        → OpenIfActive (after_note_off v (keys_of (Some (last_of p ps).note) v.keys.gate (p ∷ ps)) (FellBack (last_of p ps).note (last_of p ps).velocity))
     back p ps e q n a = if_note v.keys.active (sounds v.keys.active note e) _ h
 
 pub act-open : (g : Settings) (v : State) (e : Event) → OpenIfActive v → OpenIfActive (act_of g v e)
 unfolding act_of
 act-open g v (event.Strike note velocity) h n a = strike-open g.keying v h
 act-open g v (event.Lift note) h n a = lift-open v note h n a
-act-open g v event.Reset h n a = let z : Silent ≡ Note n = a in cc
+act-open g v event.Reset h n a = let z : None ≡ Some n = a in cc
 
 -- ---- a sample keeps an open envelope open
 step-open : (k : Adsr) (t : Float) (e : Envelope) → is_open e.stage ≡ true → is_open (step_of k t e).stage ≡ true

@@ -2,6 +2,7 @@
 -- true of both phases, the oscillator's and the LFO's, and all other fields are within their limits. An event keeps
 -- both phases or sets them to 0, so the law is the same for every P that is true of 0.
 -- A state within the limits has no NaN and no infinity. Assumes nothing.
+use Rattle.std.specs.Prelude.{Ok, None}
 use mathlib.Core.Path.{◌≡◌, refl, sym, subst}
 use mathlib.Core.Bool.{Bool, true, false, not, cond, ◌&&◌}
 use mathlib.Core.List.{List, []}
@@ -21,7 +22,6 @@ use Rattle.pitch.specs.Pitch.{frequency_of}
 use Rattle.pitch.proofs.Rules.{frequency_in}
 use Rattle.voice.specs.Keys.{lifted_of, is_keys}
 use Rattle.voice.specs.Voice.{velocity_of}
-use Rattle.voice.specs.declared.keys.ActiveNote.TheVariants.{Silent}
 use Rattle.voice.specs.declared.keys.Keys.{Keys}
 use Rattle.voice.specs.declared.keys.NoteOff.{NoteOff}
 use Rattle.voice.specs.declared.keys.NoteOff.TheVariants.{Released, FellBack, NoChange}
@@ -33,7 +33,6 @@ use Rattle.envelope.proofs.Inside.{FiniteFields, finite_fields}
 use Rattle.envelope.proofs.Keeps.{fresh-accepted, triggered_keeps, released_keeps}
 use Rattle.score.specs.declared.Kind.{Kind}
 use Rattle.score.specs.declared.Kind.TheVariants.{On, Off, Reset}
-use Rattle.score.specs.declared.Verdict.TheVariants.{Accepted}
 use Rattle.score.specs.Record.{count_of, byte_at, record_at}
 use Rattle.score.specs.Score.{field_limit, verdict_of}
 use Rattle.score.proofs.Verdicts.{accepted_all}
@@ -179,7 +178,7 @@ module _ (P : Float → Type 0) (p : P zero64) where
         envelope_in_lem = fresh-accepted;
         pitch_in = unfold of_bits in unfold lt in unfold le in tt;
         velocity_in_lem = unfold of_bits in unfold le in tt;
-        keys_in = holds_limits Silent false [] tt (omega arith) (unfold AllRanged in tt);
+        keys_in = holds_limits None false [] tt (omega arith) (unfold AllRanged in tt);
         lfo_in = p;
       }
 
@@ -229,7 +228,7 @@ most_in b = go (eqb b 3)
 abbrev pub EventsIn : List ℕ → Type 0
 EventsIn s = (i : ℕ) → i < count_of s → EventIn (event_of (record_at s i))
 
-pub accepted_events : (s : List ℕ) (m : ℕ) → verdict_of s ≡ Accepted m → EventsIn s
+pub accepted_events : (s : List ℕ) (m : ℕ) → verdict_of s ≡ Ok m → EventsIn s
 accepted_events s m a i h =
     let all = accepted_all s m a in
     let size : length s ≡ m * 10 = all.size in

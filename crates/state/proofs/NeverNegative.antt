@@ -5,6 +5,7 @@
 -- 0 in `is_lfo`, and a rate at least 8,000 in `is_rate`, so that no step is negative (`pace_nonneg`); a sum of two
 -- numbers that are not negative is not (`add-ge0`); and a remainder has the sign of its phase (`rem-ge0`).
 -- The sustain setting is taken to be a value of an f64, as every f64 of a program is. Assumes nothing.
+use Rattle.std.specs.Prelude.{Ok}
 use mathlib.Core.Path.{◌≡◌, refl, ap, ◌∙◌}
 use mathlib.Core.Bool.{true}
 use mathlib.Core.List.{List}
@@ -14,7 +15,6 @@ use lib.Ieee.{binary64, fits}
 use Rattle.runs.proofs.Laws.{run-same}
 use Rattle.runs.proofs.Listed.{listed_same}
 use Rattle.floats.specs.Range.{nonneg}
-use Rattle.score.specs.declared.Verdict.TheVariants.{Accepted}
 use Rattle.score.specs.Score.{verdict_of}
 use Rattle.state.specs.declared.Settings.{Settings}
 use Rattle.state.specs.declared.State.{State}
@@ -27,7 +27,7 @@ use Rattle.state.proofs.Ladder.{reduce-is_rest}
 use Rattle.state.proofs.Stays.{others-kept}
 
 -- ---- from any state within the limits, at any position
-module _ (g : Settings) (ok : settings_ok g ≡ true) (w : T (fits binary64 g.adsr.sustain)) (s : List ℕ) (m : ℕ) (a : verdict_of s ≡ Accepted m) where
+module _ (g : Settings) (ok : settings_ok g ≡ true) (w : T (fits binary64 g.adsr.sustain)) (s : List ℕ) (m : ℕ) (a : verdict_of s ≡ Ok m) where
   module _ (n : ℕ) (v : State) (l : in_limits v ≡ true) where
     -- before every sample, and a phase is reduced at no other moment
     pub phase_nonnegative : (k : ℕ) → T (nonneg (state_from g s n v k).phase.0)

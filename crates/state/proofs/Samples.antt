@@ -2,6 +2,7 @@
 -- and with depth 0 it is the sample without tremolo. 02, R-7: "With depth 0 the samples equal the old ones as numbers";
 -- here to the bit, for 0 and -0. Two settings that differ in their LFO alone, both of depth 0, make the same samples.
 -- The floats of state and settings are taken to be values of an f64, as every f64 of a program is. Assumes nothing.
+use Rattle.std.specs.Prelude.{Ok}
 use mathlib.Core.Path.{◌≡◌, sym, ◌∙◌}
 use mathlib.Core.Bool.{true}
 use mathlib.Core.List.{List}
@@ -13,7 +14,6 @@ use Rattle.runs.proofs.Listed.{listed_same}
 use Rattle.floats.specs.Range.{nonneg}
 use Rattle.floats.proofs.Zeros.{Silent}
 use Rattle.tremolo.specs.declared.Lfo.{Lfo}
-use Rattle.score.specs.declared.Verdict.TheVariants.{Accepted}
 use Rattle.score.specs.Score.{verdict_of}
 use Rattle.state.specs.declared.Settings.{Settings}
 use Rattle.state.specs.declared.State.{State}
@@ -28,7 +28,7 @@ use Rattle.state.proofs.Stays.{Far, others-begun}
 use Rattle.state.proofs.Silence.{sample-finite, sample-is-dry}
 use Rattle.state.proofs.ButLfo.{dry-same}
 
-module _ (s : List ℕ) (m : ℕ) (a : verdict_of s ≡ Accepted m) (n : ℕ) where
+module _ (s : List ℕ) (m : ℕ) (a : verdict_of s ≡ Ok m) (n : ℕ) where
   module _ (g : Settings) (ok : settings_ok g ≡ true) (w : T (fits binary64 g.adsr.sustain)) (v : State) (f : Fitting v) (l : in_limits v ≡ true) where
     kept : (k : ℕ) → Kept (λ (x : Float). T (nonneg x)) (begun g s (n + k) (state_from g s n v k))
     kept k = weaken Far (λ (x : Float). T (nonneg x)) (begun g s (n + k) (state_from g s n v k)) (λ x o. o.not_negative) (others-begun g ok w s m a n v l k)

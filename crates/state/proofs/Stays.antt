@@ -5,6 +5,7 @@
 -- From any state within the limits, at any position, all fields but the phases stay within their limits, and no float
 -- becomes a NaN or an infinity. The sustain setting is taken to be a value of an f64, as every f64 of a program is.
 -- Assumes nothing.
+use Rattle.std.specs.Prelude.{Ok}
 use mathlib.Core.Path.{◌≡◌, refl}
 use mathlib.Core.Bool.{true}
 use mathlib.Core.List.{List}
@@ -26,7 +27,6 @@ use Rattle.envelope.specs.Limits.{ten}
 use Rattle.waveform.specs.Filled.{phase_from}
 use Rattle.waveform.specs.Waveform.{remainder_of}
 use Rattle.waveform.proofs.Values.{far}
-use Rattle.score.specs.declared.Verdict.TheVariants.{Accepted}
 use Rattle.score.specs.Score.{verdict_of}
 use Rattle.state.specs.declared.Settings.{Settings}
 use Rattle.state.specs.declared.State.{State}
@@ -113,7 +113,7 @@ drifts =
         record { not_negative = under (x ⊕ step) far (add-ge0 binary64 x step o.not_negative s) (unfold of_bits in tt) l; not-far = l }
 
 -- ---- the theorems
-module _ (g : Settings) (ok : settings_ok g ≡ true) (w : T (fits binary64 g.adsr.sustain)) (s : List ℕ) (m : ℕ) (a : verdict_of s ≡ Accepted m) where
+module _ (g : Settings) (ok : settings_ok g ≡ true) (w : T (fits binary64 g.adsr.sustain)) (s : List ℕ) (m : ℕ) (a : verdict_of s ≡ Ok m) where
   -- from any state within the limits at a multiple of 64
   module _ (n : ℕ) (at : n % 64 ≡ 0) (v : State) (l : in_limits v ≡ true) where
     start : Kept (Before n) v

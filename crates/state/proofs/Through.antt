@@ -2,6 +2,7 @@
 -- for an accepted score. The property must be true of 0, of a reduced phase, and of a phase that grew by at most 10.
 -- It may depend on the position, and be another before a sample is begun than after. The sustain setting is taken to be
 -- a value of an f64, as every f64 of a program is. Assumes nothing.
+use Rattle.std.specs.Prelude.{Ok}
 use mathlib.Core.Path.{◌≡◌}
 use mathlib.Core.Bool.{true, false, ◌&&◌}
 use mathlib.Core.List.{List}
@@ -17,7 +18,6 @@ use Rattle.envelope.proofs.Keeps.{step_keeps}
 use Rattle.waveform.specs.Waveform.{is_waveform, remainder_of}
 use Rattle.tremolo.specs.Tremolo.{is_lfo}
 use Rattle.tremolo.proofs.Limits.{lfo-frequency}
-use Rattle.score.specs.declared.Verdict.TheVariants.{Accepted}
 use Rattle.score.specs.Record.{record_at}
 use Rattle.score.specs.Score.{verdict_of}
 use Rattle.state.specs.declared.Settings.{Settings}
@@ -89,7 +89,7 @@ pub record Carried (P Q : ℕ → Float → Type 0) : Type 0 where
   pub left : (m : ℕ) (x : Float) → eqb (m % 64) 0 ≡ false → P m x → Q m x
   pub grown : (m : ℕ) (x step : Float) → T (nonneg step) → T (le step ten) → Q m x → P (suc m) (x ⊕ step)
 
-module _ (P Q : ℕ → Float → Type 0) (c : Carried P Q) (g : Settings) (ok : settings_ok g ≡ true) (w : T (fits binary64 g.adsr.sustain)) (s : List ℕ) (m : ℕ) (a : verdict_of s ≡ Accepted m) where
+module _ (P Q : ℕ → Float → Type 0) (c : Carried P Q) (g : Settings) (ok : settings_ok g ≡ true) (w : T (fits binary64 g.adsr.sustain)) (s : List ℕ) (m : ℕ) (a : verdict_of s ≡ Ok m) where
   carries : Lasting g s (λ (i : ℕ) (v : State). Kept (P i) v) (λ (i : ℕ) (v : State). Kept (Q i) v)
   carries =
       record {

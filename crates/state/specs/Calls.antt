@@ -6,12 +6,11 @@
 -- active note before the voice's `note_on` (02, R-9: "Demand 2's oracle skips the trigger in those cases").
 -- Frequency and velocity are f32 in a voice and f64 in a state. Every f32 is also an f64, so they are compared as
 -- numbers. Definitions only.
-use Rattle.std.specs.Prelude.{Bool, false, not, cond, ◌≡◌}
+use Rattle.std.specs.Prelude.{Bool, false, not, cond, ◌≡◌, Ok}
 use Rattle.floats.specs.Double.{zero64}
-use Rattle.answers.specs.declared.Answer.TheVariants.{Done}
+use Rattle.answers.specs.declared.Changed.{Changed}
 use Rattle.voice.specs.Voice as voice
 use Rattle.voice.specs.declared.VoiceState.{VoiceState}
-use Rattle.voice.specs.declared.Changed.{Changed}
 use Rattle.envelope.specs.Calls as envelope
 use Rattle.envelope.specs.declared.EnvelopeBlock.{EnvelopeBlock}
 use Rattle.envelope.specs.declared.Processed.{Processed}
@@ -32,9 +31,9 @@ pub record Alike (v : State) (w : VoiceState) (b : EnvelopeBlock) : Type 0 where
   pub envelope : v.envelope ≡ b.envelope
 
 -- ---- what an event calls
-abbrev pub voice_call : VoiceState → Event → Changed
+abbrev pub voice_call : VoiceState → Event → Changed VoiceState
 voice_call w (event.Strike note velocity) = voice.note_on_of w note velocity
-voice_call w (event.Lift note) = let off = voice.note_off_of w note in record { answer = off.answer; voice = off.voice }
+voice_call w (event.Lift note) = let off = voice.note_off_of w note in record { answer = off.answer; state = off.voice }
 voice_call w event.Reset = voice.reset_of w
 
 -- the envelope's note_on is skipped: under Joined, where the voice that came has an active note
@@ -44,7 +43,7 @@ skips_on Joined w = voice.is_note w.keys.active
 
 -- what a call of the envelope gives; or, where the call is skipped, Done 0 and the block as it came
 abbrev pub called_if : Bool → EnvelopeBlock → Processed → Processed
-called_if called b after = cond called after (record { answer = Done 0; block = b })
+called_if called b after = cond called after (record { answer = Ok 0; block = b })
 
 -- the envelope's note_on unless it is skipped, and its note_off if the voice's note_off says released
 abbrev pub envelope_call : Settings → VoiceState → EnvelopeBlock → Event → Processed

@@ -2,11 +2,10 @@
 -- leave the envelope running. A setting chooses joined or struck; struck is today's rule."
 -- The laws of proofs/Joined.antt and the claim `JoinedNotes` of the crate `demands` use these definitions. Definitions
 -- only.
-use Rattle.std.specs.Prelude.{◌≡◌, Bool, true, false, cond, List, [], ◌∷◌, ◌++◌, ℕ, zero, suc, eqb}
+use Rattle.std.specs.Prelude.{◌≡◌, Bool, true, false, cond, List, [], ◌∷◌, ◌++◌, ℕ, zero, suc, eqb, Some}
 use Rattle.pitch.specs.Pitch.{frequency_of}
 use Rattle.voice.specs.Keys.{pressed_of}
 use Rattle.voice.specs.Voice.{velocity_of}
-use Rattle.voice.specs.declared.keys.ActiveNote.TheVariants.{Note}
 use Rattle.voice.specs.declared.keys.Keys.{Keys}
 use Rattle.envelope.specs.Stages.{triggered_of}
 use Rattle.envelope.specs.declared.EnvelopeStage.{EnvelopeStage}
@@ -41,7 +40,7 @@ is_open Release = false
 
 -- if a note is active, the envelope is open
 abbrev pub OpenIfActive : State → Type 0
-OpenIfActive v = (n : ℕ) → v.keys.active ≡ Note n → is_open v.envelope.stage ≡ true
+OpenIfActive v = (n : ℕ) → v.keys.active ≡ Some n → is_open v.envelope.stage ≡ true
 
 -- g with another keying, v with other keys. Who adds a field to `Settings` adds it here, to `with_tremolo` of
 -- ButLfo.antt and to `settings_of` of the crate `ffi`, which name all fields

@@ -1,13 +1,13 @@
 // The voice's state, and the four steps that make a sample (01, "Making sample n"): reduce the phases, let records act,
 // take the sample, advance. A render, a continuing call and a re-render are these steps, counted from sample zero.
 // specs/Heart.antt defines which record acts when; the crates above do it.
-#![tactic(auto)]
+#![tactic(auto, unfolding(crate::specs::State::act_of, crate::specs::State::dry_of, crate::specs::State::sample_of, crate::specs::State::advance_of, crate::specs::Limits::in_limits, crate::specs::Limits::is_state))]
 
 ghost use Rattle.std.specs.Prelude.{◌≡◌};
 ghost use Rattle.voice.specs.Keys.{lifted_of};
 ghost use Rattle.state.specs.Limits.{in_limits, is_state};
 ghost use Rattle.state.specs.Settings.{settings_ok};
-ghost use Rattle.state.specs.State.{counted, fresh_of, with_note, acted_with, reduced_of, event_of, act_of, triggers, triggered_if, struck_of, after_note_off, next_envelope_of, dry_of, sample_of, advance_of};
+ghost use Rattle.state.specs.State.{fresh_of, with_note, acted_with, reduced_of, event_of, act_of, triggers, struck_of, after_note_off, next_envelope_of, dry_of, sample_of, advance_of};
 
 use envelope::{Adsr, Envelope};
 use score::{Kind, Record};
@@ -61,21 +61,17 @@ pub enum Event {
 pub fn is_settings(settings: Settings) -> bool
     ensures { result ≡ settings_ok settings }
 {
-    let waveform = settings.waveform;
-    let adsr = settings.adsr;
-    let lfo = settings.lfo;
     domain::is_rate(settings.rate)
-        & waveform::is_waveform(waveform)
-        & envelope::is_adsr(adsr)
-        & tremolo::is_lfo(lfo)
+        & waveform::is_waveform(settings.waveform)
+        & envelope::is_adsr(settings.adsr)
+        & tremolo::is_lfo(settings.lfo)
 }
 
 // Whether a state is within the limits of a shelf entry.
 pub fn is_state(state: State) -> bool
     ensures { result ≡ is_state state }
 {
-    let acted = state.acted;
-    in_limits(state) & (acted <= 0xffff_ffff_ffff)
+    in_limits(state) & (state.acted <= 0xffff_ffff_ffff)
 }
 
 // The state before sample zero.
@@ -89,26 +85,20 @@ pub fn fresh() -> State
 pub fn reduce(state: State) -> State
     ensures { result ≡ reduced_of state }
 {
-    let phase = waveform::remainder(state.phase);
-    let lfo = waveform::remainder(state.lfo);
-    let mut next = state;
-    next.phase = phase;
-    next.lfo = lfo;
-    next
+    State {
+        phase: waveform::remainder(state.phase),
+        lfo: waveform::remainder(state.lfo),
+        ..state
+    }
 }
 
 // An on strikes the key of its note, but with velocity 0 it lifts that key, as an off does (02, R-4); a reset resets.
 pub fn event_of(given: Record) -> Event
     ensures { result ≡ event_of given }
 {
-    let kind = given.kind;
-    match kind {
-        Kind::On => {
-            if given.velocity == 0 {
-                return Event::Lift(given.note);
-            }
-            Event::Strike(given.note, given.velocity)
-        }
+    match given.kind {
+        Kind::On if given.velocity == 0 => Event::Lift(given.note),
+        Kind::On => Event::Strike(given.note, given.velocity),
         Kind::Off => Event::Lift(given.note),
         Kind::Reset => Event::Reset,
     }
@@ -121,7 +111,7 @@ pub fn act(settings: Settings, state: State, event: Event) -> State
     match event {
         Event::Strike(note, velocity) => strike(settings, state, note, velocity),
         Event::Lift(note) => lift(state, note),
-        Event::Reset => fresh_after(one_more(state.acted)),
+        Event::Reset => fresh_after(state.acted.saturating_add(1)),
     }
 }
 
@@ -129,10 +119,8 @@ pub fn act(settings: Settings, state: State, event: Event) -> State
 pub fn sample_of(settings: Settings, state: State) -> f64
     ensures { result ≡ sample_of settings state }
 {
-    let lfo = settings.lfo;
-    let phase = state.lfo;
-    let step = waveform::increment(lfo.frequency, settings.rate);
-    dry(settings, state) * tremolo::factor(lfo, step, phase)
+    let step = waveform::increment(settings.lfo.frequency, settings.rate);
+    dry(settings, state) * tremolo::factor(settings.lfo, step, state.lfo)
 }
 
 // The sample without tremolo.
@@ -140,9 +128,7 @@ fn dry(settings: Settings, state: State) -> f64
     ensures { result ≡ dry_of settings state }
 {
     let step = waveform::increment(state.frequency, settings.rate);
-    let waveform = settings.waveform;
-    let phase = state.phase;
-    let value = waveform::wave_at(waveform, phase, step);
+    let value = waveform::wave_at(settings.waveform, state.phase, step);
     value * next_envelope(settings, state).level * state.velocity
 }
 
@@ -152,32 +138,24 @@ pub fn advance(settings: Settings, state: State) -> State
 {
     let step = waveform::increment(state.frequency, settings.rate);
     let lfo_step = waveform::increment(settings.lfo.frequency, settings.rate);
-    let phase = Radians(state.phase.0 + step.0);
-    let lfo = Radians(state.lfo.0 + lfo_step.0);
-    let envelope = next_envelope(settings, state);
-    let mut next = state;
-    next.phase = phase;
-    next.envelope = envelope;
-    next.lfo = lfo;
-    next
+    State {
+        phase: Radians(state.phase.0 + step.0),
+        envelope: next_envelope(settings, state),
+        lfo: Radians(state.lfo.0 + lfo_step.0),
+        ..state
+    }
 }
 
 // Whether all fields but the number of records acted are within their limits.
 fn in_limits(state: State) -> bool
     ensures { result ≡ in_limits state }
 {
-    let phase = state.phase.0;
-    let envelope = state.envelope;
-    let frequency = state.frequency;
-    let velocity = state.velocity;
-    let keys = state.keys;
-    let lfo = state.lfo.0;
-    domain::is_radians(phase)
-        & envelope::is_envelope(envelope)
-        & ((0.0 < frequency) & (frequency <= 12544.0))
-        & floats::is_within(0.0, 1.0, velocity)
-        & keys::is_keys(keys)
-        & domain::is_radians(lfo)
+    domain::is_radians(state.phase.0)
+        & envelope::is_envelope(state.envelope)
+        & ((0.0 < state.frequency) & (state.frequency <= 12544.0))
+        & floats::is_within(0.0, 1.0, state.velocity)
+        & keys::is_keys(state.keys)
+        & domain::is_radians(state.lfo.0)
 }
 
 fn fresh_after(acted: u64) -> State
@@ -198,9 +176,11 @@ fn strike(settings: Settings, state: State, note: u8, velocity: u8) -> State
     ensures { result ≡ struck_of settings state note velocity }
 {
     let keys = keys::pressed(state.keys, note, velocity);
-    let envelope = triggered_if(triggers(settings, state), state.envelope);
-    let mut next = with_note(acted_with(state, keys), note, velocity);
-    next.envelope = envelope;
+    let next = with_note(acted_with(state, keys), note, velocity);
+    if triggers(settings, state) {
+        let envelope = envelope::triggered(state.envelope);
+        return State { envelope, ..next };
+    }
     next
 }
 
@@ -208,42 +188,22 @@ fn strike(settings: Settings, state: State, note: u8, velocity: u8) -> State
 fn triggers(settings: Settings, state: State) -> bool
     ensures { result ≡ triggers settings state }
 {
-    let keying = settings.keying;
-    match keying {
+    match settings.keying {
         Keying::Struck => true,
         Keying::Joined => !voice::is_note(state.keys),
     }
-}
-
-fn triggered_if(triggers: bool, envelope: Envelope) -> Envelope
-    ensures { result ≡ triggered_if triggers envelope }
-{
-    if triggers {
-        return envelope::triggered(envelope);
-    }
-    envelope
 }
 
 fn lift(state: State, note: u8) -> State
     ensures { result ≡ after_note_off state (lifted_of state.keys note).keys (lifted_of state.keys note).off }
 {
     let after = keys::lifted(state.keys, note);
-    let keys = after.keys;
-    let off = after.off;
-    after_note_off(state, keys, off)
-}
-
-// The state after a key is lifted: `keys` are left, and `off` is what the lift does to the sound.
-fn after_note_off(state: State, keys: Keys, off: NoteOff) -> State
-    ensures { result ≡ after_note_off state keys off }
-{
-    let mut next = acted_with(state, keys);
-    match off {
-        NoteOff::Released => {
-            let envelope = envelope::released(state.envelope);
-            next.envelope = envelope;
-            next
-        }
+    let next = acted_with(state, after.keys);
+    match after.off {
+        NoteOff::Released => State {
+            envelope: envelope::released(state.envelope),
+            ..next
+        },
         NoteOff::FellBack(note, velocity) => with_note(next, note, velocity),
         NoteOff::NoChange => next,
     }
@@ -253,39 +213,31 @@ fn after_note_off(state: State, keys: Keys, off: NoteOff) -> State
 fn with_note(state: State, note: u8, velocity: u8) -> State
     ensures { result ≡ with_note state note velocity }
 {
-    let mut next = state;
-    next.frequency = pitch::frequency_of_f64(note);
-    next.velocity = voice::velocity_of_f64(velocity);
-    next
+    State {
+        frequency: pitch::frequency_of_f64(note),
+        velocity: voice::velocity_of_f64(velocity),
+        ..state
+    }
 }
 
 // These keys are held, and one more record has acted.
 fn acted_with(state: State, keys: Keys) -> State
     ensures { result ≡ acted_with state keys }
 {
-    let mut next = state;
-    next.keys = keys;
-    next.acted = one_more(state.acted);
-    next
+    State {
+        keys,
+        acted: state.acted.saturating_add(1),
+        ..state
+    }
 }
 
 // The envelope after the next sample.
 fn next_envelope(settings: Settings, state: State) -> Envelope
     ensures { result ≡ next_envelope_of settings state }
 {
-    let adsr = settings.adsr;
     envelope::step(
-        envelope::clamped(adsr),
+        envelope::clamped(settings.adsr),
         envelope::sample_time(settings.rate),
         state.envelope,
     )
-}
-
-fn one_more(acted: u64) -> u64
-    ensures { result ≡ counted acted }
-{
-    if acted < 0xffff_ffff_ffff_ffff {
-        return acted + 1;
-    }
-    acted
 }

@@ -1,11 +1,11 @@
--- A lent part is multiplied: one more sample, and all of them. Assumes nothing.
-use mathlib.Core.Path.{◌≡◌, refl, sym, ap, ◌∙◌}
+-- A lent part is multiplied: none of its samples, and one more. Assumes nothing.
+use mathlib.Core.Path.{◌≡◌, refl, ◌∙◌}
 use mathlib.Core.List.{List}
 use Prim.Native.Nat.{ℕ, ◌+◌, ◌<◌, ◌≤◌}
 use native.Mathlib.Numerals.{add-one}
 use native.Mathlib.Omega.{arith}
 use lib.ListN.{length, take, get_or, set, length-set}
-use lib.Seq.{take-suc-set, take_all, get_or-set_other}
+use lib.Seq.{take-suc-set, get_or-set_other}
 use lib.Ieee.{Float, nan}
 use Rattle.runs.specs.Runs.{listed}
 use Rattle.floats.specs.Double.{◌⊗◌}
@@ -32,6 +32,3 @@ module _ (depth : Float) (ws xs : List Float) where
         first = rw (add-one i, take-suc-set ys i v h, b.first, e, b.others i (omega arith)) refl;
         others = λ j g. get_or-set_other ys i j _ nan (λ q. omega arith) ∙ b.others j (omega arith);
       }
-
-  pub upto_all : (ys : List Float) (i : ℕ) → length ys ≤ i → Upto depth ws xs ys i → ys ≡ multiplied_to depth ws xs (length xs)
-  upto_all ys i h b = let z : i ≡ length xs = omega (arith, b.long, b.within) in sym (take_all i ys h) ∙ b.first ∙ ap (multiplied_to depth ws xs) z

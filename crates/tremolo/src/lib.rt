@@ -57,10 +57,8 @@ pub fn advance(phase: Radians, step: Radians, samples: usize) -> Radians
     if words::f64_bits(next) == words::f64_bits(angle) {
         return phase;
     }
-    let mut i = 0;
-    while i < samples {
+    for _ in 0..samples {
         angle = angle + step.0;
-        i += 1;
     }
     Radians(angle)
 }
@@ -74,9 +72,7 @@ pub fn multiply(depth: f64, values: &[f64], part: &mut [f64])
         return;
     }
     let base = 1.0 - depth / 2.0;
-    let mut i = 0;
-    while i < part.len() {
-        part[i] = part[i] * (base + values[i] * depth / 2.0);
-        i += 1;
+    for (i, x) in part.iter_mut().enumerate() {
+        *x = *x * (base + values[i] * depth / 2.0);
     }
 }

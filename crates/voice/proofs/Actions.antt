@@ -1,4 +1,5 @@
 -- The actions on the keys: the three cases of lifting a key, and that every action keeps the limits. Assumes nothing.
+use Rattle.std.specs.Prelude.{Option, Some, None}
 use mathlib.Core.Path.{◌≡◌, refl}
 use mathlib.Core.Bool.{Bool, true, false, false≢true, cond}
 use mathlib.Core.List.{List, [], ◌∷◌, ◌++◌}
@@ -9,8 +10,6 @@ use borrow.Author.Tests.{ltb-true}
 use lib.ListN.{length, length-append}
 use lib.Ieee.Fits.{and_i, and_r}
 use Rattle.voice.specs.Keys.{Pair, held_of, keys_of, pushed, others, last_of, is_sounding, fall_back_to, pressed_of, without_of, lifted_of, is_gate_right, is_keys}
-use Rattle.voice.specs.declared.keys.ActiveNote.{ActiveNote}
-use Rattle.voice.specs.declared.keys.ActiveNote.TheVariants.{Silent, Note}
 use Rattle.voice.specs.declared.keys.NoteOff.{NoteOff}
 use Rattle.voice.specs.declared.keys.NoteOff.TheVariants.{Released, FellBack, NoChange}
 use Rattle.voice.specs.declared.keys.Keys.{Keys}
@@ -29,20 +28,20 @@ module _ (k : Keys) (n : ℕ) where
   sounded e = rw (e, held_again k.active k.gate (others n (held_of k))) refl
 
   -- n sounds and no other note is held: no note sounds, and none is held
-  pub lift-releases : is_sounding k.active n ≡ true → others n (held_of k) ≡ [] → lifted_of k n ≡ record { keys = keys_of Silent false []; off = Released }
+  pub lift-releases : is_sounding k.active n ≡ true → others n (held_of k) ≡ [] → lifted_of k n ≡ record { keys = keys_of None false []; off = Released }
   lift-releases e h = rw (sounded e, h) refl
 
   -- n sounds and others are held: the last of them sounds, with its velocity
   pub lift_falls_back : (p : Pair) (ps : List Pair) → is_sounding k.active n ≡ true → others n (held_of k) ≡ p ∷ ps
-      → lifted_of k n ≡ record { keys = keys_of (Note (last_of p ps).note) k.gate (p ∷ ps); off = FellBack (last_of p ps).note (last_of p ps).velocity }
+      → lifted_of k n ≡ record { keys = keys_of (Some (last_of p ps).note) k.gate (p ∷ ps); off = FellBack (last_of p ps).note (last_of p ps).velocity }
   lift_falls_back p ps e h = rw (sounded e, h) refl
 
   -- what holds in each of the three cases holds of the lift
   pub by_cases : (P : AfterLift → Type 0)
       → (is_sounding k.active n ≡ false → P (record { keys = keys_of k.active k.gate (others n (held_of k)); off = NoChange }))
-      → (is_sounding k.active n ≡ true → others n (held_of k) ≡ [] → P (record { keys = keys_of Silent false []; off = Released }))
+      → (is_sounding k.active n ≡ true → others n (held_of k) ≡ [] → P (record { keys = keys_of None false []; off = Released }))
       → ((p : Pair) (ps : List Pair) → is_sounding k.active n ≡ true → others n (held_of k) ≡ p ∷ ps
-      → P (record { keys = keys_of (Note (last_of p ps).note) k.gate (p ∷ ps); off = FellBack (last_of p ps).note (last_of p ps).velocity }))
+      → P (record { keys = keys_of (Some (last_of p ps).note) k.gate (p ∷ ps); off = FellBack (last_of p ps).note (last_of p ps).velocity }))
       → P (lifted_of k n)
   by_cases P same none back = go (is_sounding k.active n) refl (others n (held_of k)) refl
     where
@@ -99,7 +98,7 @@ pub pressed_keeps : (k : Keys) (n v : ℕ) → T (is_keys k) → n ≤ 127 → v
 unfolding pressed_of
 pressed_keeps k n v t hn hv =
     let p : Pair = record { note = n; velocity = v } in
-    holds_limits (Note n) true (pushed (held_of k) p) (and_i (leb n 127) true (le→leb n 127 hn) tt)
+    holds_limits (Some n) true (pushed (held_of k) p) (and_i (leb n 127) true (le→leb n 127 hn) tt)
     (pushed-few (held_of k) p (held-few k t)) (pushed_ranged (held_of k) p (held_ranged k t) (record { note_in = hn; velocity_in_lem = hv }))
 
 -- the note and the velocity of a fall back are at most 127
@@ -113,9 +112,9 @@ pub record LiftKept (l : AfterLift) : Type 0 where
   pub back : BackRanged l.off
 
 -- a note of keys within the limits sounds only with the gate up
-pub gate-up : (a : ActiveNote) (g : Bool) (n : ℕ) → T (is_gate_right a g) → is_sounding a n ≡ true → T g
-gate-up Silent g n s e = absurd (false≢true e)
-gate-up (Note m) g n s e = and_r (leb m 127) g s
+pub gate-up : (a : Option ℕ) (g : Bool) (n : ℕ) → T (is_gate_right a g) → is_sounding a n ≡ true → T g
+gate-up None g n s e = absurd (false≢true e)
+gate-up (Some m) g n s e = and_r (leb m 127) g s
 
 pub lifted_keeps : (k : Keys) (n : ℕ) → T (is_keys k) → LiftKept (lifted_of k n)
 lifted_keeps k n t = by_cases k n LiftKept same none back
@@ -129,16 +128,16 @@ lifted_keeps k n t = by_cases k n LiftKept same none back
     same : is_sounding k.active n ≡ false → LiftKept (record { keys = keys_of k.active k.gate (others n (held_of k)); off = NoChange })
     same e = record { within = holds_limits k.active k.gate (others n (held_of k)) (keys_sound k t) few ranged; back = tt }
 
-    none : is_sounding k.active n ≡ true → others n (held_of k) ≡ [] → LiftKept (record { keys = keys_of Silent false []; off = Released })
-    none e h = record { within = holds_limits Silent false [] tt (omega arith) (rw h at ranged); back = tt }
+    none : is_sounding k.active n ≡ true → others n (held_of k) ≡ [] → LiftKept (record { keys = keys_of None false []; off = Released })
+    none e h = record { within = holds_limits None false [] tt (omega arith) (rw h at ranged); back = tt }
 
     back : (p : Pair) (ps : List Pair) → is_sounding k.active n ≡ true → others n (held_of k) ≡ p ∷ ps
-        → LiftKept (record { keys = keys_of (Note (last_of p ps).note) k.gate (p ∷ ps); off = FellBack (last_of p ps).note (last_of p ps).velocity })
+        → LiftKept (record { keys = keys_of (Some (last_of p ps).note) k.gate (p ∷ ps); off = FellBack (last_of p ps).note (last_of p ps).velocity })
     back p ps e h =
         let r : AllRanged (p ∷ ps) = rw h at ranged in
         let q = last_ranged p ps r in
         let g = gate-up k.active k.gate n (keys_sound k t) e in
         record {
-          within = holds_limits (Note (last_of p ps).note) k.gate (p ∷ ps) (and_i (leb (last_of p ps).note 127) k.gate (le→leb (last_of p ps).note 127 q.note_in) g) (rw h at few) r;
+          within = holds_limits (Some (last_of p ps).note) k.gate (p ∷ ps) (and_i (leb (last_of p ps).note 127) k.gate (le→leb (last_of p ps).note 127 q.note_in) g) (rw h at few) r;
           back = (q.note_in, q.velocity_in_lem);
         }

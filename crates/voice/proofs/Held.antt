@@ -1,9 +1,10 @@
 -- The list of the held keys, and the keys made of a list: what the proof of each function over the keys needs.
 -- Assumes nothing.
+use Rattle.std.specs.Prelude.{Option}
 use mathlib.Core.Path.{◌≡◌, refl, ◌∙◌}
 use mathlib.Core.Bool.{Bool, true, false}
 use mathlib.Core.List.{List, [], ◌∷◌, ◌++◌}
-use Prim.Native.Nat.{ℕ, suc, ◌+◌, ◌-◌, ◌≤◌, ◌<◌}
+use Prim.Native.Nat.{ℕ, suc, min, ◌+◌, ◌-◌, ◌≤◌, ◌<◌}
 use native.Mathlib.Numerals.{add-one, sub-one}
 use native.Mathlib.Omega.{arith}
 use lib.Dec.{leb}
@@ -11,9 +12,12 @@ use borrow.Author.Tests.{leb-true, leb-false, lt-ltb, le-ltb}
 use lib.ListN.{length, take, get_or, set, length-take}
 use lib.Seq.{take_all, length-take-le, take-suc-set, get_or-take}
 use Rattle.voice.specs.Keys.{Pair, pairs, held_of, padded, keys_of, pushed, last_of, fall_back_to, released, fell_back_to}
-use Rattle.voice.specs.declared.keys.ActiveNote.{ActiveNote}
 use Rattle.voice.specs.declared.keys.Keys.{Keys}
 use Rattle.voice.proofs.Pairs.{unused, pairs-length, pairs-most, pairs_notes, pairs_velocities, pairs_append, pairs-at}
+
+-- never more than 16 are held
+pub held-few : (k : Keys) → length k.notes ≡ 16 → length (held_of k) ≤ 16
+held-few k h = omega (arith, pairs-most (take k.count k.notes) (take k.count k.velocities), length-take k.count k.notes)
 
 -- two arrays of 16 places
 module _ (ns vs : List ℕ) (hn : length ns ≡ 16) (hv : length vs ≡ 16) where
@@ -24,7 +28,10 @@ module _ (ns vs : List ℕ) (hn : length ns ≡ 16) (hv : length vs ≡ 16) wher
   same_length : (c : ℕ) → length (take c ns) ≡ length (take c vs)
   same_length c = rw (length-take c ns, length-take c vs, hn, hv) refl
 
-  -- up to 16 there are c pairs, and there are never more than 16
+  -- there are c pairs, but at most 16
+  pub first-count : (c : ℕ) → length (first c) ≡ min c 16
+  first-count c = rw (pairs-length (take c ns) (take c vs) (same_length c), length-take c ns, hn) refl
+
   pub first-length : (c : ℕ) → c ≤ 16 → length (first c) ≡ c
   first-length c h = pairs-length (take c ns) (take c vs) (same_length c) ∙ length-take-le c ns (omega arith)
 
@@ -45,7 +52,7 @@ module _ (ns vs : List ℕ) (hn : length ns ≡ 16) (hv : length vs ≡ 16) wher
           rw (first-full c l, first-length 16 (omega arith)) refl
 
   -- the keys made of the first c pairs have both arrays cleared from c on
-  pub first-held : (a : ActiveNote) (g : Bool) (c : ℕ) → c ≤ 16 → record { active = a; gate = g; notes = padded (take c ns); velocities = padded (take c vs); count = c } ≡ keys_of a g (first c)
+  pub first-held : (a : Option ℕ) (g : Bool) (c : ℕ) → c ≤ 16 → record { active = a; gate = g; notes = padded (take c ns); velocities = padded (take c vs); count = c } ≡ keys_of a g (first c)
   first-held a g c h = rw (pairs_notes (take c ns) (take c vs) (same_length c), pairs_velocities (take c ns) (take c vs) (same_length c), first-length c h) refl
 
   -- one more pair at the end

@@ -1,5 +1,6 @@
 -- Every call keeps the voice within the shelf's limits, so a state that comes from `new` is never refused. And what a
 -- reset leaves. Assumes nothing.
+use Rattle.std.specs.Prelude.{Ok}
 use mathlib.Core.Path.{◌≡◌, refl}
 use mathlib.Core.Bool.{true, ◌&&◌}
 use mathlib.Core.List.{List, [], ◌∷◌}
@@ -8,7 +9,7 @@ use native.Mathlib.Omega.{arith}
 use lib.Dec.{T, leb→le}
 use lib.Ieee.{binary32, of_bits, lt, le}
 use lib.Ieee.Fits.{and_i, and_l, and_r}
-use Rattle.answers.specs.declared.Answer.TheVariants.{Done}
+use Rattle.answers.specs.declared.Changed.{Changed}
 use Rattle.answers.specs.declared.Refusal.TheVariants.{Argument}
 use Rattle.answers.specs.Order.{unless}
 use Rattle.answers.proofs.Order.{held, first_keeps}
@@ -21,7 +22,6 @@ use Rattle.voice.specs.declared.keys.Keys.{Keys}
 use Rattle.voice.specs.declared.keys.NoteOff.{NoteOff}
 use Rattle.voice.specs.declared.keys.NoteOff.TheVariants.{Released, FellBack, NoChange}
 use Rattle.voice.specs.declared.VoiceState.{VoiceState}
-use Rattle.voice.specs.declared.Changed.{Changed}
 use Rattle.voice.specs.declared.Off.{Off}
 use Rattle.voice.proofs.Actions.{BackRanged, pressed_keeps, lifted_keeps}
 use Rattle.voice.proofs.Loudness.{velocity_in_lem}
@@ -63,10 +63,10 @@ new_in = tt
 
 -- ---- a refused call hands the state back, and a done one leaves a state within the limits
 module _ (s : VoiceState) (t : T (is_voice s)) where
-  pub note_on_keeps : (n v : ℕ) → T (is_voice (note_on_of s n v).voice)
+  pub note_on_keeps : (n v : ℕ) → T (is_voice (note_on_of s n v).state)
   note_on_keeps n v =
       let ok = is_voice s && is_midi n && is_midi v in
-      first_keeps (unless ok Argument) _ _ (λ (r : Changed). T (is_voice r.voice)) (λ why. t)
+      first_keeps (unless ok Argument) _ _ (λ (r : Changed VoiceState). T (is_voice r.state)) (λ why. t)
       (λ e.
       let g : T ok = held ok Argument e in
       let hn : n ≤ 127 = leb→le n 127 (and_r (is_voice s) (is_midi n) (and_l (is_voice s && is_midi n) (is_midi v) g)) in
@@ -79,8 +79,8 @@ module _ (s : VoiceState) (t : T (is_voice s)) where
       let kept = lifted_keeps s.keys n (voice_keys s t) in
       first_keeps (unless (is_voice s && is_midi n) Argument) _ _ (λ (r : Off). T (is_voice r.voice)) (λ why. t) (λ e. heard_in s lift.keys lift.off t kept.within kept.back)
 
-  pub reset_keeps : T (is_voice (reset_of s).voice)
-  reset_keeps = first_keeps (unless (is_voice s) Argument) _ _ (λ (r : Changed). T (is_voice r.voice)) (λ why. t) (λ e. new_in)
+  pub reset_keeps : T (is_voice (reset_of s).state)
+  reset_keeps = first_keeps (unless (is_voice s) Argument) _ _ (λ (r : Changed VoiceState). T (is_voice r.state)) (λ why. t) (λ e. new_in)
 
 -- ---- any calls, one after the other
 pub data Call : Type 0 where
@@ -90,9 +90,9 @@ pub data Call : Type 0 where
 
 -- the state after a call
 abbrev pub after : VoiceState → Call → VoiceState
-after s (on n v) = (note_on_of s n v).voice
+after s (on n v) = (note_on_of s n v).state
 after s (off n) = (note_off_of s n).voice
-after s reset = (reset_of s).voice
+after s reset = (reset_of s).state
 
 after_keeps : (s : VoiceState) (c : Call) → T (is_voice s) → T (is_voice (after s c))
 after_keeps s (on n v) t = note_on_keeps s t n v
@@ -114,5 +114,5 @@ pub stays : (cs : List Call) → T (is_voice (run new_of cs))
 stays cs = run_keeps new_of cs new_in
 
 -- a reset makes the voice new
-pub reset-is-new : (s : VoiceState) → is_voice s ≡ true → reset_of s ≡ record { answer = Done 0; voice = new_of }
+pub reset-is-new : (s : VoiceState) → is_voice s ≡ true → reset_of s ≡ record { answer = Ok 0; state = new_of }
 reset-is-new s e = rw e refl

@@ -1,5 +1,6 @@
 -- `note_off` says released, fell back or no change exactly where the claim of specs/Lifting.antt has it, and leaves
 -- what the claim says. Assumes nothing.
+use Rattle.std.specs.Prelude.{Err, Ok, Option, Some, None}
 use mathlib.Core.Path.{◌≡◌, refl, ap}
 use mathlib.Core.Bool.{Bool, true, false, false≢true, cond, ◌&&◌}
 use mathlib.Core.List.{List, [], ◌∷◌, ◌++◌}
@@ -11,12 +12,9 @@ use lib.ListN.{length}
 use native.Mathlib.Omega.{arith}
 use borrow.Author.Tests.{eqb-true, eqb-false, eq-eqb, ne_eqb, le-leb}
 use Rattle.domain.specs.Domain.{is_midi}
-use Rattle.answers.specs.declared.Answer.TheVariants.{Done, Refused}
 use Rattle.answers.specs.declared.Refusal.TheVariants.{Argument}
 use Rattle.answers.specs.Order.{unless}
 use Rattle.answers.proofs.Order.{none-refused}
-use Rattle.voice.specs.declared.keys.ActiveNote.{ActiveNote}
-use Rattle.voice.specs.declared.keys.ActiveNote.TheVariants.{Silent, Note}
 use Rattle.voice.specs.declared.keys.NoteOff.{NoteOff}
 use Rattle.voice.specs.declared.keys.NoteOff.TheVariants.{Released, FellBack, NoChange}
 use Rattle.voice.specs.declared.keys.Keys.{Keys}
@@ -31,11 +29,11 @@ use Rattle.voice.proofs.Actions.{lift-releases, lift_falls_back, by_cases, gate-
 use Rattle.voice.proofs.Keeps.{voice_keys}
 
 -- ---- the note that sounds
-sounds : (a : ActiveNote) (n : ℕ) → is_sounding a n ≡ true → a ≡ Note n
-sounds Silent n e = absurd (false≢true e)
-sounds (Note m) n e = rw (eqb-true m n e) refl
+sounds : (a : Option ℕ) (n : ℕ) → is_sounding a n ≡ true → a ≡ Some n
+sounds None n e = absurd (false≢true e)
+sounds (Some m) n e = rw (eqb-true m n e) refl
 
-sounding : (a : ActiveNote) (n : ℕ) → a ≡ Note n → is_sounding a n ≡ true
+sounding : (a : Option ℕ) (n : ℕ) → a ≡ Some n → is_sounding a n ≡ true
 sounding a n e = rw e (eq-eqb n n refl)
 
 -- ---- the last of a list
@@ -70,7 +68,7 @@ last-is-other n (p ∷ ps) = go (eqb p.note n) refl (last-is-other n ps)
 
 -- ---- lifting note n of keys k
 module _ (k : Keys) (n : ℕ) where
-  not-active : is_sounding k.active n ≡ false → k.active ≡ Note n → ⊥
+  not-active : is_sounding k.active n ≡ false → k.active ≡ Some n → ⊥
   not-active e a = false≢true (cc (e, sounding k.active n a))
 
   pub off_when : OffWhen k n (lifted_of k n).off
@@ -112,7 +110,7 @@ module _ (s : VoiceState) (n : ℕ) where
   Left l = OffLeaves s (after l) n l.off × ((after l).keys ≡ keys_of (after l).keys.active (after l).keys.gate (others n (held_of keys)))
 
   fallen_back : T (is_voice s) → (p : Pair) (ps : List Pair) → is_sounding keys.active n ≡ true → others n (held_of keys) ≡ p ∷ ps
-      → Left (record { keys = keys_of (Note (last_of p ps).note) keys.gate (p ∷ ps); off = FellBack (last_of p ps).note (last_of p ps).velocity })
+      → Left (record { keys = keys_of (Some (last_of p ps).note) keys.gate (p ∷ ps); off = FellBack (last_of p ps).note (last_of p ps).velocity })
   fallen_back t p ps e h =
       let other : ((last_of p ps).note ≡ n → ⊥) = rw h at (last-is-other n (held_of keys)) in
       let up = is_true keys.gate (gate-up keys.active keys.gate n (keys_sound keys (voice_keys s t)) e) in
@@ -126,7 +124,7 @@ module _ (s : VoiceState) (n : ℕ) where
       (λ e h. (record { active = refl; gate = refl; velocity = refl; frequency = refl }, rw h refl)) (fallen_back t)
 
   -- a call that is done answers what the lift says, and leaves what the lift leaves
-  pub off-done : (note_off_of s n).answer ≡ Done 0 → note_off_of s n ≡ record { answer = Done 0; off = (lifted_of keys n).off; voice = after (lifted_of keys n) }
+  pub off-done : (note_off_of s n).answer ≡ Ok 0 → note_off_of s n ≡ record { answer = Ok 0; off = (lifted_of keys n).off; voice = after (lifted_of keys n) }
   off-done d = rw (none-refused (unless (is_voice s && is_midi n) Argument) _ _ (λ (r : Off). r.answer) 0 (λ why. refl) d) refl
 
   told : is_voice s && is_midi n ≡ true → Told s n
@@ -141,7 +139,7 @@ module _ (s : VoiceState) (n : ℕ) where
         keys = rw e kept.1;
       }
 
-  off-refused : is_voice s && is_midi n ≡ false → note_off_of s n ≡ record { answer = Refused Argument; off = NoChange; voice = s }
+  off-refused : is_voice s && is_midi n ≡ false → note_off_of s n ≡ record { answer = Err Argument; off = NoChange; voice = s }
   off-refused e = rw e refl
 
 pub off-tells : OffTells

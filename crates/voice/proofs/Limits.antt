@@ -1,5 +1,6 @@
 -- The limits of the keys: what they say of the held list, and that keys made of a list in range are within them.
 -- Assumes nothing.
+use Rattle.std.specs.Prelude.{Option}
 use mathlib.Core.Path.{◌≡◌, refl, ap, sym, ◌∙◌}
 use mathlib.Core.Bool.{Bool, ◌&&◌}
 use mathlib.Core.List.{List, [], ◌∷◌, ◌++◌, map}
@@ -10,7 +11,6 @@ use lib.ListN.{length, take, drop, get_or, replicate, length-take, length-drop, 
 use lib.Seq.{take_at, drop_at, get_or-drop, length-take-le}
 use lib.Ieee.Fits.{and_i, and_l, and_r}
 use Rattle.voice.specs.Keys.{Pair, note_of, velocity_in, pairs, held_of, padded, keys_of, at_most, is_filled, is_gate_right, is_keys}
-use Rattle.voice.specs.declared.keys.ActiveNote.{ActiveNote}
 use Rattle.voice.specs.declared.keys.Keys.{Keys}
 use Rattle.voice.proofs.Pairs.{pairs-length, pairs-most, pairs_notes, pairs_velocities, pairs_again}
 
@@ -118,7 +118,7 @@ padded-filled xs c h t =
     let z = replicate {A = ℕ} (16 - length xs) 0 in
     rw (take_at xs z c h, drop_at xs z c h) (and_i (at_most 127 xs) (at_most 0 z) t (at_most_zeros (16 - length xs)))
 
-pub holds_limits : (a : ActiveNote) (g : Bool) (ps : List Pair) → T (is_gate_right a g) → length ps ≤ 16 → AllRanged ps → T (is_keys (keys_of a g ps))
+pub holds_limits : (a : Option ℕ) (g : Bool) (ps : List Pair) → T (is_gate_right a g) → length ps ≤ 16 → AllRanged ps → T (is_keys (keys_of a g ps))
 unfolding is_keys
 holds_limits a g ps s l r =
     let c = length ps in
@@ -130,7 +130,7 @@ holds_limits a g ps s l r =
 
 -- ---- from keys to list and back
 -- the held list of the keys made of ps is ps
-pub held_again : (a : ActiveNote) (g : Bool) (ps : List Pair) → held_of (keys_of a g ps) ≡ ps
+pub held_again : (a : Option ℕ) (g : Bool) (ps : List Pair) → held_of (keys_of a g ps) ≡ ps
 held_again a g ps =
     rw (take_at (map note_of ps) _ (length ps) (length-map ps note_of), take_at (map velocity_in ps) _ (length ps) (length-map ps velocity_in)) (pairs_again ps)
 

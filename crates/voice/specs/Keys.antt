@@ -6,9 +6,8 @@
 -- The actions are defined on the list of the held pairs, for any keys: the first `count` pairs are held, all 16 if
 -- `count` is above 16. What an action gives has its unused pairs 0, whatever they were before.
 -- 02, R-2: lifting a key says what became of the sound, one of three. Definitions only.
-use Rattle.std.specs.Prelude.{Bool, true, false, not, cond, ◌&&◌, List, [], ◌∷◌, ◌++◌, map, ℕ, ◌-◌, ltb, leb, eqb, length, take, drop, replicate}
-use Rattle.voice.specs.declared.keys.ActiveNote.{ActiveNote}
-use Rattle.voice.specs.declared.keys.ActiveNote.TheVariants.{Silent, Note}
+use Rattle.std.specs.Prelude.{Bool, true, false, not, cond, ◌&&◌, List, [], ◌∷◌, ◌++◌, map, ℕ, ◌-◌, ltb, leb, eqb, length, take, drop, replicate, Option, Some, None}
+use Rattle.std.specs.List.{list_all}
 use Rattle.voice.specs.declared.keys.NoteOff.TheVariants.{Released, FellBack, NoChange}
 use Rattle.voice.specs.declared.keys.Keys.{Keys}
 use Rattle.voice.specs.declared.keys.AfterLift.{AfterLift}
@@ -39,12 +38,12 @@ abbrev pub padded : List ℕ → List ℕ
 padded xs = xs ++ replicate (16 - length xs) 0
 
 -- the keys whose held pairs are ps
-abbrev pub keys_of : ActiveNote → Bool → List Pair → Keys
+abbrev pub keys_of : Option ℕ → Bool → List Pair → Keys
 keys_of active gate ps = record { active = active; gate = gate; notes = padded (map note_of ps); velocities = padded (map velocity_in ps); count = length ps }
 
 -- no key is down, and no note sounds
 abbrev pub fresh_keys : Keys
-fresh_keys = keys_of Silent false []
+fresh_keys = keys_of None false []
 
 -- ---- a key goes down
 -- one more pair at the end, if fewer than 16 are held
@@ -52,7 +51,7 @@ abbrev pub pushed : List Pair → Pair → List Pair
 pushed ps p = cond (ltb (length ps) 16) (ps ++ p ∷ []) ps
 
 unfoldable pub pressed_of : Keys → ℕ → ℕ → Keys
-pressed_of keys n v = keys_of (Note n) true (pushed (held_of keys) (record { note = n; velocity = v }))
+pressed_of keys n v = keys_of (Some n) true (pushed (held_of keys) (record { note = n; velocity = v }))
 
 -- ---- a key goes up
 -- the pairs of notes other than n, in their order
@@ -64,9 +63,9 @@ others n (p ∷ ps) = cond (eqb p.note n) (others n ps) (p ∷ others n ps)
 unfoldable pub without_of : Keys → ℕ → Keys
 without_of keys n = keys_of keys.active keys.gate (others n (held_of keys))
 
-abbrev pub is_sounding : ActiveNote → ℕ → Bool
-is_sounding Silent n = false
-is_sounding (Note m) n = eqb m n
+abbrev pub is_sounding : Option ℕ → ℕ → Bool
+is_sounding None n = false
+is_sounding (Some m) n = eqb m n
 
 -- the last of the list p ∷ ps
 unfoldable pub last_of : Pair → List Pair → Pair
@@ -75,12 +74,12 @@ last_of p (q ∷ ps) = last_of q ps
 
 -- the held keys do not change; in `released` no note sounds, in `fell_back_to` the note of the pair p
 abbrev pub released : Keys → AfterLift
-released keys = record { keys = record { active = Silent; gate = false; notes = keys.notes; velocities = keys.velocities; count = keys.count }; off = Released }
+released keys = record { keys = record { active = None; gate = false; notes = keys.notes; velocities = keys.velocities; count = keys.count }; off = Released }
 
 abbrev pub fell_back_to : Keys → Pair → AfterLift
 fell_back_to keys p =
     record {
-      keys = record { active = Note p.note; gate = keys.gate; notes = keys.notes; velocities = keys.velocities; count = keys.count };
+      keys = record { active = Some p.note; gate = keys.gate; notes = keys.notes; velocities = keys.velocities; count = keys.count };
       off = FellBack p.note p.velocity;
     }
 
@@ -97,13 +96,12 @@ unfoldable pub lifted_of : Keys → ℕ → AfterLift
 lifted_of keys n = cond (is_sounding keys.active n) (fall_back_of (without_of keys n)) (record { keys = without_of keys n; off = NoChange })
 
 -- ---- the limits
-abbrev pub is_gate_right : ActiveNote → Bool → Bool
-is_gate_right Silent gate = not gate
-is_gate_right (Note n) gate = leb n 127 && gate
+abbrev pub is_gate_right : Option ℕ → Bool → Bool
+is_gate_right None gate = not gate
+is_gate_right (Some n) gate = leb n 127 && gate
 
 unfoldable pub at_most : ℕ → List ℕ → Bool
-at_most m [] = true
-at_most m (x ∷ xs) = leb x m && at_most m xs
+at_most m xs = list_all (λ x. leb x m) xs
 
 -- the first c are at most 127, the others 0
 abbrev pub is_filled : ℕ → List ℕ → Bool

@@ -6,12 +6,10 @@
 -- The three say what becomes of the sound, and not of the list of held keys: where the lifted note did not sound, the
 -- answer is no change, also if held keys of that note are dropped. The argument is in proofs/Lifting.antt. Definitions
 -- only.
-use Rattle.std.specs.Prelude.{◌≡◌, Bool, true, false, ◌&&◌, List, [], ◌∷◌, ◌++◌, ℕ, eqb, length}
+use Rattle.std.specs.Prelude.{◌≡◌, Bool, true, false, ◌&&◌, List, [], ◌∷◌, ◌++◌, ℕ, eqb, length, Err, Ok, Some, None}
 use Rattle.domain.specs.Domain.{is_midi}
 use Rattle.pitch.specs.Pitch.{frequency_of}
-use Rattle.answers.specs.declared.Answer.TheVariants.{Done, Refused}
 use Rattle.answers.specs.declared.Refusal.TheVariants.{Argument}
-use Rattle.voice.specs.declared.keys.ActiveNote.TheVariants.{Silent, Note}
 use Rattle.voice.specs.declared.keys.NoteOff.{NoteOff}
 use Rattle.voice.specs.declared.keys.NoteOff.TheVariants.{Released, FellBack, NoChange}
 use Rattle.voice.specs.declared.keys.Keys.{Keys}
@@ -26,9 +24,9 @@ pub record EndsIn (ps : List Pair) (m v : ℕ) : Type 0 where
 
 -- when each of the three is said as note n is lifted
 abbrev pub OffWhen : Keys → ℕ → NoteOff → Type 0
-OffWhen k n Released = (k.active ≡ Note n) × (others n (held_of k) ≡ [])
-OffWhen k n (FellBack m v) = (k.active ≡ Note n) × EndsIn (others n (held_of k)) m v
-OffWhen k n NoChange = k.active ≡ Note n → ⊥
+OffWhen k n Released = (k.active ≡ Some n) × (others n (held_of k) ≡ [])
+OffWhen k n (FellBack m v) = (k.active ≡ Some n) × EndsIn (others n (held_of k)) m v
+OffWhen k n NoChange = k.active ≡ Some n → ⊥
 
 -- what `note_off` of voice.rs returns, by 01's words: true if n was active and no other note is held
 abbrev pub returns_true : Keys → ℕ → Bool
@@ -44,7 +42,7 @@ pub record SameSound (s t : VoiceState) : Type 0 where
 
 -- no note is active in t, whose velocity and frequency are those of s
 pub record Silenced (s t : VoiceState) : Type 0 where
-  pub active : t.keys.active ≡ Silent
+  pub active : t.keys.active ≡ None
   pub gate : t.keys.gate ≡ false
   pub velocity : t.velocity ≡ s.velocity
   pub frequency : t.frequency ≡ s.frequency
@@ -53,7 +51,7 @@ pub record Silenced (s t : VoiceState) : Type 0 where
 pub record SoundsInstead (t : VoiceState) (n m v : ℕ) : Type 0 where
   pub midi : is_midi m && is_midi v ≡ true
   pub other : m ≡ n → ⊥
-  pub active : t.keys.active ≡ Note m
+  pub active : t.keys.active ≡ Some m
   pub gate : t.keys.gate ≡ true
   pub velocity : t.velocity ≡ velocity_of v
   pub frequency : t.frequency ≡ frequency_of m
@@ -67,7 +65,7 @@ OffLeaves s t n NoChange = SameSound s t
 -- ---- the claim
 -- what a call on a voice and a note within the limits answers and leaves
 pub record Told (s : VoiceState) (n : ℕ) : Type 0 where
-  pub answer : (note_off_of s n).answer ≡ Done 0
+  pub answer : (note_off_of s n).answer ≡ Ok 0
   pub only_when : OffWhen s.keys n (note_off_of s n).off
   pub whenever : (off : NoteOff) → OffWhen s.keys n off → (note_off_of s n).off ≡ off
   -- the original's bool
@@ -78,4 +76,4 @@ pub record Told (s : VoiceState) (n : ℕ) : Type 0 where
 
 pub record OffTells : Type 0 where
   pub done : (s : VoiceState) (n : ℕ) → is_voice s && is_midi n ≡ true → Told s n
-  pub refused : (s : VoiceState) (n : ℕ) → is_voice s && is_midi n ≡ false → note_off_of s n ≡ record { answer = Refused Argument; off = NoChange; voice = s }
+  pub refused : (s : VoiceState) (n : ℕ) → is_voice s && is_midi n ≡ false → note_off_of s n ≡ record { answer = Err Argument; off = NoChange; voice = s }

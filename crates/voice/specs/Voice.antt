@@ -7,26 +7,23 @@
 -- reset makes them 440 and 0.
 -- Every call that takes a state judges all of it, also a call that reads or replaces only some of its fields.
 -- Definitions only.
-use Rattle.std.specs.Prelude.{Bool, true, false, ◌&&◌, List, ℕ, pos, length, Float}
+use Rattle.std.specs.Prelude.{Bool, true, false, ◌&&◌, List, ℕ, pos, length, Float, Result, Err, Ok, Option, Some, None}
 use Rattle.std.specs.Float.{binary32}
 use Rattle.std.specs.Float.Ieee.{of_bits, of_int, div}
 use Rattle.floats.specs.Range.{zero_of, one_of, within}
 use Rattle.domain.specs.Domain.{is_midi, is_pitch}
 use Rattle.pitch.specs.Pitch.{frequency_of}
-use Rattle.answers.specs.declared.Answer.TheVariants.{Done, Refused}
+use Rattle.answers.specs.declared.Changed.{Changed}
 use Rattle.answers.specs.declared.Refusal.{Refusal}
 use Rattle.answers.specs.declared.Refusal.TheVariants.{Argument}
+use Rattle.answers.specs.Changed.{changed_or}
 use Rattle.answers.specs.Order.{unless, first_of}
-use Rattle.voice.specs.declared.keys.ActiveNote.{ActiveNote}
-use Rattle.voice.specs.declared.keys.ActiveNote.TheVariants.{Silent, Note}
+use Rattle.answers.specs.Value.{value_or}
 use Rattle.voice.specs.declared.keys.NoteOff.{NoteOff}
 use Rattle.voice.specs.declared.keys.NoteOff.TheVariants.{Released, FellBack, NoChange}
 use Rattle.voice.specs.declared.keys.Keys.{Keys}
 use Rattle.voice.specs.declared.VoiceState.{VoiceState}
-use Rattle.voice.specs.declared.Changed.{Changed}
 use Rattle.voice.specs.declared.Off.{Off}
-use Rattle.voice.specs.declared.Active.{Active}
-use Rattle.voice.specs.declared.HeldNotes.{HeldNotes}
 use Rattle.voice.specs.Keys.{held_of, fresh_keys, pressed_of, lifted_of, is_keys}
 
 -- v / 127, rounded once; an f32, and so also an f64
@@ -44,18 +41,9 @@ is_loud x = within (zero_of binary32) (one_of binary32) x
 unfoldable pub is_voice : VoiceState → Bool
 is_voice s = is_keys s.keys && is_loud s.velocity && is_pitch binary32 s.frequency
 
--- ---- the answers: a refused call hands back the state as it came, and no change, false or 0 for what was asked
-abbrev pub changed_or : List Refusal → VoiceState → VoiceState → Changed
-changed_or refusals before after = first_of refusals (λ (why : Refusal). record { answer = Refused why; voice = before }) (record { answer = Done 0; voice = after })
-
+-- ---- what a lift answers: refused, it hands back the state as it came, and says no change
 abbrev pub off_or : List Refusal → NoteOff → VoiceState → VoiceState → Off
-off_or refusals off before after = first_of refusals (λ (why : Refusal). record { answer = Refused why; off = NoChange; voice = before }) (record { answer = Done 0; off = off; voice = after })
-
-abbrev pub active_or : List Refusal → Bool → Active
-active_or refusals active = first_of refusals (λ (why : Refusal). record { answer = Refused why; active = false }) (record { answer = Done 0; active = active })
-
-abbrev pub count_or : List Refusal → ℕ → HeldNotes
-count_or refusals n = first_of refusals (λ (why : Refusal). record { answer = Refused why; count = 0 }) (record { answer = Done 0; count = n })
+off_or refusals off before after = first_of refusals (λ (why : Refusal). record { answer = Err why; off = NoChange; voice = before }) (record { answer = Ok 0; off = off; voice = after })
 
 -- ---- what sounds
 -- the keys, and note n sounds with velocity v
@@ -82,15 +70,15 @@ abbrev pub is_released : NoteOff → Bool
 is_released off = (off_says off).released
 
 -- a note sounds
-abbrev pub is_note : ActiveNote → Bool
-is_note Silent = false
-is_note (Note n) = true
+abbrev pub is_note : Option ℕ → Bool
+is_note None = false
+is_note (Some n) = true
 
 -- ---- the calls
 abbrev pub new_of : VoiceState
 new_of = record { keys = fresh_keys; velocity = zero_of binary32; frequency = concert }
 
-abbrev pub note_on_of : VoiceState → ℕ → ℕ → Changed
+abbrev pub note_on_of : VoiceState → ℕ → ℕ → Changed VoiceState
 note_on_of s n v = changed_or (unless (is_voice s && is_midi n && is_midi v) Argument) s (sounding_of (pressed_of s.keys n v) n v)
 
 abbrev pub note_off_of : VoiceState → ℕ → Off
@@ -98,12 +86,12 @@ note_off_of s n =
     let lift = lifted_of s.keys n in
     off_or (unless (is_voice s && is_midi n) Argument) lift.off s (after_lift_of s lift.keys lift.off)
 
-abbrev pub reset_of : VoiceState → Changed
+abbrev pub reset_of : VoiceState → Changed VoiceState
 reset_of s = changed_or (unless (is_voice s) Argument) s new_of
 
-abbrev pub is_active_of : VoiceState → Active
-is_active_of s = active_or (unless (is_voice s) Argument) (is_note s.keys.active)
+abbrev pub is_active_of : VoiceState → Result Bool Refusal
+is_active_of s = value_or (unless (is_voice s) Argument) (is_note s.keys.active)
 
 -- the length of the list of the held keys
-abbrev pub held_note_count_of : VoiceState → HeldNotes
-held_note_count_of s = count_or (unless (is_voice s) Argument) (length (held_of s.keys))
+abbrev pub held_note_count_of : VoiceState → Result ℕ Refusal
+held_note_count_of s = value_or (unless (is_voice s) Argument) (length (held_of s.keys))

@@ -6,11 +6,11 @@
 ghost use Rattle.std.specs.Prelude.{◌≡◌};
 ghost use Rattle.answers.specs.Order.{unless};
 ghost use Rattle.answers.specs.declared.Refusal.TheVariants.{Argument};
-ghost use Rattle.voice.specs.Voice.{velocity_of, is_voice, sounding_of, after_lift_of, is_note, changed_or, off_or, active_or, count_or};
+ghost use Rattle.voice.specs.Voice.{velocity_of, is_voice, sounding_of, after_lift_of, is_note, off_or};
 ghost use Rattle.voice.specs.Voice.{new_of, note_on_of, note_off_of, reset_of, is_active_of, held_note_count_of};
 
-use answers::{Answer, Refusal};
-use keys::{ActiveNote, AfterLift, Keys, NoteOff};
+use answers::{Answer, Changed, Refusal};
+use keys::{AfterLift, Keys, NoteOff};
 
 pub mod keys;
 
@@ -22,33 +22,12 @@ pub struct VoiceState {
     pub frequency: f32,
 }
 
-// What a call that changes the state answers.
-#[derive(Clone, Copy)]
-pub struct Changed {
-    pub answer: Answer,
-    pub voice: VoiceState,
-}
-
 // What lifting a key answers: what became of the sound, and the state after.
 #[derive(Clone, Copy)]
 pub struct Off {
     pub answer: Answer,
     pub off: NoteOff,
     pub voice: VoiceState,
-}
-
-// What `is_active` answers.
-#[derive(Clone, Copy)]
-pub struct Active {
-    pub answer: Answer,
-    pub active: bool,
-}
-
-// What `held_note_count` answers.
-#[derive(Clone, Copy)]
-pub struct HeldNotes {
-    pub answer: Answer,
-    pub count: usize,
 }
 
 impl VoiceState {
@@ -64,17 +43,17 @@ impl VoiceState {
     }
 
     // A key goes down, and its note sounds.
-    pub fn note_on(self, note: u8, velocity: u8) -> Changed
+    pub fn note_on(self, note: u8, velocity: u8) -> Changed<VoiceState>
         ensures { result ≡ note_on_of self note velocity }
     {
-        let keys = self.keys;
         let after = VoiceState {
-            keys: keys::pressed(keys, note, velocity),
+            keys: keys::pressed(self.keys, note, velocity),
             velocity: velocity_of(velocity),
             frequency: pitch::frequency_of(note),
         };
-        changed_if(
+        answers::changed_if(
             is_voice(self) & domain::is_midi(note) & domain::is_midi(velocity),
+            Refusal::Argument,
             self,
             after,
         )
@@ -84,42 +63,43 @@ impl VoiceState {
     pub fn note_off(self, note: u8) -> Off
         ensures { result ≡ note_off_of self note }
     {
-        let keys = self.keys;
-        let lift = keys::lifted(keys, note);
-        let off = lift.off;
+        let lift = keys::lifted(self.keys, note);
         off_if(
             is_voice(self) & domain::is_midi(note),
-            off,
+            lift.off,
             self,
             after_lift(self, lift),
         )
     }
 
     // The state of `new`.
-    pub fn reset(self) -> Changed
+    pub fn reset(self) -> Changed<VoiceState>
         ensures { result ≡ reset_of self }
     {
-        changed_if(is_voice(self), self, VoiceState::new())
+        answers::changed_if(is_voice(self), Refusal::Argument, self, VoiceState::new())
     }
 
     // Whether a note sounds.
-    pub fn is_active(self) -> Active
+    pub fn is_active(self) -> Result<bool, Refusal>
         ensures { result ≡ is_active_of self }
     {
-        let keys = self.keys;
-        active_if(is_voice(self), is_note(keys))
+        answers::value_if(is_voice(self), Refusal::Argument, is_note(self.keys))
     }
 
     // How many keys are held.
-    pub fn held_note_count(self) -> HeldNotes
+    pub fn held_note_count(self) -> Result<usize, Refusal>
         ensures { result ≡ held_note_count_of self }
     {
-        let keys = self.keys;
-        count_if(is_voice(self), keys::held_count(keys))
+        answers::value_if(
+            is_voice(self),
+            Refusal::Argument,
+            keys::held_count(self.keys),
+        )
     }
 }
 
 // A velocity from 0 to 127 as a factor from 0 to 1: velocity / 127, rounded once.
+#[tactic(auto, unfolding(crate::specs::Voice::velocity_of))]
 pub fn velocity_of(velocity: u8) -> f32
     ensures { result ≡ velocity_of velocity }
 {
@@ -130,67 +110,40 @@ pub fn velocity_of(velocity: u8) -> f32
 pub fn velocity_of_f64(velocity: u8) -> f64
     ensures { result ≡ velocity_of velocity }
 {
-    velocity_of(velocity) as f64
+    f64::from(velocity_of(velocity))
 }
 
 // Whether a state is within the shelf's limits.
+#[tactic(auto, unfolding(crate::specs::Voice::is_voice))]
 fn is_voice(voice: VoiceState) -> bool
     ensures { result ≡ is_voice voice }
 {
-    let keys = voice.keys;
-    let velocity = voice.velocity;
-    let frequency = voice.frequency;
-    let loud = (0.0 <= velocity) & (velocity <= 1.0);
-    let pitched = (0.0 < frequency) & (frequency <= 12544.0);
-    keys::is_keys(keys) & loud & pitched
+    let loud = (0.0 <= voice.velocity) & (voice.velocity <= 1.0);
+    let pitched = (0.0 < voice.frequency) & (voice.frequency <= 12544.0);
+    keys::is_keys(voice.keys) & loud & pitched
 }
 
 // Whether a note sounds.
 pub fn is_note(keys: Keys) -> bool
     ensures { result ≡ is_note keys.active }
 {
-    let active = keys.active;
-    match active {
-        ActiveNote::Silent => false,
-        ActiveNote::Note(_) => true,
-    }
+    keys.active.is_some()
 }
 
 // The state after a key is lifted: only a fall back to another note changes velocity and frequency.
 fn after_lift(voice: VoiceState, lift: AfterLift) -> VoiceState
     ensures { result ≡ after_lift_of voice lift.keys lift.off }
 {
-    let keys = lift.keys;
-    let off = lift.off;
-    let same = VoiceState {
-        keys,
-        velocity: voice.velocity,
-        frequency: voice.frequency,
-    };
-    match off {
-        NoteOff::Released => same,
+    match lift.off {
         NoteOff::FellBack(note, velocity) => VoiceState {
-            keys,
+            keys: lift.keys,
             velocity: velocity_of(velocity),
             frequency: pitch::frequency_of(note),
         },
-        NoteOff::NoChange => same,
-    }
-}
-
-// Done with the state after, or refused with the state as it came.
-fn changed_if(ok: bool, before: VoiceState, after: VoiceState) -> Changed
-    ensures { result ≡ changed_or (unless ok Argument) before after }
-{
-    if ok {
-        return Changed {
-            answer: Answer::Done(0),
-            voice: after,
-        };
-    }
-    Changed {
-        answer: Answer::Refused(Refusal::Argument),
-        voice: before,
+        NoteOff::Released | NoteOff::NoChange => VoiceState {
+            keys: lift.keys,
+            ..voice
+        },
     }
 }
 
@@ -200,46 +153,14 @@ fn off_if(ok: bool, off: NoteOff, before: VoiceState, after: VoiceState) -> Off
 {
     if ok {
         return Off {
-            answer: Answer::Done(0),
+            answer: Ok(0),
             off,
             voice: after,
         };
     }
     Off {
-        answer: Answer::Refused(Refusal::Argument),
+        answer: Err(Refusal::Argument),
         off: NoteOff::NoChange,
         voice: before,
-    }
-}
-
-// Done with yes or no, or refused with no.
-fn active_if(ok: bool, active: bool) -> Active
-    ensures { result ≡ active_or (unless ok Argument) active }
-{
-    if ok {
-        return Active {
-            answer: Answer::Done(0),
-            active,
-        };
-    }
-    Active {
-        answer: Answer::Refused(Refusal::Argument),
-        active: false,
-    }
-}
-
-// Done with the count, or refused with 0.
-fn count_if(ok: bool, count: usize) -> HeldNotes
-    ensures { result ≡ count_or (unless ok Argument) count }
-{
-    if ok {
-        return HeldNotes {
-            answer: Answer::Done(0),
-            count,
-        };
-    }
-    HeldNotes {
-        answer: Answer::Refused(Refusal::Argument),
-        count: 0,
     }
 }

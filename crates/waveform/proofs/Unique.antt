@@ -1,16 +1,17 @@
 -- Two outcomes that meet a public function's statement are equal. Assumes nothing.
+use Rattle.std.specs.Prelude.{Result}
 use mathlib.Core.Path.{◌≡◌, sym, ◌∙◌}
 use mathlib.Core.Bool.{Bool}
 use Prim.Native.Nat.{ℕ}
 use lib.Ieee.{Float}
 use Rattle.floats.specs.Double.{◌⊗◌}
-use Rattle.answers.specs.declared.Value.{Value}
 use Rattle.waveform.specs.declared.Radians.{Radians}
 use Rattle.waveform.specs.declared.Waveform.{Waveform}
 use Rattle.waveform.specs.Waveform.{is_waveform, value_of, sample_of, remainder_of, normal_of, reduce_of, increment_of, radians, inv_tau}
 use Rattle.waveform.specs.Filled.{value_at}
+use Rattle.answers.specs.declared.Refusal.{Refusal}
 
-pub sample_unique : (w : Waveform) (phase dt : Float) (r t : Value) → r ≡ sample_of w phase dt → t ≡ sample_of w phase dt → r ≡ t
+pub sample_unique : (w : Waveform) (phase dt : Float) (r t : Result Float Refusal) → r ≡ sample_of w phase dt → t ≡ sample_of w phase dt → r ≡ t
 sample_unique w phase dt r t p q = p ∙ sym q
 
 pub is_waveform_unique : (w : Waveform) (r t : Bool) → r ≡ is_waveform w → t ≡ is_waveform w → r ≡ t

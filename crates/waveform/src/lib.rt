@@ -13,7 +13,7 @@ ghost use Rattle.waveform.specs.Filled.{value_at};
 ghost use Rattle.floats.specs.Double.{◌⊗◌};
 ghost use Rattle.floats.specs.Range.{nonneg};
 
-use answers::{Refusal, Value};
+use answers::Refusal;
 
 // TAU and INV_TAU have the bits of the original's constants; TWO_TAU is exactly twice TAU.
 pub const TAU: f64 = 6.283185307179586;
@@ -21,6 +21,9 @@ pub const TAU: f64 = 6.283185307179586;
 const INV_TAU: f64 = 0.15915494309189535;
 
 pub const TWO_TAU: f64 = 12.566370614359172;
+
+// 2^50, the units of the fixed point in a radian.
+const UNITS: f64 = 1125899906842624.0;
 
 // TAU * 2^50, which is a whole number.
 const TAU_IN_FIXED_POINT: u64 = 0x19_21fb_5444_2d18;
@@ -41,17 +44,17 @@ pub enum Waveform {
 }
 
 // One sample; phase (0 to 1) and dt (0 to 4) are in cycles. The duty is refused with 6, else phase or dt with 9.
-pub fn sample(waveform: Waveform, phase: f64, dt: f64) -> Value
+pub fn sample(waveform: Waveform, phase: f64, dt: f64) -> Result<f64, Refusal>
     ensures { result ≡ sample_of waveform phase dt }
 {
-    if is_waveform(waveform) {
-        return answers::value_if(
-            domain::is_phase(phase, dt),
-            Refusal::Argument,
-            value_at(waveform, phase, dt),
-        );
+    if !is_waveform(waveform) {
+        return Err(Refusal::Setting);
     }
-    answers::value_if(false, Refusal::Setting, 0.0)
+    answers::value_if(
+        domain::is_phase(phase, dt),
+        Refusal::Argument,
+        value_at(waveform, phase, dt),
+    )
 }
 
 // False only for a pulse whose duty is outside 0 to 1 or a NaN.
@@ -59,12 +62,8 @@ pub fn is_waveform(waveform: Waveform) -> bool
     ensures { result ≡ is_waveform waveform }
 {
     match waveform {
-        Waveform::Sine => true,
-        Waveform::Square => true,
-        Waveform::Sawtooth => true,
-        Waveform::Triangle => true,
         Waveform::Pulse(duty) => domain::is_duty(duty),
-        Waveform::RoundedTriangle => true,
+        _ => true,
     }
 }
 
@@ -128,7 +127,7 @@ pub fn remainder(phase: Radians) -> Radians
         if x < TWO_TAU {
             return Radians(x - TAU);
         }
-        return Radians((in_fixed_point(x) % TAU_IN_FIXED_POINT) as f64 / 1125899906842624.0);
+        return Radians((in_fixed_point(x) % TAU_IN_FIXED_POINT) as f64 / UNITS);
     }
     Radians(far_remainder(x))
 }
@@ -138,7 +137,7 @@ pub fn remainder(phase: Radians) -> Radians
 fn far_remainder(x: f64) -> f64
     ensures { result ≡ remainder_of x }
 {
-    if !floats::is_finite_f64(x) {
+    if !floats::is_finite(x) {
         return x - x;
     }
     if x < 0.0 {
@@ -155,7 +154,7 @@ fn size_remainder(x: f64) -> f64
     if x < TAU {
         return x;
     }
-    units_left(x) as f64 / 1125899906842624.0
+    units_left(x) as f64 / UNITS
 }
 
 // The remainder of x * 2^50, a whole number, by TAU * 2^50: the digits of x are doubled as often as its exponent says.

@@ -1,8 +1,6 @@
 -- What the proofs of this crate cite.
 -- the bytes of a word one by one
 pub mod Sums
--- when a pattern or a float is a NaN
-pub mod Nans
 -- `same` holds exactly of equal lists
 pub mod Same
 -- two outcomes of a public function are equal

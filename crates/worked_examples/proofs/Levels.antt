@@ -1,5 +1,6 @@
 -- The levels of (i) and (j), in one block call on any 4,098 lent numbers. The state before sample 4096 is computed
 -- once, and the levels after it from that state. Assumes nothing.
+use Rattle.std.specs.Prelude.{Ok}
 use mathlib.Core.Path.{◌≡◌, refl, ap, ◌∙◌}
 use mathlib.Core.List.{List}
 use Prim.Native.Nat.{ℕ, suc, ◌+◌, ◌<◌}
@@ -10,7 +11,6 @@ use lib.ListN.{length, get_or}
 use lib.Ieee.{Float, nan, fin, of_bits, of_int, is_nan, add, sub, mul, div, le, lt}
 use Rattle.floats.specs.Range.{plus_zero}
 use Rattle.runs.specs.Runs.{run}
-use Rattle.answers.specs.declared.Answer.TheVariants.{Done}
 use Rattle.domain.specs.Domain.{is_rate}
 use Rattle.envelope.specs.Limits.{is_adsr, is_envelope, clamped_of, sample_time_of}
 use Rattle.envelope.specs.Stages.{step_of}
@@ -54,7 +54,7 @@ unfolding run envelope_from step_of of_bits add sub mul div le
 two_on = refl
 
 -- ---- the block call is done, and its levels are those of the envelope
-call-is : (n : ℕ) (xs : List Float) → length xs ≡ n → ((called xs).result.answer ≡ Done n) × ((called xs).lent ≡ levels_from adsr tick start n)
+call-is : (n : ℕ) (xs : List Float) → length xs ≡ n → ((called xs).result.answer ≡ Ok n) × ((called xs).lent ≡ levels_from adsr tick start n)
 unfolding process_of is_adsr is_rate is_envelope clamped_of sample_time_of of_bits of_int is_nan lt le div
 call-is n xs e = rw e (refl, refl)
 

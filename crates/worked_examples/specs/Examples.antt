@@ -3,28 +3,25 @@
 --
 -- A number that a call returns is beside its answer, `Done 0`. `fin s m e` is m * 2 ^ e, negative where s is true;
 -- `negsuc k` is -(k + 1). Definitions only.
-use Rattle.std.specs.Prelude.{◌≡◌, Bool, true, false, List, [], ◌∷◌, ◌++◌, ℕ, zero, suc, ◌+◌, pos, negsuc, length, get_or, replicate, Float}
+use Rattle.std.specs.Prelude.{◌≡◌, Bool, true, false, List, [], ◌∷◌, ◌++◌, ℕ, zero, suc, ◌+◌, pos, negsuc, length, get_or, replicate, Float, Ok, Result, Some}
 use Rattle.std.specs.Float.{nan, fin, binary32, binary64}
 use Rattle.std.specs.Float.Ieee.{of_bits, neg}
 use Rattle.floats.specs.Double.{zero64, half, one}
 use Rattle.floats.specs.Range.{one_of}
-use Rattle.answers.specs.declared.Answer.{Answer}
-use Rattle.answers.specs.declared.Answer.TheVariants.{Done}
-use Rattle.answers.specs.declared.Value.{Value}
+use Rattle.answers.specs.Answer.{Answer}
 use Rattle.polyblep.specs.Calls.{poly_blep_of, polyblep_saw_of, polyblep_square_of}
 use Rattle.phase.specs.Phase.{cycles_of, phase_of, set_phase_of}
-use Rattle.phase.specs.declared.Shown.{Shown}
+use Rattle.phase.specs.declared.Cycles.{Cycles}
 use Rattle.answers.specs.Outcome.{Outcome}
 use Rattle.envelope.specs.Calls.{process_of}
 use Rattle.envelope.specs.declared.EnvelopeBlock.{EnvelopeBlock}
 use Rattle.envelope.specs.declared.Processed.{Processed}
 use Rattle.voice.specs.Voice.{is_released, note_on_of, note_off_of, held_note_count_of}
-use Rattle.voice.specs.declared.keys.ActiveNote.TheVariants.{Note}
-use Rattle.voice.specs.declared.HeldNotes.{HeldNotes}
 use Rattle.voice.specs.declared.VoiceState.{VoiceState}
 use Rattle.phase.specs.Phase as phase
 use Rattle.envelope.specs.Calls as envelope
 use Rattle.voice.specs.Voice as voice
+use Rattle.answers.specs.declared.Refusal.{Refusal}
 
 -- ---- (a) to (g): the corrections, and the waveforms made with them
 abbrev pub eighth : Float
@@ -40,16 +37,16 @@ abbrev pub seven_eighths : Float
 seven_eighths = of_bits binary64 0x3fec_0000_0000_0000
 
 -- the answer done, with the number x
-abbrev pub is : Float → Value
-is x = record { answer = Done 0; value = x }
+abbrev pub is : Float → Result Float Refusal
+is x = Ok x
 
 -- ---- (h): the accumulator, in f32
 -- a new accumulator, set to x, then asked for its phase
-abbrev pub set_to : Float → Shown
-set_to x = phase_of (set_phase_of phase.new_of (cycles_of x)).accumulator
+abbrev pub set_to : Float → Result Cycles Refusal
+set_to x = phase_of (set_phase_of phase.new_of (cycles_of x)).state
 
-abbrev pub shows : Float → Shown
-shows x = record { answer = Done 0; cycles = cycles_of x }
+abbrev pub shows : Float → Result Cycles Refusal
+shows x = Ok (cycles_of x)
 
 -- ---- (i) and (j): the envelope, in one block call
 -- a new block, triggered: attack 0.25 s, decay 0.25 s, sustain 0.5; the release is never reached
@@ -66,7 +63,7 @@ sample xs i = get_or (called xs).lent i nan
 
 -- (i), whatever the 4,098 lent numbers were
 pub record ExampleI (xs : List Float) : Type 0 where
-  pub answer : (called xs).result.answer ≡ Done 4098
+  pub answer : (called xs).result.answer ≡ Ok 4098
   pub sample_4095 : sample xs 4095 ≡ fin false 4095 (negsuc 11)
   pub sample_4096 : sample xs 4096 ≡ fin false 1 (pos 0)
 
@@ -79,7 +76,7 @@ from n (suc k) = n ∷ from (n + 1) k
 -- the voice after these keys were struck, or lifted
 abbrev pub strike_all : VoiceState → List ℕ → VoiceState
 strike_all s [] = s
-strike_all s (n ∷ ns) = strike_all (note_on_of s n 100).voice ns
+strike_all s (n ∷ ns) = strike_all (note_on_of s n 100).state ns
 
 abbrev pub lift_all : VoiceState → List ℕ → VoiceState
 lift_all s [] = s
@@ -90,8 +87,8 @@ abbrev pub says : VoiceState → List ℕ → List (Answer × Bool)
 says s [] = []
 says s (n ∷ ns) = ((note_off_of s n).answer, is_released (note_off_of s n).off) ∷ says (note_off_of s n).voice ns
 
-abbrev pub holds : ℕ → HeldNotes
-holds n = record { answer = Done 0; count = n }
+abbrev pub holds : ℕ → Result ℕ Refusal
+holds n = Ok n
 
 -- notes 40 to 55 on, 60 on
 abbrev pub full : VoiceState
@@ -99,26 +96,26 @@ full = strike_all voice.new_of (from 40 16 ++ 60 ∷ [])
 
 pub record ExampleK : Type 0 where
   pub held : held_note_count_of full ≡ holds 16
-  pub active : full.keys.active ≡ Note 60
-  pub off : says full (60 ∷ []) ≡ (Done 0, false) ∷ []
-  pub active_then : (lift_all full (60 ∷ [])).keys.active ≡ Note 55
+  pub active : full.keys.active ≡ Some 60
+  pub off : says full (60 ∷ []) ≡ (Ok 0, false) ∷ []
+  pub active_then : (lift_all full (60 ∷ [])).keys.active ≡ Some 55
 
 -- instead 40 to 55 off
 abbrev pub emptied : VoiceState
 emptied = lift_all full (from 40 16)
 
 pub record ExampleL : Type 0 where
-  pub offs : says full (from 40 16) ≡ replicate 16 (Done 0, false)
+  pub offs : says full (from 40 16) ≡ replicate 16 (Ok 0, false)
   pub held : held_note_count_of emptied ≡ holds 0
-  pub active : emptied.keys.active ≡ Note 60
-  pub off : says emptied (60 ∷ []) ≡ (Done 0, true) ∷ []
+  pub active : emptied.keys.active ≡ Some 60
+  pub off : says emptied (60 ∷ []) ≡ (Ok 0, true) ∷ []
 
 -- 60 on twice
 abbrev pub twice : VoiceState
 twice = strike_all voice.new_of (60 ∷ 60 ∷ [])
 
 pub record ExampleM : Type 0 where
-  pub off : says twice (60 ∷ []) ≡ (Done 0, true) ∷ []
+  pub off : says twice (60 ∷ []) ≡ (Ok 0, true) ∷ []
   pub held : held_note_count_of (lift_all twice (60 ∷ [])) ≡ holds 0
 
 -- ---- the table

@@ -1,11 +1,10 @@
 -- What a front panel is told as keys are lifted, by examples. 02, R-2: "The voice's note-off says one of three:
 -- released, fell back to a named note, or no change."
 -- (k), (l) and (m) are 01's worked examples. Definitions only.
-use Rattle.std.specs.Prelude.{◌≡◌, true, false, List, [], ◌∷◌, ◌++◌, ℕ, replicate}
+use Rattle.std.specs.Prelude.{◌≡◌, true, false, List, [], ◌∷◌, ◌++◌, ℕ, replicate, Err, Ok}
 use Rattle.std.specs.Float.{binary32}
 use Rattle.floats.specs.Range.{zero_of}
-use Rattle.answers.specs.declared.Answer.{Answer}
-use Rattle.answers.specs.declared.Answer.TheVariants.{Done, Refused}
+use Rattle.answers.specs.Answer.{Answer}
 use Rattle.answers.specs.declared.Refusal.TheVariants.{Argument}
 use Rattle.voice.specs.Voice.{Said, off_says, new_of, note_off_of}
 use Rattle.voice.specs.declared.VoiceState.{VoiceState}
@@ -13,13 +12,13 @@ use Rattle.worked_examples.specs.Examples.{from, strike_all, full, twice}
 
 -- the three, as values beside the answer of a call that is done
 abbrev pub says_released : Answer × Said
-says_released = (Done 0, record { released = true; note = 255 })
+says_released = (Ok 0, record { released = true; note = 255 })
 
 abbrev pub says_fell_back : ℕ → Answer × Said
-says_fell_back n = (Done 0, record { released = false; note = n })
+says_fell_back n = (Ok 0, record { released = false; note = n })
 
 abbrev pub says_no_change : Answer × Said
-says_no_change = (Done 0, record { released = false; note = 255 })
+says_no_change = (Ok 0, record { released = false; note = 255 })
 
 -- what the panel is told as each of these keys is lifted
 abbrev pub told : VoiceState → List ℕ → List (Answer × Said)
@@ -48,4 +47,4 @@ pub record PanelExamples : Type 0 where
   -- a key that is not down, while another note sounds and while none does
   pub not-down : (told (struck (60 ∷ [])) (61 ∷ []) ≡ says_no_change ∷ []) × (told new_of (60 ∷ []) ≡ says_no_change ∷ [])
   -- 64 off is refused, which is no change
-  pub refused : told outside (64 ∷ []) ≡ (Refused Argument, record { released = false; note = 255 }) ∷ []
+  pub refused : told outside (64 ∷ []) ≡ (Err Argument, record { released = false; note = 255 }) ∷ []

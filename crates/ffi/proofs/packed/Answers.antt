@@ -5,4 +5,4 @@ use Rattle.ffi.proofs.packed.Goals as goal
 
 pub returns : goal.returns
 unfolding packed_of
-returns c = rw (c.word_of.ensures, c.in_numbers.ensures) refl
+returns c = rw (c.word_of.ensures, c.from.ensures) refl

@@ -21,7 +21,7 @@ fractions : (step p : Float) → T (fits binary64 p) → (within zero64 far p &&
 fractions step p w h n ys e = rising_fractions step p w h n _ ys refl (e ∙ sym (remainders_are step p n _ _ refl refl))
 
 pub read_pairs-requires : goal.read_pairs-requires
-read_pairs-requires c = record { wave_len = c.requires; all_fractions = fractions _ _ (search rules) (rw (← c.is_within.ensures, ← c.is_within-2.ensures) c.if-is_within.true) _ _ c.fill_remainders-end.ensures.0 }
+read_pairs-requires c = fractions _ _ (search rules) (rw (← c.is_within.ensures, ← c.is_within-2.ensures) c.if-is_within.true) _ _ c.fill_remainders-end.ensures.0
 
 pub returns-then-is_within : goal.returns-then-is_within
 returns-then-is_within c = let a = c.args in made_block a.step.0 a.start.0 (whole_reading a.wave.now) a.scale _ _ _ _ c.fill_remainders-end.ensures.0 c.fill_remainders-end.ensures.1 c.read_pairs.ensures

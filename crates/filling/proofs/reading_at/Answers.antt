@@ -1,4 +1,5 @@
 -- `filling::reading_at` meets its contract. Assumes nothing.
+use borrow.Author.Rules.{rules}
 use mathlib.Core.Path.{◌≡◌, sym, ◌∙◌}
 use mathlib.Core.List.{List}
 use Prim.Native.Nat.{◌+◌, ◌%◌, ◌^◌}
@@ -28,11 +29,11 @@ spot W u s l h e =
     rw (e, raised_digits (whole_part p) few, raised-less (whole_part p) few) (sym (whole-near W p inside)) ∙ sym (whole-inside W u l (is_true (within zero64 one u) h))
 
 pub raised-sum-requires : goal.raised-sum-requires
-raised-sum-requires c = points_in c.args.u c.requires.t
+raised-sum-requires c = points_in c.args.u c.requires
 
 pub float_to_bits-i : goal.float_to_bits-i
-float_to_bits-i c = let a = c.args in let few = whole-at_most (a.u ⊗ steps) (points_in a.u c.requires.t) in
+float_to_bits-i c = let a = c.args in let few = whole-at_most (a.u ⊗ steps) (points_in a.u c.requires) in
     rw c.raised-sum.ensures (finite-not-nan _ (float-whole (2 ^ 52 + whole_part (a.u ⊗ steps)) (omega (arith, few))).ends)
 
 pub returns : goal.returns
-returns c = c.line.ensures ∙ spot c.args.wave.now c.args.u _ c.requires.wave_len c.requires.t c.raised-sum.ensures
+returns c = c.line.ensures ∙ spot c.args.wave.now c.args.u _ (search rules) c.requires c.raised-sum.ensures

@@ -2,9 +2,8 @@
 use borrow.Author.Rules.{rules}
 use mathlib.Core.Path.{◌∙◌}
 use mathlib.Core.Bool.{true, false}
-use native.Mathlib.Omega.{arith}
 use lib.Ieee.{binary64}
-use Rattle.floats.proofs.Floors.{from-whole, from-whole-neg, casts}
+use Rattle.floats.proofs.Floors.{from-whole, from-whole-neg}
 use Rattle.floats.proofs.Tests.{no_nan, floor_nan, returns_large, returns_zero, returns_small, returns_middle, plus_zero-is, minus_one_is}
 use Rattle.floats.proofs.floor_by_bits.Goals as goal
 
@@ -25,12 +24,6 @@ returns-then-negative c = minus_one_is binary64 ∙ returns_small binary64 c.arg
 
 pub returns-then-size-lt4607182418800017408 : goal.returns-then-size-lt4607182418800017408
 returns-then-size-lt4607182418800017408 c = plus_zero-is binary64 ∙ returns_small binary64 c.args.x (search rules) false c.if-negative.false-raw c.if-size-eq0.false c.if-size-lt4607182418800017408.true
-
-pub int_to_float-result : goal.int_to_float-result
-int_to_float-result c = casts binary64 c.whole-n.result (omega (arith, c.whole-n.ensures.1))
-
-pub int_to_float-result-else-negative-2 : goal.int_to_float-result-else-negative-2
-int_to_float-result-else-negative-2 c = casts binary64 c.whole-n.result (omega (arith, c.whole-n.ensures.1))
 
 pub returns-then-negative-2 : goal.returns-then-negative-2
 returns-then-negative-2 c = let n = c.whole-n in from-whole-neg binary64 n.result ∙ returns_middle binary64 c.args.x (search rules) true n.result c.if-negative-2.true-raw c.if-size-lt4607182418800017408.false c.if-size-ge4841369599423283200.false n.ensures.0

@@ -1,10 +1,15 @@
 -- `high_notes::fill_values` meets its contract. Assumes nothing.
+use borrow.Author.Rules.{rules}
 use Rattle.waveform.specs.Waveform.{value_of}
+use Rattle.high_notes.proofs.Remaking.{made-values}
 use Rattle.high_notes.proofs.fill_values.Goals as goal
 
 pub returns-in-RoundedTriangle : goal.returns-in-RoundedTriangle
 unfolding value_of
-returns-in-RoundedTriangle c = rw c.in-RoundedTriangle.is c.fill_rounded.ensures
+returns-in-RoundedTriangle c = rw c.in-RoundedTriangle.is (made-values _ _ _ _ c.map_each.ensures (λ i l y m. search rules))
 
-pub fill_values_apart-requires : goal.fill_values_apart-requires
-fill_values_apart-requires c = (c.requires, c.are_apart.ensures c.if-are_apart.true)
+pub returns-then-are_apart : goal.returns-then-are_apart
+returns-then-are_apart c = made-values _ _ _ _ c.map_each-then-are_apart.ensures (λ i l y m. search rules)
+
+pub returns : goal.returns
+returns c = made-values _ _ _ _ c.map_each-2.ensures (λ i l y m. search rules)

@@ -1,6 +1,7 @@
 -- `lanes::poly_blamp_simd` meets its contract. Assumes nothing.
-use Rattle.std.proofs.Common.{refl}
+use Rattle.std.proofs.Common.{refl, rules}
+use Rattle.lanes.specs.Lanes.{blamp_lane}
 use Rattle.lanes.proofs.poly_blamp_simd.Goals as goal
 
 pub returns : goal.returns
-returns c = rw (c.lanes_if.ensures, c.blamps.ensures, c.are_phases.ensures) refl
+returns c = rw (c.lanes_if.ensures, c.both.ensures blamp_lane (λ a b r h. search rules), c.are_phases.ensures) refl

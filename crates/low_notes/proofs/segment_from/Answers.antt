@@ -3,10 +3,6 @@ use Rattle.waveform.specs.Waveform.{value_of}
 use Rattle.low_notes.proofs.Segments.{square_lines, triangle_lines, rounded_lines}
 use Rattle.low_notes.proofs.segment_from.Goals as goal
 
-pub returns-in-Sine : goal.returns-in-Sine
-unfolding value_of
-returns-in-Sine c = λ q i. absurd (c.empty_segment.ensures q i)
-
 pub returns-in-Square : goal.returns-in-Square
 unfolding value_of
 returns-in-Square c = rw c.in-Square.is (c.up_to_half.ensures _ (square_lines c.args.dt))

@@ -1,28 +1,36 @@
--- `peaks::peak_of` meets its contract. The loop's invariant: the best is the peak of the first i samples. Assumes
+-- `peaks::peak_of` meets its contract. The loop's invariant: the best is the peak of the first n groups. Assumes
 -- nothing.
-use mathlib.Core.Path.{refl}
+use mathlib.Core.Path.{◌≡◌, refl, sym, ◌∙◌}
 use native.Mathlib.Omega.{arith}
+use lib.ListN.{length}
 use Rattle.peaks.specs.Peaks.{peak_to}
+use Rattle.peaks.proofs.Bounds.{least-to}
+use Rattle.peaks.proofs.Groups.{group_passed, group_after, rest_after}
 use Rattle.peaks.proofs.peak_of.Goals as goal
+use Rattle.peaks.proofs.peak_of.Goals.{then-not-is_quiet, else-not-is_quiet}
 
-pub loop-i-init : goal.loop-i-init
+pub loop-n-init : goal.loop-n-init
 unfolding peak_to
-loop-i-init c = (omega arith, refl)
+loop-n-init c = refl
 
-pub overflow_sub-section : goal.overflow_sub-section
-overflow_sub-section c = c.loop-i.invariant.0
+pub one_by_one-best-requires-clause-start_least : goal.one_by_one-best-requires-clause-start_least
+one_by_one-best-requires-clause-start_least c = rw c.loop-n.invariant (least-to c.args.section.now _)
 
-pub after_group-best-requires : goal.after_group-best-requires
-after_group-best-requires c = record { group_size_in_bounds = omega (arith, c.loop-i.invariant.0); best_value = c.loop-i.invariant.1 }
+pub one_by_one-requires-clause-start_least : goal.one_by_one-requires-clause-start_least
+one_by_one-requires-clause-start_least c = rw c.loop-n.invariant (least-to c.args.section.now _)
 
-pub loop-i-smaller : goal.loop-i-smaller
-loop-i-smaller c = omega (arith, c.loop-i.invariant.0)
-
-pub loop-i-preserved : goal.loop-i-preserved
-loop-i-preserved c = (omega (arith, c.loop-i.invariant.0), c.after_group-best.ensures)
-
-pub one_by_one-requires : goal.one_by_one-requires
-one_by_one-requires c = let i = c.loop-i.invariant.0 in record { from_le_end = (omega (arith, i), omega (arith, i)); start_value = c.loop-i.invariant.1 }
+pub loop-n-preserved : goal.loop-n-preserved
+loop-n-preserved c =
+    let xs = c.args.section.now in
+    let at = c.loop-n in
+    let g = c.as_chunks in
+    elim c.if-not-is_quiet.branch [
+      | then-not-is_quiet w ↦ w.best-is ∙ w.one_by_one-best.ensures ∙ rw at.invariant (group_after xs g.result.0.now g.ensures.front g.ensures.front_len at.n c.loop-n-test.true)
+      | else-not-is_quiet w ↦ w.best-is ∙ at.invariant ∙ group_passed xs g.result.0.now g.ensures.front g.ensures.front_len at.n c.loop-n-test.true (rw at.invariant at (sym c.is_quiet.ensures ∙ w.if-not-is_quiet.false))
+    ]
 
 pub returns : goal.returns
-returns c = c.one_by_one.ensures
+returns c =
+    let g = c.as_chunks in
+    let all : c.loop-n.n ≡ length g.result.0.now = omega arith in
+    c.one_by_one.ensures ∙ rw (c.loop-n.invariant, all) (rest_after c.args.section.now g.result.0.now g.ensures.front g.ensures.front_len g.result.1.now g.ensures.back)

@@ -1,11 +1,8 @@
 use mathlib.Core.Path.{◌≡◌}
-use Prim.Native.Nat.{◌≤◌, ◌-◌}
-use lib.ListN.{length}
+use Prim.Native.Nat.{◌*◌}
+use Rattle.peaks.specs.Inner.{group_size}
 use Rattle.peaks.specs.Peaks.{peak_to}
 use Rattle.peaks.proofs.peak_of.Given as goal
 
-abbrev pub invariant-loop-i : goal.invariant-loop-i
-invariant-loop-i l = (l.i ≤ length l.section) × (l.best ≡ peak_to l.section l.i)
-
-abbrev pub decreases-loop-i : goal.decreases-loop-i
-decreases-loop-i l = length l.section - l.i
+abbrev pub invariant-loop-n : goal.invariant-loop-n
+invariant-loop-n l = l.best ≡ peak_to l.section (l.n * group_size)

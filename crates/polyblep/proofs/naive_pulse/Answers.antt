@@ -3,8 +3,5 @@ use mathlib.Core.Path.{refl}
 use lib.Ieee.{of_bits, neg}
 use Rattle.polyblep.proofs.naive_pulse.Goals as goal
 
-pub returns-then-phase-edge : goal.returns-then-phase-edge
-returns-then-phase-edge c = rw c.if-phase-edge.true refl
-
-pub returns : goal.returns
-returns c = rw c.if-phase-edge.false (unfold of_bits in unfold neg in refl)
+pub returns-else-phase-edge : goal.returns-else-phase-edge
+returns-else-phase-edge c = rw c.if-phase-edge.false (unfold of_bits in unfold neg in refl)

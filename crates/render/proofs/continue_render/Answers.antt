@@ -6,10 +6,10 @@ use Rattle.render.proofs.Outcomes.{continue_refused, continue_goes}
 use Rattle.render.proofs.continue_render.Goals as goal
 
 pub continue_from-requires : goal.continue_from-requires
-continue_from-requires c = passed-sorted _ _ _ (done_none _ _ _ (sym c.judged-answer.ensures ∙ c.in-Done.is))
+continue_from-requires c = passed-sorted _ _ _ (done_none _ _ _ (sym c.judged-answer.ensures ∙ c.in-Ok.is))
 
-pub returns-in-Refused : goal.returns-in-Refused
-returns-in-Refused c = continue_refused _ _ _ _ _ _ _ (sym (rw c.part_fits-stretch.ensures at c.judged-answer.ensures) ∙ c.in-Refused.is)
+pub returns-in_default : goal.returns-in_default
+returns-in_default c = rw c.in_default.is (continue_refused _ _ _ _ _ _ _ (sym (rw c.part_fits-stretch.ensures at c.judged-answer.ensures) ∙ c.in_default.is))
 
-pub returns-in-Done : goal.returns-in-Done
-returns-in-Done c = c.continue_from.ensures ∙ continue_goes _ _ _ _ _ _ _ (sym (rw c.part_fits-stretch.ensures at c.judged-answer.ensures) ∙ c.in-Done.is)
+pub returns : goal.returns
+returns c = c.continue_from.ensures ∙ continue_goes _ _ _ _ _ _ _ (sym (rw c.part_fits-stretch.ensures at c.judged-answer.ensures) ∙ c.in-Ok.is)

@@ -1,10 +1,16 @@
 -- `score::check` meets its contract. Assumes nothing.
-use mathlib.Core.Path.{sym, ◌∙◌}
-use Rattle.score.proofs.Verdicts.{answer-accepted, answer-faulty}
+use Rattle.std.proofs.Common.{sym}
+use Rattle.std.proofs.lemmas.Result.{err_from_is_err_and}
+use Rattle.score.specs.Score.{answer_of}
+use Rattle.score.proofs.Verdicts.{judged_on, judged_out}
 use Rattle.score.proofs.check.Goals as goal
 
-pub returns-in-Accepted : goal.returns-in-Accepted
-returns-in-Accepted c = sym (answer-accepted _ _ (sym c.judge.ensures ∙ c.in-Accepted.is))
+pub returns-in_err-map_err : goal.returns-in_err-map_err
+unfolding answer_of
+returns-in_err-map_err c =
+    let p = err_from_is_err_and c.from_residual.result c.from_residual.ensures.1 in
+    rw (p.1, p.2) (sym (judged_out _ _ _ c.judge.result c.judge.ensures c.map_err.ensures.cases _ c.in_err-map_err.was _ _))
 
-pub returns-in-Faulty : goal.returns-in-Faulty
-returns-in-Faulty c = sym (answer-faulty _ _ (sym c.judge.ensures ∙ c.in-Faulty.is))
+pub returns : goal.returns
+unfolding answer_of
+returns c = sym (judged_on _ _ _ c.judge.result c.judge.ensures c.map_err.ensures.cases _ c.in_ok-map_err.was _ _)

@@ -1,11 +1,11 @@
-use Prim.Native.Nat.{◌-◌}
-use lib.ListN.{length}
-use Rattle.sections.specs.Outcome.{lends}
-use Rattle.sections.proofs.Turns.{Walked}
+use Rattle.sections.specs.Outcome.{samples_in}
+use Rattle.sections.specs.Lending.{held}
+use Rattle.sections.proofs.Lending.{SameSlices}
+use Rattle.sections.proofs.Turns.{Walked, reached}
 use Rattle.sections.proofs.play_sections.Given as goal
 
-abbrev pub invariant-loop-sample : goal.invariant-loop-sample
-invariant-loop-sample l = Walked l.settings l.score l.section l.initial.place l.quiet (lends l.initial.out l.initial.shelf l.initial.magnitudes l.initial.numbers) l.out l.shelf l.magnitudes l.numbers l.place l.k l.sample
-
-abbrev pub decreases-loop-sample : goal.decreases-loop-sample
-decreases-loop-sample l = length l.initial.out - l.sample
+abbrev pub invariant-loop-k : goal.invariant-loop-k
+invariant-loop-k l = let b = held l.initial.lent in record {
+  same : SameSlices l.initial.lent l.lent;
+  walked : Walked l.settings l.score l.section l.initial.place l.quiet b l.lent.heard.now l.lent.stored.now l.lent.magnitudes.now l.lent.numbers.now l.place l.k (reached (samples_in b) l.k);
+}

@@ -5,4 +5,4 @@ use Rattle.shelf.proofs.decode.Goals as goal
 
 pub returns : goal.returns
 unfolding is_entry
-returns c = rw (c.is_state.ensures, c.word.ensures, c.state_of-state.ensures) refl
+returns c = rw (c.then_some.ensures, c.is_state.ensures, c.word.ensures, c.state_of-state.ensures) refl

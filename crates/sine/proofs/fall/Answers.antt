@@ -6,11 +6,8 @@ use native.Mathlib.Omega.{arith}
 use Rattle.sine.proofs.Levels.{level-fall, read, written}
 use Rattle.sine.proofs.fall.Goals as goal
 
-pub loop-k-init : goal.loop-k-init
-loop-k-init c = (omega arith, c.requires)
-
 pub loop-k-preserved : goal.loop-k-preserved
-loop-k-preserved c = let k = c.loop-k.k in let u = c.loop-k.invariant.1 in (omega arith, rw (← add_assoc 1025 k 1) (written (1025 + k) c.loop-k.wave u _ (omega arith) (read (1025 + k) c.loop-k.wave u (1023 - k) (omega arith) ∙ sym (level-fall k (omega arith)))))
+loop-k-preserved c = let k = c.loop-k.k in let u = c.loop-k.invariant in rw (← add_assoc 1025 k 1) (written (1025 + k) c.loop-k.wave u _ (omega arith) (read (1025 + k) c.loop-k.wave u (1023 - k) (omega arith) ∙ sym (level-fall k (omega arith))))
 
 pub returns : goal.returns
-returns c = let e : c.loop-k.k ≡ 1023 = omega (arith, c.loop-k.invariant.0) in rw e at c.loop-k.invariant.1
+returns c = let e : c.loop-k.k ≡ 1023 = omega arith in rw e at c.loop-k.invariant

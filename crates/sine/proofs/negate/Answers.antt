@@ -6,11 +6,8 @@ use native.Mathlib.Omega.{arith}
 use Rattle.sine.proofs.Levels.{level-negate, read, written}
 use Rattle.sine.proofs.negate.Goals as goal
 
-pub loop-k-init : goal.loop-k-init
-loop-k-init c = (omega arith, c.requires)
-
 pub loop-k-preserved : goal.loop-k-preserved
-loop-k-preserved c = let k = c.loop-k.k in let u = c.loop-k.invariant.1 in (omega arith, rw (← add_assoc 2048 k 1) (written (2048 + k) c.loop-k.wave u _ (omega arith) (rw (read (2048 + k) c.loop-k.wave u k (omega arith)) (sym (level-negate k)))))
+loop-k-preserved c = let k = c.loop-k.k in let u = c.loop-k.invariant in rw (← add_assoc 2048 k 1) (written (2048 + k) c.loop-k.wave u _ (omega arith) (rw (read (2048 + k) c.loop-k.wave u k (omega arith)) (sym (level-negate k))))
 
 pub returns : goal.returns
-returns c = let e : c.loop-k.k ≡ 2049 = omega (arith, c.loop-k.invariant.0) in rw e at c.loop-k.invariant.1
+returns c = let e : c.loop-k.k ≡ 2049 = omega arith in rw e at c.loop-k.invariant

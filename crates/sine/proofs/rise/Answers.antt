@@ -4,11 +4,8 @@ use native.Mathlib.Omega.{arith}
 use Rattle.sine.proofs.Levels.{level-rise, written}
 use Rattle.sine.proofs.rise.Goals as goal
 
-pub loop-k-init : goal.loop-k-init
-loop-k-init c = (omega arith, c.requires.1)
-
 pub loop-k-preserved : goal.loop-k-preserved
-loop-k-preserved c = let k = c.loop-k.k in (omega arith, written k c.loop-k.wave c.loop-k.invariant.1 _ (omega arith) (rw c.requires.0 (sym (level-rise k (omega arith)))))
+loop-k-preserved c = let k = c.loop-k.k in written k c.loop-k.wave c.loop-k.invariant _ (omega arith) (rw c.requires.0 (sym (level-rise k (omega arith))))
 
 pub returns : goal.returns
-returns c = let e : c.loop-k.k ≡ 1025 = omega (arith, c.loop-k.invariant.0) in rw e at c.loop-k.invariant.1
+returns c = let e : c.loop-k.k ≡ 1025 = omega arith in rw e at c.loop-k.invariant

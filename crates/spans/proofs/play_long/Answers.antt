@@ -4,8 +4,8 @@ use Rattle.sine.proofs.Whole.{whole_long}
 use Rattle.filling.proofs.Lent.{whole-value}
 use Rattle.spans.proofs.play_long.Goals as goal
 
-pub slice_bounds-play_in-end : goal.slice_bounds-play_in-end
-slice_bounds-play_in-end c = rw c.whole_wave.ensures (sym whole_long)
+pub slice_bounds-player-end : goal.slice_bounds-player-end
+slice_bounds-player-end c = rw c.whole_wave.ensures (sym whole_long)
 
-pub play_in-requires : goal.play_in-requires
-play_in-requires c = rw c.whole_wave.ensures whole-value
+pub invariant_of-player : goal.invariant_of-player
+invariant_of-player c = record { wave_table = rw c.whole_wave.ensures whole-value }

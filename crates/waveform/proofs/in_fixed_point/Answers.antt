@@ -2,11 +2,8 @@
 use borrow.Author.Rules.{rules}
 use native.Mathlib.Nat.{mod-eq_of_lt}
 use native.Mathlib.Omega.{arith}
-use Rattle.waveform.proofs.Remainders.{not-nan, near-finite, field_least, field_most, shifted, units_are}
+use Rattle.waveform.proofs.Remainders.{near-finite, field_least, field_most, shifted, units_are}
 use Rattle.waveform.proofs.in_fixed_point.Goals as goal
-
-pub float_to_bits-bits : goal.float_to_bits-bits
-float_to_bits-bits c = not-nan c.args.x (search rules) c.requires.0 (near-finite c.args.x (search rules) c.requires.0 c.requires.1)
 
 pub overflow_sub-result : goal.overflow_sub-result
 overflow_sub-result c = field_least c.args.x (search rules) c.requires.0 (near-finite c.args.x (search rules) c.requires.0 c.requires.1)

@@ -1,14 +1,10 @@
 -- `words::u32_at` meets its contract. Assumes nothing.
 use mathlib.Core.Path.{◌∙◌}
-use native.Mathlib.Omega.{arith}
-use Rattle.words.proofs.Sums.{word-short, word-there}
+use Rattle.words.proofs.Sums.{four_are, word-short, word-there}
 use Rattle.words.proofs.u32_at.Goals as goal
 
-pub returns-then-bytes-lt4 : goal.returns-then-bytes-lt4
-returns-then-bytes-lt4 c = word-short 4 c.args.bytes.now c.args.at (omega arith)
+pub returns-in-Some : goal.returns-in-Some
+returns-in-Some c = let h = c.in-Some.ensures in let a = c.args in c.from_le_bytes.ensures ∙ rw h.1 (four_are a.bytes.now a.at) ∙ word-there 4 a.bytes.now a.at h.0
 
-pub returns-then-bytes-at : goal.returns-then-bytes-at
-returns-then-bytes-at c = word-short 4 c.args.bytes.now c.args.at (omega arith)
-
-pub returns : goal.returns
-returns c = c.four.ensures ∙ word-there 4 c.args.bytes.now c.args.at (omega arith)
+pub returns-in-None : goal.returns-in-None
+returns-in-None c = word-short 4 c.args.bytes.now c.args.at c.in-None.ensures

@@ -1,14 +1,10 @@
 -- `words::u64_at` meets its contract. Assumes nothing.
-use mathlib.Core.Path.{sym, ◌∙◌}
-use native.Mathlib.Omega.{arith}
-use Rattle.words.proofs.Sums.{eight_is, word-short, word-there}
+use mathlib.Core.Path.{◌∙◌}
+use Rattle.words.proofs.Sums.{eight_are, word-short, word-there}
 use Rattle.words.proofs.u64_at.Goals as goal
 
-pub returns-then-bytes-lt8 : goal.returns-then-bytes-lt8
-returns-then-bytes-lt8 c = word-short 8 c.args.bytes.now c.args.at (omega arith)
+pub returns-in-Some : goal.returns-in-Some
+returns-in-Some c = let h = c.in-Some.ensures in let a = c.args in c.from_le_bytes.ensures ∙ rw h.1 (eight_are a.bytes.now a.at) ∙ word-there 8 a.bytes.now a.at h.0
 
-pub returns-then-bytes-at : goal.returns-then-bytes-at
-returns-then-bytes-at c = word-short 8 c.args.bytes.now c.args.at (omega arith)
-
-pub returns : goal.returns
-returns c = rw (c.four-high.ensures, c.four-low.ensures) (sym (eight_is c.args.bytes.now c.args.at) ∙ word-there 8 c.args.bytes.now c.args.at (omega arith))
+pub returns-in-None : goal.returns-in-None
+returns-in-None c = word-short 8 c.args.bytes.now c.args.at c.in-None.ensures

@@ -1,17 +1,11 @@
 -- `envelope::EnvelopeBlock::process` meets its contract: Outcomes.antt has a law for each return. Assumes nothing.
-use mathlib.Core.Path.{refl}
-use mathlib.Core.Bool.{◌&&◌}
+use Rattle.std.proofs.Common.{sym, ◌∙◌}
 use Rattle.envelope.proofs.Outcomes.{process-done, process-refused}
 use Rattle.envelope.proofs.EnvelopeBlock.process.Goals as goal
 
-pub returns-then-usable-sound : goal.returns-then-usable-sound
-returns-then-usable-sound c = let a = c.args in rw c.judged-answer.ensures
-    (process-done a.self a.rate a.out.now c.clamped.result c.sample_time.result c.fill-envelope.new.out c.fill-envelope.result
-    (c.is_adsr.result && c.is_rate.result) c.is_envelope-sound.result
-    (rw (c.is_adsr.ensures, c.is_rate.ensures) refl) c.is_envelope-sound.ensures c.if-usable-sound.true
-    c.clamped.ensures c.sample_time.ensures c.fill-envelope.ensures)
+pub returns-then-is_ok : goal.returns-then-is_ok
+returns-then-is_ok c = let a = c.args in
+    process-done a.self a.rate a.out.now _ _ _ _ _ c.judged-answer.ensures (sym c.is_ok.ensures.value ∙ c.if-is_ok.true) c.clamped.ensures c.sample_time.ensures c.fill-block.ensures
 
-pub returns-else-usable-sound : goal.returns-else-usable-sound
-returns-else-usable-sound c = let a = c.args in rw c.judged-answer.ensures
-    (process-refused a.self a.rate a.out.now (c.is_adsr.result && c.is_rate.result) c.is_envelope-sound.result
-    (rw (c.is_adsr.ensures, c.is_rate.ensures) refl) c.is_envelope-sound.ensures c.if-usable-sound.false)
+pub returns-else-is_ok : goal.returns-else-is_ok
+returns-else-is_ok c = let a = c.args in process-refused a.self a.rate a.out.now _ c.judged-answer.ensures (sym c.is_ok.ensures.value ∙ c.if-is_ok.false)

@@ -1,5 +1,4 @@
-use Prim.Native.Nat.{◌-◌}
-use lib.ListN.{length}
+use Rattle.std.proofs.Common.{◌-◌, length}
 use Rattle.envelope.specs.Inner.{Reached}
 use Rattle.envelope.proofs.levels.scale.Given as goal
 

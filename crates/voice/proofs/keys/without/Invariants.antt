@@ -1,9 +1,6 @@
-use Prim.Native.Nat.{◌-◌}
+use Rattle.std.proofs.Common.{◌≤◌}
 use Rattle.voice.proofs.Walk.{Walks}
 use Rattle.voice.proofs.keys.without.Given as goal
 
 abbrev pub invariant-loop-i : goal.invariant-loop-i
-invariant-loop-i l = Walks l.note l.initial.notes l.initial.velocities l.count l.notes l.velocities l.kept l.i
-
-abbrev pub decreases-loop-i : goal.decreases-loop-i
-decreases-loop-i l = l.count - l.i
+invariant-loop-i l = (l.held ≤ 16) × Walks l.note l.initial.keys l.keys l.kept l.i

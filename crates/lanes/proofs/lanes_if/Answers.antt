@@ -1,9 +1,0 @@
--- `lanes::lanes_if` meets its contract. Assumes nothing.
-use Rattle.std.proofs.Common.{refl}
-use Rattle.lanes.proofs.lanes_if.Goals as goal
-
-pub returns-then-ok : goal.returns-then-ok
-returns-then-ok c = rw c.if-ok.true refl
-
-pub returns : goal.returns
-returns c = rw c.if-ok.false refl

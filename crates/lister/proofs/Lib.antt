@@ -1,3 +1,0 @@
--- What the lister's proofs rest on.
--- what is known once reading has ended
-pub mod Ends
