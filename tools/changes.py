@@ -11,7 +11,7 @@ from decimal import Decimal
 
 TOKEN = re.compile(
     r"""(?P<gap>\s+|//[^\n]*)
-    |(?P<text>b"(?:\\.|[^"\\])*"|b'(?:\\.|[^'\\])')
+    |(?P<text>b?"(?:\\.|[^"\\])*"|b'(?:\\.|[^'\\])')
     |(?P<float>\d[\d_]*\.\d[\d_]*(?:e[+-]?\d+)?|\d[\d_]*e[+-]?\d+)
     |(?P<int>0x[\da-fA-F_]+|\d[\d_]*)(?P<suffix>[iu](?:8|16|32|64|size))?
     |(?P<name>'?[A-Za-z_]\w*)
@@ -122,19 +122,20 @@ class Code:
         while i < len(self.tokens):
             word = self.at(i)
             if word == "ghost":
-                while self.at(i) != ";":
-                    i += 1
+                while self.at(i) not in (";", ",", "}"):  # of a struct's ghost field a comma or a bracket is the end
+                    i = closing(self.tokens, i) + 1 if self.at(i) in OPEN else i + 1
             elif word == "impl":
-                block, block_end = self.at(i + 1) + "::", closing(self.tokens, i + 2)
-                i += 2
+                block, i = self.implemented(i + 1)
+                block_end = closing(self.tokens, i)
             elif word == "fn":
                 parameters, last = self.signature(i)
-                body = self.body(last + 1)
-                end = closing(self.tokens, body)
-                name = (block if i < block_end else "") + self.at(i + 1)
-                found.append(Part(name, body + 1, end, tuple(parameters)))
+                body = end = self.body(last + 1)
+                if self.at(body) == "{":
+                    end = closing(self.tokens, body)
+                    name = (block if i < block_end else "") + self.at(i + 1)
+                    found.append(Part(name, body + 1, end, tuple(parameters)))
                 i = end
-            elif word == "const":
+            elif word == "const" and self.at(i - 1) not in ("<", ","):
                 value = i
                 while self.at(value) != "=":
                     value += 1
@@ -146,11 +147,20 @@ class Code:
             i += 1
         return found
 
-    def body(self, i):
-        """Where a function's body opens, past its type and its contract."""
+    def implemented(self, i):
+        """What the names of an `impl`'s functions begin with, and where its bracket opens; i is behind `impl`."""
+        start = i
         while self.at(i) != "{":
+            i += 1
+        return re.match(r"(?:<.*?>\s+)?(?:.*\bfor\s+)?(\w+)", self.span(start, i), re.S)[1] + "::", i
+
+    def body(self, i):
+        """Where a function's body opens, past its type and its contract, or its `;` where a trait has no body of it."""
+        while self.at(i) not in ("{", ";"):
             if self.at(i) in ("requires", "ensures", "ghost"):
-                i = closing(self.tokens, i + 1)
+                while self.at(i) not in OPEN:  # a clause may have a name
+                    i += 1
+                i = closing(self.tokens, i)
             elif self.at(i) == "[":
                 i = closing(self.tokens, i)
             i += 1
@@ -217,8 +227,8 @@ def constants(code, part, names, i):
         inside = code.span(part.first, part.last) + str(part.parameters)
         news = floats(token.text, "f32" in inside and "f64" not in inside)
     elif token.kind == "text":
-        news = [re.sub(r"[ -!#-Z^-z]", lambda m: chr(ord(m[0]) + 1), token.text[2:], count=1)]
-        news = [token.text[:2] + new for new in news]
+        quote, rest = re.fullmatch(r"(b?['\"])(.*)", token.text, re.S).groups()
+        news = [quote + re.sub(r"[ -!#-Z^-z]", lambda m: chr(ord(m[0]) + 1), rest, count=1)]
     elif token.text in ("true", "false"):
         news = ["false" if token.text == "true" else "true"]
     for new in news:

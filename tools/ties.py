@@ -1,14 +1,15 @@
 """What ties the promises together: contracts, theorems that two outcomes are equal, the calls, and wrong programs.
 
-A public function of a library crate has one `ensures` and no `requires`. Its theorem is the one in its crate's
-proofs/Unique.antt that has its name (`set_phase_unique` for `set_phase`), or the one that SHARED names. The theorem has
-two hypotheses. Each is the contract's formula with other names: every variable of the theorem stands for one and the
-same piece of the formula in both hypotheses, but for the variables of the outcome (the result, and what is left in each
-lent buffer): there are two of each, and the conclusion says that each two are equal. Two variables stand for two
-pieces, and everything that the function takes is in the formula: of a lent buffer, what it held or what is left in it.
+A public function of a library crate has one `ensures` and no `requires`; a function that a `pub trait` declares is one.
+Its theorem is the one in its crate's proofs/Unique.antt that has its name (`set_phase_unique` for `set_phase`), or the
+one that SHARED names. The theorem has two hypotheses. Each is the contract's formula with other names: every variable
+of the theorem stands for one and the same piece of the formula in both hypotheses, but for the variables of the outcome
+(the result, and what is left in each lent buffer): there are two of each, and the conclusion says that each two are
+equal. Two variables stand for two pieces, and everything that the function takes is in the formula: of a lent buffer,
+what it held or what is left in it.
 
 The table under "The calls" in docs/PROMISES.md is written by hand. A row has a function, its kind, what its contract
-must say behind `≡`, with x for `x.now` and `x.old`, and the file of the definition that this begins with. A public
+must say behind `≡`, with x for `x.now` and `x.old`, and the file of each definition in that, in order. A public
 function that has no row is a helper.
 
 A static library exports functions of another crate under their names: each must have that one's parameters, result and
@@ -43,6 +44,7 @@ SHARED = {
 # Comments and texts are skipped, so that a brace or a word in them is no code.
 TOKEN = re.compile(
     r"//[^\n]*|/\*.*?\*/|\"(?:\\.|[^\"\\])*\"|'(?:\\[^']+|[^'\\])'"
+    r"|(?P<open>\bpub\s+)?\btrait\s+(?P<declares>\w+)|\bghost\s+(?P<ghost>\w+)\s*[:=]\s*(?=\{)"
     r"|\bimpl\b\s*(?:<[^>]*>)?\s*(?:(?P<trait>\w+)(?:<[^{}]*?>)?\s+for\s+)?(?P<type>\w+)|\bmod\s+(?P<mod>\w+)(?=\s*\{)"
     r"|(?P<pub>\bpub\s+(?:(?:const|unsafe)\s+)*)?(?P<extern>\bextern\s+\"C\"\s+)?\bfn\s+(?P<fn>\w+)|(?P<brace>[{}])",
     re.S,
@@ -62,9 +64,12 @@ GIVES = re.compile(r"ghost (?:try_)?from_gives = \{ λ (?P<taken>\w+) (?P<given>
 OPEN, CLOSE = "({", ")}"
 RESULT = "the result"  # no parameter has such a name
 PLAIN = {"×", "→"}  # words of the logic itself
+EQUALS = ("logic mathlib.Core.Path", "◌≡◌")
+MEMBER = "a ghost member"  # where a contract cites one: what each `impl` says of it is in no file of specs/
 # Where the logic declares what std passes on under names of its own; the theorems name it there.
 PRELUDE = {
     "◌≡◌": "mathlib.Core.Path",
+    "T": "lib.Dec",
     **dict.fromkeys(("true", "false", "cond", "not", "◌&&◌"), "mathlib.Core.Bool"),
     **dict.fromkeys(("List", "◌∷◌", "◌++◌", "map"), "mathlib.Core.List"),
     **dict.fromkeys(("length", "take", "drop"), "lib.ListN"),
@@ -77,9 +82,10 @@ ALWAYS = {name: ("logic Rattle.std.specs.Prelude", name) for name in ("Ok", "Err
 
 
 class Function(NamedTuple):
-    name: str  # crate::Type::function, or crate::module::function
+    name: str  # crate::Type::function, crate::Trait::function or crate::module::function
     file: str
     types: list  # its type parameters, whose bounds have ghost members
+    members: list  # the ghost members of its own trait
     takes: list  # the names of what it takes
     seen: list  # those that are references
     lent: list  # those of these that it may change
@@ -113,33 +119,56 @@ def paths(texts, crate, folder):
 # ---- the code
 
 
+def scanned(text):
+    """Every function and ghost member of a file, with the modules, types and traits in which it stands."""
+    scopes, ahead = [], None
+    for token in TOKEN.finditer(text):
+        if token["type"] or token["mod"] or token["declares"]:
+            ahead = token
+        elif token["brace"] == "{":
+            scopes.append(ahead)
+            ahead = None
+        elif token["brace"] == "}" and scopes:
+            scopes.pop()
+        elif token["fn"] or token["ghost"]:
+            yield token, [scope for scope in scopes if scope]
+
+
 def functions(texts, crate):
     """Name, whether it is public or exported, file, and where its text begins, of every function of a crate."""
     for path in paths(texts, crate, "src"):
         parts = path.removesuffix(".rt").split("/")[3:]
         modules = [] if parts == ["lib"] else parts
-        scopes, ahead = [], None
-        for token in TOKEN.finditer(texts[path]):
-            if token["type"] or token["mod"]:
-                ahead = token
-            elif token["brace"] == "{":
-                scopes.append(ahead)
-                ahead = None
-            elif token["brace"] == "}" and scopes:
-                scopes.pop()
-            elif token["fn"]:
-                kind = [s["type"] for s in scopes if s and s["type"]]
-                inner = [s["mod"] for s in scopes if s and s["mod"]]
+        for token, scopes in scanned(texts[path]):
+            if token["fn"]:
+                kind = [s["type"] or s["declares"] for s in scopes if s["type"] or s["declares"]]
+                inner = [s["mod"] for s in scopes if s["mod"]]
                 name = "::".join([crate, *(kind or modules + inner), token["fn"]])
-                converts = any(s["trait"] in CONVERSIONS for s in scopes if s and s["type"])
-                yield name, bool(token["pub"] or token["extern"] or converts), path, token.end()
+                is_open = any(s["open"] or s["trait"] in CONVERSIONS for s in scopes)
+                yield name, bool(token["pub"] or token["extern"] or is_open), path, token.end()
 
 
 def public(texts, crate):
     for name, is_public, path, start in functions(texts, crate):
         if is_public:
             function = signature(name, path, COMMENT.sub("", texts[path][start:]))
+            trait = name.split("::")[-2]
+            if f"trait {trait}" in texts[path]:
+                function = function._replace(members=list(members(texts[path], trait)))
             yield function if function.clauses else function._replace(clauses=conversion(function, texts[path][:start]))
+
+
+def members(text, only=None):
+    """The ghost members of the traits of a file, or of one that it declares: all that the file says of each."""
+    text, found = COMMENT.sub("", text), {}
+    for token, scopes in scanned(text):
+        if not token["ghost"] or not scopes:
+            continue
+        trait, of = scopes[-1]["declares"] or scopes[-1]["trait"], scopes[-1]["type"]
+        if trait and only in (None, scopes[-1]["declares"]):
+            says = " ".join(text[token.end() + 1 : closing(text, token.end())].split())
+            found.setdefault(token["ghost"], []).append(f"{trait} of {of}: {says}")
+    return {name: "; ".join(said) for name, said in found.items()}
 
 
 def conversion(function, before):
@@ -190,7 +219,7 @@ def signature(name, path, text):
         end = closing(text, clause.end() - 1)
         clauses.append((clause["key"], " ".join(text[clause.end() : end].split())))
         at = end + 1
-    return Function(name, path, types, takes, seen, lent, answers, clauses)
+    return Function(name, path, types, [], takes, seen, lent, answers, clauses)
 
 
 def formula(function):
@@ -257,15 +286,16 @@ def declarations(text):
 
 
 class Specs:
-    """The definitions of all crates."""
+    """The definitions of all crates, and the ghost members of their traits."""
 
     def __init__(self, texts):
         self.texts, self.files = texts, {}
 
     def file(self, path):
         if path not in self.files:
-            held = declarations(self.texts.get(path, ""))
-            self.files[path] = held, Names(self.texts.get(path, ""), held)
+            text = self.texts.get(path, "")
+            held = (members if path.endswith(".rt") else declarations)(text)
+            self.files[path] = held, Names(text, held)
         return self.files[path]
 
     def declares(self, path, name):
@@ -276,6 +306,9 @@ class Specs:
         found, ahead = {}, list(cited)
         while ahead:
             path, name = ahead.pop()
+            if path == MEMBER:
+                code = [file for file in self.texts if file.endswith(".rt")]
+                ahead += [(file, name) for file in code if f"ghost {name}" in self.texts[file]]
             if (path, name) in found or not path.startswith("crates/"):
                 continue
             held, names = self.file(path)
@@ -331,7 +364,8 @@ def contract(function, names):
             return with_fields(("taken", name), fields[1:])
         if name in function.takes:
             return with_fields(("taken", name), fields)
-        if name in function.types and fields:
+        if (name in function.types and fields) or name in function.members:
+            cited.extend((MEMBER, part) for part in (name, *fields))
             return ("taken", word)
         if word.startswith(".") or re.fullmatch(r"\d\w*", word) or word in PLAIN:
             return word
@@ -352,6 +386,13 @@ def outcome_of(text):
     """What a formula says behind `≡`, with x for `x.now` and `x.old`."""
     text = text.partition(" ≡ ")[2].replace("«", "").replace("»", "")
     return re.sub(r"(?<![\w.])(\w+)\.(?:now|old)\b", r"\1", text)
+
+
+def defined_in(shape):
+    """The definitions of crates in a formula, in order, each with its file."""
+    if isinstance(shape, list):
+        return [found for inner in shape for found in defined_in(inner)]
+    return [shape] if isinstance(shape, tuple) and shape[0].startswith("crates/") else []
 
 
 def parted(words, sign):
@@ -441,7 +482,7 @@ def equated(concluded):
     parts = parted(concluded, "×") if "×" in concluded else [[concluded]]
     for part in parts:
         whole = part[0] if len(part) == 1 else part
-        if isinstance(whole, list) and len(whole) == 3 and whole[1] == ("logic mathlib.Core.Path", "◌≡◌"):
+        if isinstance(whole, list) and len(whole) == 3 and whole[1] == EQUALS:
             yield whole[0][1], whole[2][1]
         else:
             yield ("", "")
@@ -465,7 +506,7 @@ def unique_of(texts, crate):
 class Call(NamedTuple):
     kind: str
     outcome: str
-    file: str  # of the definition that the outcome begins with
+    files: list  # of the definitions in the outcome, in order
 
 
 def calls(texts):
@@ -475,7 +516,8 @@ def calls(texts):
     for line in text.splitlines():
         cells = [cell.strip() for cell in line.strip("|").split(" | ")]
         if line.startswith("| `") and len(cells) >= 4:
-            found.setdefault(cells[0].strip("| `"), []).append(Call(cells[1], cells[2].strip("`"), cells[3]))
+            row = Call(cells[1], cells[2].strip("`"), cells[3].split(", "))
+            found.setdefault(cells[0].strip("| `"), []).append(row)
     return found
 
 
@@ -508,9 +550,10 @@ docs/PROMISES.md, written by hand, says what the statements mean, what is truste
 sentence of 01.
 
 Under the name of each public function are its kind; its contract, for every input, in which `x.new` is what is left in
-x, with a number that changes with the text of any definition that the contract rests on; the theorem that two outcomes
-that meet the contract are equal; and wrong programs that the contract rules out. Of these `must-fail` and `gate` are
-tried at every gate, and `listed` by `tools/mutants --listed`. docs/PROMISES.md says what the kinds are.
+x, with a number that changes with the text of any definition that the contract rests on, and of what any `impl` says of
+a ghost member that it names, such as `F.number`; the theorem that two outcomes that meet the contract are equal; and
+wrong programs that the contract rules out. Of these `must-fail` and `gate` are tried at every gate, and `listed` by
+`tools/mutants --listed`. docs/PROMISES.md says what the kinds are.
 """
 
 
@@ -599,7 +642,7 @@ def function_faults(texts, specs, rows, crate, function):
     if missed:
         yield f"its contract says nothing of {', '.join(missed)}"
     if function.name in rows:
-        yield from call_faults(rows[function.name][0], formula(function), names)
+        yield from call_faults(rows[function.name][0], formula(function), shape)
 
 
 def theorem_faults(texts, crate, function, shape):
@@ -649,16 +692,18 @@ def head_of(texts, function):
     return head and " ".join(head[1].split())
 
 
-def call_faults(row, text, names):
-    """The contract says what the row says."""
+def call_faults(row, text, shape):
+    """The contract says what the row says, by definitions of the files that the row names."""
     outcome = outcome_of(text)
     if not outcome or outcome != row.outcome:
         yield f"its contract says `{outcome}`, and the table of calls `{row.outcome}`"
         return
-    first = outcome.split()[0].strip("(")
-    path = (names.of(first) or ("no file", first))[0]
-    if path != f"crates/{row.file}":
-        yield f"`{first}` is declared in {path}, and the table of calls says {row.file}"
+    found = defined_in(shape[shape.index(EQUALS) + 1 :])
+    for (path, name), file in zip(found, row.files):
+        if path != f"crates/{file}":
+            yield f"`{name}` is declared in {path}, and the table of calls says {file}"
+    if not found or len(found) != len(row.files):
+        yield f"its contract has {len(found)} definitions behind `≡`, and the table of calls {len(row.files)} files"
 
 
 def wrong_faults(texts, crate):

@@ -42,7 +42,7 @@ pub mod Pattern
 pub mod Fields
 -- the floor from a fraction that equals the number
 pub mod Floors
--- what the tests of `floor_by_bits` show
+-- what the tests of `floor_f32` and `floor_by_bits` show
 pub mod Tests
 -- the floor of a number above 0 and below 2, by comparisons
 pub mod Low

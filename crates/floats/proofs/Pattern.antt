@@ -1,5 +1,5 @@
 -- The number of a bit pattern, in units of the format's smallest value 2 ^ -low, from the exponent field and the digits
--- below it. For either format. Assumes nothing.
+-- below it. For either format, so that both widths of `floor` use it. Assumes nothing.
 use mathlib.Core.Path.{◌≡◌, sym, ap, ◌∙◌, subst}
 use mathlib.Core.Bool.{Bool, true, false, cond}
 use Prim.Native.Nat.{ℕ, zero, suc, ◌+◌, ◌-◌, ◌*◌, ◌/◌, ◌%◌, ◌^◌, ◌≤◌, ◌<◌}

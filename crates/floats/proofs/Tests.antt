@@ -1,5 +1,5 @@
--- What the tests of `floor_by_bits` on the bits of x show of its floor, for either format: one law for each return.
--- Assumes nothing.
+-- What the tests of `floor_f32` and `floor_by_bits` on the bits of x show of its floor, for either format: one law for
+-- each return of these functions. Assumes nothing.
 use mathlib.Core.Path.{◌≡◌, refl, sym, ap, ◌∙◌, subst}
 use mathlib.Core.Bool.{Bool, true, false, not, true≢false}
 use Prim.Native.Nat.{ℕ, suc, ◌+◌, ◌-◌, ◌*◌, ◌/◌, ◌%◌, ◌^◌, ◌≤◌, ◌<◌}

@@ -12,7 +12,7 @@ ghost use Rattle.floats.specs.Range.{within};
 
 use std::num;
 
-// A float of either width. An f64 holds every f32, so what is asked of an f32 is asked of an f64.
+// A float of either width.
 pub trait Binary {
     ghost format: { Format };
 
@@ -21,13 +21,13 @@ pub trait Binary {
 
     ghost of_number: { Float → Self };
 
+    // An f64 holds every f32, so whether an f32 is finite is asked of an f64.
     fn widened(self) -> f64
-        ensures same { result ≡ number self }
-        ensures held { T (fits format result) };
+        ensures { (result ≡ number self) × T (fits format result) };
 
-    fn narrowed(x: f64) -> Self
-        requires { T (fits format x) }
-        ensures { result ≡ of_number x };
+    // Its floor. From the bits, each width by itself: through an f64 that of an f32 took up to three times as long.
+    fn floored(self) -> Self
+        ensures { result ≡ of_number (floor_of format (number self)) };
 }
 
 impl Binary for f32 {
@@ -41,11 +41,8 @@ impl Binary for f32 {
         num::f32_to_f64_with_nan(self)
     }
 
-    fn narrowed(x: f64) -> f32 {
-        if x != x {
-            return 0.0 / 0.0;
-        }
-        x as f32
+    fn floored(self) -> f32 {
+        floor_f32(self)
     }
 }
 
@@ -60,8 +57,8 @@ impl Binary for f64 {
         self
     }
 
-    fn narrowed(x: f64) -> f64 {
-        x
+    fn floored(self) -> f64 {
+        floor_f64(self)
     }
 }
 
@@ -84,10 +81,39 @@ pub fn is_finite<F: Binary>(x: F) -> bool
 pub fn floor<F: Binary>(x: F) -> F
     ensures { result ≡ F.of_number (floor_of F.format (F.number x)) }
 {
-    F::narrowed(floor_f64(x.widened()))
+    x.floored()
 }
 
-// By comparisons inside 0 < x < 2, where `polyblep` needs it most, and elsewhere from the bits.
+fn floor_f32(x: f32) -> f32
+    ensures { result ≡ floor_of binary32 x }
+{
+    if x != x {
+        return x;
+    }
+    let bits = f32::to_bits(x);
+    let size = bits % 0x8000_0000;
+    // |x| >= 2^23: the last digit counts 1 or more, so x is whole, or it is an infinity
+    if size >= 0x4b00_0000 {
+        return x;
+    }
+    if size == 0 {
+        return x;
+    }
+    let negative = bits >= 0x8000_0000;
+    // |x| < 1
+    if size < 0x3f80_0000 {
+        if negative {
+            return -1.0;
+        }
+        return 0.0;
+    }
+    let field = size / 0x80_0000;
+    let digits = 0x80_0000 + size % 0x80_0000;
+    let n = whole(digits as u64, 150 - field, negative);
+    if negative { -(n as f32) } else { n as f32 }
+}
+
+// The floor of an f64: by comparisons inside 0 < x < 2, where `polyblep` needs it most, and elsewhere from the bits.
 fn floor_f64(x: f64) -> f64
     ensures { result ≡ floor_of binary64 x }
 {

@@ -6,4 +6,4 @@ use Rattle.floats.proofs.Largest.{finite-is-bounded, largest_bits64}
 use Rattle.floats.proofs.is_finite.Goals as goal
 
 pub returns : goal.returns
-returns g c = let x = c.widened-x in rw (← x.ensures.same, finite-is-bounded binary64 x.result (search rules), largest_bits64) refl
+returns g c = let x = c.widened-x in rw (← x.ensures.0, finite-is-bounded binary64 x.result (search rules), largest_bits64) refl
