@@ -125,8 +125,8 @@ fn wrap_once(out: &mut [f64], over: Radians)
 }
 
 // The values at remainders, which are from 0 to 1 in cycles: with one correction a sample where the edges are so far
-// apart that no sample has two. The back end takes the match and the test out of each loop; with the rounded triangle
-// as one case more it would leave the match inside, so that this waveform has a loop of its own.
+// apart that no sample has two. No match is left in a loop: each waveform has loops of its own, since the back end took
+// a match out of some loops only. It takes the test out of the loops of a pulse and a rounded triangle.
 fn fill_values(out: &mut [f64], waveform: Waveform, dt: f64, scale: f64)
     requires { AllFractions out.old }
     ensures { out.new ≡ made_of (λ (x : Float). value_of waveform (x ⊗ inv_tau) dt ⊗ scale) out.old (length out.old) }
@@ -139,28 +139,27 @@ fn fill_values(out: &mut [f64], waveform: Waveform, dt: f64, scale: f64)
         return;
     }
     if are_apart(waveform, dt) {
-        map_each(out, |x| {
-            value_apart(waveform, in_cycles(Radians(x)), dt) * scale
-        });
+        fill_values_apart(out, waveform, dt, scale);
         return;
     }
-    map_each(out, |x| {
-        branchless_value(waveform, in_cycles(Radians(x)), dt) * scale
-    });
+    fill_values_any(out, waveform, dt, scale);
 }
 
-// `value_at` of a fraction of a cycle, without a branch that depends on the fraction; a sine and a rounded triangle,
-// which are made elsewhere, as `value_at` makes them.
-fn branchless_value(waveform: Waveform, u: f64, dt: f64) -> f64
-    requires { T (within zero64 one u) }
-    ensures { result ≡ value_of waveform u dt }
+// With both corrections, without a branch that depends on the fraction; a sine and a rounded triangle, which are made
+// elsewhere, as `value_at` makes them.
+fn fill_values_any(out: &mut [f64], waveform: Waveform, dt: f64, scale: f64)
+    requires { AllFractions out.old }
+    ensures { out.new ≡ made_of (λ (x : Float). value_of waveform (x ⊗ inv_tau) dt ⊗ scale) out.old (length out.old) }
 {
     match waveform {
-        Waveform::Square => square(u, dt),
-        Waveform::Sawtooth => saw(u, dt),
-        Waveform::Triangle => triangle(u, dt),
-        Waveform::Pulse(duty) => pulse(u, dt, duty),
-        _ => value_at(waveform, u, dt),
+        Waveform::Square => map_each(out, |x| square(in_cycles(Radians(x)), dt) * scale),
+        Waveform::Sawtooth => map_each(out, |x| saw(in_cycles(Radians(x)), dt) * scale),
+        Waveform::Triangle => map_each(out, |x| triangle(in_cycles(Radians(x)), dt) * scale),
+        Waveform::Pulse(duty) => map_each(out, |x| pulse(in_cycles(Radians(x)), dt, duty) * scale),
+        _ => map_each(
+            out,
+            |x| value_at(waveform, in_cycles(Radians(x)), dt) * scale,
+        ),
     }
 }
 
@@ -176,16 +175,22 @@ fn rounded_value(u: f64, dt: f64, apart: bool) -> f64
 }
 
 // ---- the two edges are so far apart that no sample has two corrections: the correction of the nearer edge alone
-fn value_apart(waveform: Waveform, u: f64, dt: f64) -> f64
-    requires { T (within zero64 one u) × Apart waveform dt }
-    ensures { result ≡ value_of waveform u dt }
+// For the waveforms that `are_apart` tests; the others as `value_at` makes them.
+fn fill_values_apart(out: &mut [f64], waveform: Waveform, dt: f64, scale: f64)
+    requires { AllFractions out.old × Apart waveform dt }
+    ensures { out.new ≡ made_of (λ (x : Float). value_of waveform (x ⊗ inv_tau) dt ⊗ scale) out.old (length out.old) }
 {
     match waveform {
-        Waveform::Square => square_apart(u, dt),
-        Waveform::Sawtooth => saw(u, dt),
-        Waveform::Triangle => triangle_apart(u, dt),
-        Waveform::Pulse(duty) => pulse_apart(u, dt, duty),
-        _ => value_at(waveform, u, dt),
+        Waveform::Square => map_each(out, |x| square_apart(in_cycles(Radians(x)), dt) * scale),
+        Waveform::Triangle => map_each(out, |x| triangle_apart(in_cycles(Radians(x)), dt) * scale),
+        Waveform::Pulse(duty) => map_each(
+            out,
+            |x| pulse_apart(in_cycles(Radians(x)), dt, duty) * scale,
+        ),
+        _ => map_each(
+            out,
+            |x| value_at(waveform, in_cycles(Radians(x)), dt) * scale,
+        ),
     }
 }
 

@@ -36,11 +36,14 @@ impl<T: Bits> Halves<'_, T> {
 
     // Changes with every single bit of the elements, and with its place.
     pub fn mixed(&self, number: u64) -> u64 {
-        self.tried
-            .iter()
-            .chain(self.beside)
-            .fold(number, |mixing, x| mixed(mixing, x.bits()))
+        all_mixed(all_mixed(number, self.tried), self.beside)
     }
+}
+
+// One half after the other: over a chain of both, each element would be asked which half it is of.
+fn all_mixed<T: Bits>(number: u64, half: &[T]) -> u64 {
+    half.iter()
+        .fold(number, |mixing, x| mixed(mixing, x.bits()))
 }
 
 // Modulo the prime 2^31 - 1, where multiplying by 48,271 is one-to-one: what was mixed in before is not lost.

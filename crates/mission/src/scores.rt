@@ -32,6 +32,14 @@ impl Score {
         self.count = end;
     }
 
+    // Has the records of another score from now on. What lies behind them is not copied.
+    pub fn copy_from(&mut self, other: &Score) {
+        for i in 0..other.count {
+            self.records[i] = other.records[i];
+        }
+        self.count = other.count;
+    }
+
     pub fn clear(&mut self) {
         self.count = 0;
     }

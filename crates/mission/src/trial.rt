@@ -144,7 +144,7 @@ impl Trial {
             }
             b'B' => self.beside = true,
             b'O' => {
-                mem::swap(&mut self.old, &mut self.new);
+                self.old.copy_from(&self.new);
                 self.new.clear();
             }
             b'+' if first > 0 => self.new.add(first, last),

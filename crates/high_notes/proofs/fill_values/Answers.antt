@@ -7,9 +7,3 @@ use Rattle.high_notes.proofs.fill_values.Goals as goal
 pub returns-in-RoundedTriangle : goal.returns-in-RoundedTriangle
 unfolding value_of
 returns-in-RoundedTriangle c = rw c.in-RoundedTriangle.is (made-values _ _ _ _ c.map_each.ensures (λ i l y m. search rules))
-
-pub returns-then-are_apart : goal.returns-then-are_apart
-returns-then-are_apart c = made-values _ _ _ _ c.map_each-then-are_apart.ensures (λ i l y m. search rules)
-
-pub returns : goal.returns
-returns c = made-values _ _ _ _ c.map_each-2.ensures (λ i l y m. search rules)
