@@ -3,8 +3,8 @@
 -- T[1024-j], b = T[1023-j]; quadrants 2 and 3 are the negatives of 0 and 1, negated as whole numbers, so a zero reads
 -- as +0. The answer is (a + (b - a)*f)/2^30".
 --
--- u is in cycles, 0 to 1. Any other u, a NaN too, is refused with 9, and the value is +0. No sample is written, so the
--- count is 0. Each operation is rounded once.
+-- u is in cycles, 0 to 1. Any other u, a NaN too, is refused with 9, and there is no value. No sample is written, so
+-- the count is 0. Each operation is rounded once.
 --
 -- T is an argument, so that a loop can be lent a table that is made once. The rule is one for all tables; the sine is
 -- the reading of `quarter`. Definitions only.

@@ -41,7 +41,7 @@ abbrev pub skips_on : Keying → VoiceState → Bool
 skips_on Struck w = false
 skips_on Joined w = voice.is_note w.keys.active
 
--- what a call of the envelope gives; or, where the call is skipped, Done 0 and the block as it came
+-- what a call of the envelope gives; or, where the call is skipped, `Ok 0` and the block as it came
 abbrev pub called_if : Bool → EnvelopeBlock → Processed → Processed
 called_if called b after = cond called after (record { answer = Ok 0; block = b })
 

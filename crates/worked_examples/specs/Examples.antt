@@ -1,7 +1,7 @@
 -- 01's worked examples, "Marks on both sides": "To prove, as a set", (a) to (m), one field each, over the definitions
 -- that the contracts cite.
 --
--- A number that a call returns is beside its answer, `Done 0`. `fin s m e` is m * 2 ^ e, negative where s is true;
+-- A number that a call returns is in its answer, `Ok`. `fin s m e` is m * 2 ^ e, negative where s is true;
 -- `negsuc k` is -(k + 1). Definitions only.
 use Rattle.std.specs.Prelude.{◌≡◌, Bool, true, false, List, [], ◌∷◌, ◌++◌, ℕ, zero, suc, ◌+◌, pos, negsuc, length, get_or, replicate, Float, Ok, Result, Some}
 use Rattle.std.specs.Float.{nan, fin, binary32, binary64}
